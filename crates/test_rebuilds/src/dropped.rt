@@ -3,6 +3,7 @@ ghost use Rattle.std.specs.Prelude.{◌≡◌};
 ghost use Rattle.ist_rows.specs.Rows.{IsCaller};
 ghost use Rattle.ist_tree.specs.Insides.{IsPass};
 
+use crate::judging::same;
 use crate::tables::{Opened, open};
 use crate::updates::{enter_idle, update_all};
 use ist_core::{Full, Pair};
@@ -68,6 +69,6 @@ fn see_dropped(alloc: Global) -> Result<Option<Seen>, OpenFault> {
 fn a_pair_row_below_that_of_a_put_is_given_up(rt: HostRuntime) -> Result<(), Fail> {
     // the leaf lies at 4, the rows of the put at 13, 15 and 22
     let seen = see_dropped(rt.alloc())?;
-    assert_eq!(rt; seen, Some((Ok(6), Some(15), Ok(31))));
+    same(&rt, &seen, &Some((Ok(6), Some(15), Ok(31))), "the rows");
     Ok(())
 }

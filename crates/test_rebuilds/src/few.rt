@@ -1,11 +1,17 @@
 //! Rebuilds of a row that holds two leaves, one, or none.
+ghost use Rattle.std.specs.Prelude.{◌≡◌};
+ghost use Rattle.ist_rows.specs.Going.{IsReady};
+ghost use Rattle.ist_tree.specs.Insides.{IsPass};
 
 use crate::callers::{enter_call, help_on, mark};
+use crate::judging::same;
 use crate::shares::begin_top;
 use crate::tables::{Opened, open_numbered, word_at};
 use crate::updates::{enter_idle, update_all};
 use ist_layout::Ref;
 use ist_rebuild::Helped;
+use ist_rows::Caller;
+use ist_rule::{TreeTable, TreeToken};
 use ist_tree::OpenFault;
 use std::alloc::Global;
 use std::test::Fail;
@@ -19,8 +25,35 @@ struct Seen {
     below: Option<Ref>,
 }
 
-// Rebuilds the row over the pairs (1, 1) and (2, 2) of a new table after these removes, which another caller
-// makes first.
+// Rebuilds the row below the anchor after these removes, which another caller makes first.
+fn see_in(
+    table: &TreeTable,
+    maker: &mut TreeToken,
+    most: &mut Caller,
+    who: &mut Caller,
+    removes: &[(u64, Option<u64>)],
+) -> Option<Seen>
+    requires maker_table { maker.old.table ≡ table.now.table }
+    requires most_table { most.old.token.table ≡ table.now.table }
+    requires most_pass { IsPass most.old }
+    requires who_table { who.old.token.table ≡ table.now.table }
+    requires who_ready { IsReady who.old }
+{
+    if !update_all(table, most, removes) {
+        return None;
+    }
+    let rebuild = begin_top(table, who)?;
+    let keys = mark(table, who, rebuild).keys;
+    let replaced = help_on(table, who, rebuild) == Ok(Helped::Replaced);
+    let below = Ref::from_word(word_at(table, maker, 3));
+    Some(Seen {
+        keys,
+        replaced,
+        below,
+    })
+}
+
+// The same in a new table of the pairs (1, 1) and (2, 2).
 fn see(alloc: Global, removes: &[(u64, Option<u64>)]) -> Result<Option<Seen>, OpenFault> {
     let Opened {
         table,
@@ -29,19 +62,7 @@ fn see(alloc: Global, removes: &[(u64, Option<u64>)]) -> Result<Option<Seen>, Op
     } = open_numbered(alloc, 2, 1_000)?;
     let mut most = enter_idle(&table, &mut maker);
     let mut who = enter_call(&table, &mut maker);
-    if !update_all(&table, &mut most, removes) {
-        return Ok(None);
-    }
-    let Some(rebuild) = begin_top(&table, &mut who) else {
-        return Ok(None);
-    };
-    let marked = mark(&table, &mut who, rebuild);
-    let replaced = help_on(&table, &mut who, rebuild) == Ok(Helped::Replaced);
-    Ok(Some(Seen {
-        keys: marked.keys,
-        replaced,
-        below: Ref::from_word(word_at(&table, &mut maker, 3)),
-    }))
+    Ok(see_in(&table, &mut maker, &mut most, &mut who, removes))
 }
 
 #[test]
@@ -64,7 +85,7 @@ fn a_row_of_one_leaf_is_replaced_by_it_and_one_of_none_by_nothing(
             below: Some(below),
         };
         let seen = see(rt.alloc(), removes)?;
-        assert_eq!(rt; seen, Some(wanted), "{keys} keys");
+        same(&rt, &seen, &Some(wanted), keys);
     }
     Ok(())
 }

@@ -1,18 +1,21 @@
 //! Rebuilds of a row whose slots hold pair rows, another rebuild, and the change of a put that came too late.
 ghost use Rattle.std.specs.Prelude.{◌≡◌, Some};
+ghost use Rattle.ist_core.specs.declared.events.Who.TheVariants.{Maker};
 ghost use Rattle.test_rebuilds.specs.Late.{IsFilled};
 ghost use Rattle.ist_core.specs.Rebuilding.{IsStarted};
 ghost use Rattle.ist_dcss.specs.declared.decisions.Installed.TheVariants.{Yes};
 ghost use Rattle.ist_dcss.specs.Helping.{MayHelp};
 ghost use Rattle.ist_rows.specs.Going.{IsReady};
 ghost use Rattle.ist_rule.specs.Learning.{now};
+ghost use Rattle.ist_tree.specs.Insides.{IsPass};
 
 use crate::callers::{enter_call, help_on, mark, see_rebuild};
+use crate::judging::same;
 use crate::late::{LatePut, install_late, prepare};
 use crate::leaves::{are_few, are_pairs, part};
-use crate::shapes::{LAST, Shape, bring, map_of};
+use crate::shapes::{LAST, Shape, bring_in, map_of};
 use crate::shares::begin_top;
-use crate::tables::{all_words, are_alike, is_image, open, open_numbered, word_at};
+use crate::tables::{Opened, all_words, are_alike, is_image, open, open_numbered, word_at};
 use crate::updates::enter_idle;
 use ist_core::Pair;
 use ist_dcss::{Decision, Installed, help};
@@ -148,44 +151,80 @@ fn may_install(table: &TreeTable, who: &mut Caller, put: LatePut, late: bool) ->
     }
 }
 
-// Rebuilds a new tree that is brought into this shape.
-fn see(alloc: Global, shape: Shape) -> Result<Option<Seen>, OpenFault> {
-    let opened = open_numbered(alloc, LAST, 20_000)?;
-    let (table, mut maker) = (opened.table, opened.maker);
-    let mut most = enter_idle(&table, &mut maker);
-    let mut one = enter_idle(&table, &mut maker);
-    let mut two = enter_idle(&table, &mut maker);
-    let mut three = enter_idle(&table, &mut maker);
-    let mut last = enter_idle(&table, &mut maker);
-    let mut helper = enter_call(&table, &mut maker);
-    let mut builder = enter_call(&table, &mut maker);
-    if !bring(
-        &table, alloc, &mut most, &mut one, &mut two, &mut three, shape,
-    )? {
+// Rebuilds the tree, which is in this shape, and installs the late put once its row is marked.
+fn see_late(
+    table: &TreeTable,
+    alloc: Global,
+    maker: &mut TreeToken,
+    last: &mut Caller,
+    helper: &mut Caller,
+    builder: &mut Caller,
+    shape: Shape,
+) -> Result<Option<Seen>, OpenFault>
+    requires maker_table { maker.old.table ≡ table.now.table }
+    requires last_table { last.old.token.table ≡ table.now.table }
+    requires last_pass { IsPass last.old }
+    requires helper_table { helper.old.token.table ≡ table.now.table }
+    requires helper_ready { IsReady helper.old }
+    requires builder_table { builder.old.token.table ≡ table.now.table }
+    requires builder_ready { IsReady builder.old }
+{
+    let Some(put) = prepare(table, last, 31, 9) else {
+        return Ok(None);
+    };
+    let Some(rebuild) = begin_top(table, helper) else {
+        return Ok(None);
+    };
+    mark(table, helper, rebuild);
+    let installed = may_install(table, last, put, shape.late);
+    let tags = tags(table, maker);
+    let map = map_of(alloc, shape)?;
+    let rebuilt = rebuild_over(table, alloc, maker, helper, builder, rebuild, &map)?;
+    let late = end_late(table, last, put, installed);
+    Ok(Some(Seen {
+        tags,
+        rebuilt,
+        late,
+    }))
+}
+
+// The same by callers that enter once the tree is brought into the shape.
+fn see_in(
+    table: &TreeTable,
+    alloc: Global,
+    maker: &mut TreeToken,
+    shape: Shape,
+) -> Result<Option<Seen>, OpenFault>
+    requires same_table { maker.old.table ≡ table.now.table }
+    requires maker { maker.old.view.who ≡ Maker }
+    requires given { maker.old.view.given ≡ maker.old.view.made }
+    requires made { maker.old.view.made ≡ 0 }
+{
+    if !bring_in(table, alloc, maker, shape)? {
         return Ok(None);
     }
-    let Some(put) = prepare(&table, &mut last, 31, 9) else {
-        return Ok(None);
-    };
-    let Some(rebuild) = begin_top(&table, &mut helper) else {
-        return Ok(None);
-    };
-    mark(&table, &mut helper, rebuild);
-    let installed = may_install(&table, &mut last, put, shape.late);
-    let map = map_of(alloc, shape)?;
-    Ok(Some(Seen {
-        tags: tags(&table, &mut maker),
-        rebuilt: rebuild_over(
-            &table,
-            alloc,
-            &mut maker,
-            &mut helper,
-            &mut builder,
-            rebuild,
-            &map,
-        )?,
-        late: end_late(&table, &mut last, put, installed),
-    }))
+    let mut last = enter_idle(table, maker);
+    let mut helper = enter_call(table, maker);
+    let mut builder = enter_call(table, maker);
+    see_late(
+        table,
+        alloc,
+        maker,
+        &mut last,
+        &mut helper,
+        &mut builder,
+        shape,
+    )
+}
+
+// The same in a new tree.
+fn see(alloc: Global, shape: Shape) -> Result<Option<Seen>, OpenFault> {
+    let Opened {
+        table,
+        mut maker,
+        ..
+    } = open_numbered(alloc, LAST, 20_000)?;
+    see_in(&table, alloc, &mut maker, shape)
 }
 
 #[test]
@@ -218,7 +257,7 @@ fn a_rebuild_has_the_leaves_of_the_map_whatever_stands_in_the_slots(
             },
             late: if late { Some(Decision::No) } else { None },
         };
-        assert_eq!(rt; see(rt.alloc(), shape)?, Some(wanted), "{shape:?}");
+        same(&rt, &see(rt.alloc(), shape)?, &Some(wanted), shape);
     }
     Ok(())
 }

@@ -6,6 +6,7 @@ ghost use Rattle.ist_rows.specs.Going.{IsReady};
 ghost use Rattle.ist_rule.specs.Learning.{now};
 
 use crate::callers::{Marked, begin, enter_call, mark, see_row};
+use crate::judging::same;
 use crate::tables::{Opened, all_words, are_alike, numbered, open_numbered, word_at};
 use ist_build::{build_part, leaf_at};
 use ist_core::{Full, Pair};
@@ -150,7 +151,7 @@ fn leaves_are_numbered_by_their_keys_and_the_part_over_them_is_ideal(
     rt: HostRuntime,
 ) -> Result<(), Fail> {
     for last in [2, 3, 16, 17, 100, 200] {
-        assert_eq!(rt; agree(rt.alloc(), last)?, (true, true), "{last} pairs");
+        same(&rt, &agree(rt.alloc(), last)?, &(true, true), last);
     }
     Ok(())
 }

@@ -16,6 +16,8 @@ mod few;
 #[cfg(test)]
 mod frozen;
 #[cfg(test)]
+mod judging;
+#[cfg(test)]
 mod late;
 #[cfg(test)]
 mod leaves;

@@ -5,6 +5,7 @@ ghost use Rattle.ist_rows.specs.Going.{IsReady};
 ghost use Rattle.ist_rule.specs.Learning.{now};
 
 use crate::callers::{Marked, enter_call, mark};
+use crate::judging::same;
 use crate::shares::begin_top;
 use crate::tables::{Opened, open_numbered};
 use ist_build::leaf_and_loads;
@@ -53,7 +54,17 @@ fn first_other(
 }
 
 // Returns how many keys the finished target has, and the first of these leaves for which a
-// different number of words is loaded, in a rebuild of a new table of 100,000 pairs.
+// different number of words is loaded, in a rebuild of all pairs.
+fn see_in(table: &TreeTable, who: &mut Caller, cases: &[(u64, u64)]) -> Option<(u64, Option<u64>)>
+    requires same_table { who.old.token.table ≡ table.now.table }
+    requires ready { IsReady who.old }
+{
+    let rebuild = begin_top(table, who)?;
+    let marked = mark(table, who, rebuild);
+    Some((marked.keys, first_other(table, who, rebuild, marked, cases)))
+}
+
+// The same in a new table of 100,000 pairs.
 fn see(alloc: Global, cases: &[(u64, u64)]) -> Result<Option<(u64, Option<u64>)>, OpenFault> {
     let Opened {
         table,
@@ -61,12 +72,7 @@ fn see(alloc: Global, cases: &[(u64, u64)]) -> Result<Option<(u64, Option<u64>)>
         ..
     } = open_numbered(alloc, 100_000, 2_000_000)?;
     let mut who = enter_call(&table, &mut maker);
-    let Some(rebuild) = begin_top(&table, &mut who) else {
-        return Ok(None);
-    };
-    let marked = mark(&table, &mut who, rebuild);
-    let other = first_other(&table, &mut who, rebuild, marked, cases);
-    Ok(Some((marked.keys, other)))
+    Ok(see_in(&table, &mut who, cases))
 }
 
 #[test]
@@ -81,6 +87,11 @@ fn a_frozen_leaf_is_reached_by_one_child_a_row(rt: HostRuntime) -> Result<(), Fa
         (50_000, 357),
         (99_999, 685),
     ];
-    assert_eq!(rt; see(rt.alloc(), &cases)?, Some((100_000, None)));
+    same(
+        &rt,
+        &see(rt.alloc(), &cases)?,
+        &Some((100_000, None)),
+        "100,000 pairs",
+    );
     Ok(())
 }

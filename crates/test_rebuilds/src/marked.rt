@@ -5,6 +5,7 @@ ghost use Rattle.ist_tree.specs.Insides.{IsPass};
 ghost use Rattle.ist_rows.specs.Going.{IsReady};
 
 use crate::callers::{begin, enter_call, help_on, mark, see_rebuild, see_row};
+use crate::judging::same;
 use crate::late::{LatePut, install_late, prepare};
 use crate::tables::{Opened, open, word_at};
 use crate::updates::{enter_idle, start_due, update_all, update_due};
@@ -185,7 +186,7 @@ fn a_put_that_is_installed_after_a_marking_is_decided_no(rt: HostRuntime) -> Res
     };
     // the key of the late put, the place of its slot
     for (key, place) in [(10, 9), (20, 10)] {
-        assert_eq!(rt; see(rt.alloc(), key, place)?, Some(wanted), "key {key}");
+        same(&rt, &see(rt.alloc(), key, place)?, &Some(wanted), key);
     }
     Ok(())
 }

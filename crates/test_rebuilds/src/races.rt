@@ -10,13 +10,14 @@ ghost use Rattle.ist_rows.specs.Going.{IsReady};
 ghost use Rattle.ist_rule.specs.Learning.{now, ExchangedOrLost};
 
 use crate::callers::{Marked, enter_call, help_on, mark, see_rebuild, set};
+use crate::judging::same;
 use crate::shares::begin_top;
 use crate::tables::{Opened, all_words, are_alike, open_numbered};
 use ist_build::build_part;
 use ist_layout::{REBUILD_ROOT_OFFSET, Ref};
 use ist_rebuild::Helped;
 use ist_rows::Caller;
-use ist_rule::{TreeTable, exchange_or_lose, know, load};
+use ist_rule::{TreeTable, TreeToken, exchange_or_lose, know, load};
 use ist_tree::OpenFault;
 use std::alloc::Global;
 use std::test::Fail;
@@ -132,7 +133,47 @@ struct Seen {
     names_lost: bool,
 }
 
-// The same in a new table of two pairs.
+// The same in a table of two pairs, whose words were the image.
+fn see_in(
+    table: &TreeTable,
+    alloc: Global,
+    maker: &mut TreeToken,
+    starter: &mut Caller,
+    first: &mut Caller,
+    second: &mut Caller,
+    image: &[u64],
+) -> Result<Option<Seen>, OpenFault>
+    requires maker_table { maker.old.table ≡ table.now.table }
+    requires starter_table { starter.old.token.table ≡ table.now.table }
+    requires first_table { first.old.token.table ≡ table.now.table }
+    requires second_table { second.old.token.table ≡ table.now.table }
+    requires starter_ready { IsReady starter.old }
+    requires first_ready { IsReady first.old }
+    requires second_ready { IsReady second.old }
+{
+    let Some(rebuild) = begin_top(table, starter) else {
+        return Ok(None);
+    };
+    let (Some(one), Some(two)) = (see_rebuild(table, first), see_rebuild(table, second)) else {
+        return Ok(None);
+    };
+    let raced = race(table, first, second, one, two);
+    let ended = end(table, starter, rebuild);
+    let words = all_words(alloc, table, maker)?;
+    let root = words.get(3).copied();
+    let lost = raced.map_or(0, |raced| raced.built.1);
+    Ok(Some(Seen {
+        rebuilds: (rebuild, one, two),
+        raced,
+        ended,
+        used: words.first().copied(),
+        root,
+        is_ideal: are_alike(alloc, image, &words, (34, root.unwrap_or(0)))?,
+        names_lost: words.iter().any(|word| *word == lost),
+    }))
+}
+
+// The same in a new table.
 fn see(alloc: Global) -> Result<Option<Seen>, OpenFault> {
     let Opened {
         table,
@@ -142,29 +183,15 @@ fn see(alloc: Global) -> Result<Option<Seen>, OpenFault> {
     let mut starter = enter_call(&table, &mut maker);
     let mut first = enter_call(&table, &mut maker);
     let mut second = enter_call(&table, &mut maker);
-    let Some(rebuild) = begin_top(&table, &mut starter) else {
-        return Ok(None);
-    };
-    let (Some(one), Some(two)) = (
-        see_rebuild(&table, &mut first),
-        see_rebuild(&table, &mut second),
-    ) else {
-        return Ok(None);
-    };
-    let raced = race(&table, &mut first, &mut second, one, two);
-    let ended = end(&table, &mut starter, rebuild);
-    let words = all_words(alloc, &table, &mut maker)?;
-    let root = words.get(3).copied();
-    let lost = raced.map_or(0, |raced| raced.built.1);
-    Ok(Some(Seen {
-        rebuilds: (rebuild, one, two),
-        raced,
-        ended,
-        used: words.first().copied(),
-        root,
-        is_ideal: are_alike(alloc, &image, &words, (34, root.unwrap_or(0)))?,
-        names_lost: words.iter().any(|word| *word == lost),
-    }))
+    see_in(
+        &table,
+        alloc,
+        &mut maker,
+        &mut starter,
+        &mut first,
+        &mut second,
+        &image,
+    )
 }
 
 #[test]
@@ -186,6 +213,6 @@ fn of_two_that_build_a_root_at_once_the_second_loses_its_row(rt: HostRuntime) ->
         is_ideal: true,
         names_lost: false,
     };
-    assert_eq!(rt; see(rt.alloc())?, Some(wanted));
+    same(&rt, &see(rt.alloc())?, &Some(wanted), "two pairs");
     Ok(())
 }

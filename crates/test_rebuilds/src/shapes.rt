@@ -1,14 +1,15 @@
 //! Trees whose top row has pair rows, another rebuild and plain leaves in its slots, and the map of what they hold.
 ghost use Rattle.std.specs.Prelude.{◌≡◌, true, Ok};
+ghost use Rattle.ist_core.specs.declared.events.Who.TheVariants.{Maker};
 ghost use Rattle.ist_tree.specs.Insides.{IsPass};
 
 use crate::callers::help_on;
 use crate::tables::numbered;
-use crate::updates::{start_due, update_all, update_due};
+use crate::updates::{enter_idle, start_due, update_all, update_due};
 use ist_core::{Command, Pair};
 use ist_rebuild::{Helped, Started};
 use ist_rows::Caller;
-use ist_rule::TreeTable;
+use ist_rule::{TreeTable, TreeToken};
 use ist_tree::OpenFault;
 use plain_map::Plain;
 use std::alloc::{AllocError, Global};
@@ -141,8 +142,8 @@ pub(crate) fn map_of(alloc: Global, shape: Shape) -> Result<Plain, AllocError> {
     Ok(map)
 }
 
-/// Brings a tree of all pairs into this shape, but for the change.
-pub(crate) fn bring(
+// Brings a tree of all pairs into this shape, but for the change.
+fn bring(
     table: &TreeTable,
     alloc: Global,
     most: &mut Caller,
@@ -168,4 +169,35 @@ pub(crate) fn bring(
     }
     let updates = chained(alloc, shape.chain)?;
     Ok(update_all(table, most, updates.as_slice()))
+}
+
+/// The same by the first four callers of the tree.
+pub(crate) fn bring_in(
+    table: &TreeTable,
+    alloc: Global,
+    maker: &mut TreeToken,
+    shape: Shape,
+) -> Result<bool, OpenFault>
+    requires same_table { maker.old.table ≡ table.now.table }
+    requires maker { maker.old.view.who ≡ Maker }
+    requires given { maker.old.view.given ≡ maker.old.view.made }
+    requires made { maker.old.view.made ≡ 0 }
+    ensures same_table { maker.new.table ≡ table.now.table }
+    ensures maker { maker.new.view.who ≡ Maker }
+    ensures given { maker.new.view.given ≡ maker.new.view.made }
+    ensures made { maker.new.view.made ≡ 4 }
+{
+    let mut most = enter_idle(table, maker);
+    let mut first = enter_idle(table, maker);
+    let mut second = enter_idle(table, maker);
+    let mut third = enter_idle(table, maker);
+    bring(
+        table,
+        alloc,
+        &mut most,
+        &mut first,
+        &mut second,
+        &mut third,
+        shape,
+    )
 }

@@ -6,6 +6,7 @@ ghost use Rattle.ist_rows.specs.Going.{IsReady};
 ghost use Rattle.ist_rule.specs.Learning.{now};
 
 use crate::callers::{begin, enter_call, fill_all, help_on, mark, see_rebuild, see_row, set};
+use crate::judging::same;
 use crate::tables::{Opened, is_image, open_numbered, word_at};
 use ist_layout::Ref;
 use ist_rebuild::{Helped, Started};
@@ -148,7 +149,7 @@ fn a_shared_root_that_one_sets_is_filled_by_another(rt: HostRuntime) -> Result<(
             replaced: true,
             ideal: true,
         };
-        assert_eq!(rt; share(rt.alloc(), last)?, Some(wanted), "{last} pairs");
+        same(&rt, &share(rt.alloc(), last)?, &Some(wanted), last);
     }
     Ok(())
 }
@@ -232,6 +233,6 @@ fn two_threads_that_help_one_rebuild_leave_its_leaves_ideal(rt: HostRuntime) -> 
         replaced: (true, true),
         ideal: true,
     };
-    assert_eq!(rt; see_beside(&rt, rt.alloc())?, wanted);
+    same(&rt, &see_beside(&rt, rt.alloc())?, &wanted, "300 pairs");
     Ok(())
 }

@@ -1,10 +1,17 @@
 //! Starts and rebuilds that are refused, at each number of words.
+ghost use Rattle.std.specs.Prelude.{◌≡◌};
+ghost use Rattle.ist_rows.specs.Going.{IsReady};
+
 use crate::callers::{begin, enter_call, help_on, see_row};
+use crate::judging::same;
 use crate::tables::{Opened, open_numbered, word_at};
 use ist_core::Full;
 use ist_rebuild::{Helped, Started};
+use ist_rows::Caller;
+use ist_rule::{TreeTable, TreeToken};
 use ist_tree::OpenFault;
 use std::alloc::Global;
+use std::process::Abort;
 use std::test::Fail;
 
 // The results of starting a rebuild of all pairs, and of helping it.
@@ -18,8 +25,27 @@ struct Came {
     root: u64,
 }
 
-// Rebuilds the whole table of this many pairs in this many words.
-fn rebuild_in(alloc: Global, last: u64, words: u64) -> Result<Came, OpenFault> {
+// Rebuilds the whole table. Returns why that was refused, if it was, and the word of the rebuild's root.
+fn rebuild_in(table: &TreeTable, maker: &mut TreeToken, who: &mut Caller) -> (Option<Full>, u64)
+    requires maker_table { maker.old.table ≡ table.now.table }
+    requires same_table { who.old.token.table ≡ table.now.table }
+    requires ready { IsReady who.old }
+{
+    let Some(target) = see_row(table, who) else {
+        return (None, 0);
+    };
+    match begin(table, who, target) {
+        Ok(Started::Yes { rebuild }) => {
+            let refused = help_on(table, who, rebuild).err();
+            (refused, word_at(table, maker, u64::from(rebuild) + 3))
+        }
+        Ok(_) => (None, 0),
+        Err(full) => (Some(full), 0),
+    }
+}
+
+// The same in a new table of this many pairs in this many words.
+fn see(alloc: Global, last: u64, words: u64) -> Result<Came, OpenFault> {
     if last > 1000 || words > 1000 {
         return Err(OpenFault::Memory);
     }
@@ -29,18 +55,7 @@ fn rebuild_in(alloc: Global, last: u64, words: u64) -> Result<Came, OpenFault> {
         ..
     } = open_numbered(alloc, last, words)?;
     let mut who = enter_call(&table, &mut maker);
-    let mut refused = None;
-    let mut root = 0;
-    if let Some(target) = see_row(&table, &mut who) {
-        match begin(&table, &mut who, target) {
-            Ok(Started::Yes { rebuild }) => {
-                refused = help_on(&table, &mut who, rebuild).err();
-                root = word_at(&table, &mut maker, u64::from(rebuild) + 3);
-            }
-            Ok(_) => {}
-            Err(full) => refused = Some(full),
-        }
-    }
+    let (refused, root) = rebuild_in(&table, &mut maker, &mut who);
     Ok(Came {
         refused,
         held: who.rebuild,
@@ -77,25 +92,33 @@ const OF_SIXTEEN: [(u64, u64, Option<u32>); 16] = [
     (240, 9, None),
 ];
 
+// Fails unless a rebuild of this many pairs is refused this row, where too few words are left for it: none, or all but one.
+fn is_refused(
+    rt: &impl Abort,
+    alloc: Global,
+    last: u64,
+    row: &(u64, u64, Option<u32>),
+) -> Result<(), OpenFault> {
+    let (next, asked, held) = *row;
+    for words in [next, next.saturating_add(asked).saturating_sub(1)] {
+        let came = see(alloc, last, words)?;
+        let full = Full { next, asked, words };
+        same(rt, &came.refused, &Some(full), (last, words));
+        same(rt, &came.held, &held, (last, words));
+    }
+    Ok(())
+}
+
 #[test]
 fn a_rebuild_is_refused_by_the_first_row_that_finds_no_room(rt: HostRuntime) -> Result<(), Fail> {
     // the pairs, the rows, the words that suffice
     let cases = [(2, OF_TWO.as_slice(), 45), (16, OF_SIXTEEN.as_slice(), 249)];
     for (last, rows, enough) in cases {
-        for (next, asked, held) in rows {
-            for words in [*next, next.saturating_add(*asked).saturating_sub(1)] {
-                let came = rebuild_in(rt.alloc(), last, words)?;
-                let full = Full {
-                    next: *next,
-                    asked: *asked,
-                    words,
-                };
-                assert_eq!(rt; came.refused, Some(full), "{last} pairs, {words} words");
-                assert_eq!(rt; came.held, *held, "{last} pairs, {words} words");
-            }
+        for row in rows {
+            is_refused(&rt, rt.alloc(), last, row)?;
         }
-        let came = rebuild_in(rt.alloc(), last, enough)?;
-        assert_eq!(rt; came.refused, None, "{last} pairs, {enough} words");
+        let came = see(rt.alloc(), last, enough)?;
+        same(&rt, &came.refused, &None, (last, enough));
     }
     Ok(())
 }
@@ -107,8 +130,8 @@ fn a_refused_build_leaves_no_root_and_a_refused_finish_leaves_it(
     // the words of a table of two pairs, the root word after a rebuild there
     let cases = [(28, 0), (29, 7), (35, 7), (36, 234), (44, 234), (45, 234)];
     for (words, root) in cases {
-        let came = rebuild_in(rt.alloc(), 2, words)?;
-        assert_eq!(rt; came.root, root, "{words} words");
+        let came = see(rt.alloc(), 2, words)?;
+        same(&rt, &came.root, &root, words);
     }
     Ok(())
 }

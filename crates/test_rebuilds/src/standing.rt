@@ -6,6 +6,7 @@ ghost use Rattle.ist_rule.specs.Learning.{now};
 ghost use Rattle.ist_tree.specs.Insides.{IsPass};
 
 use crate::callers::{enter_call, help_on, mark};
+use crate::judging::same;
 use crate::shares::begin_top;
 use crate::tables::{Opened, is_image, numbered, open, open_numbered};
 use crate::updates::{enter_idle, start_due, update_all, update_due};
@@ -32,6 +33,30 @@ struct Still {
     found: (Option<u64>, Option<u64>),
 }
 
+fn still_in(
+    table: &TreeTable,
+    maker: &mut TreeToken,
+    first: &mut Caller,
+    second: &mut Caller,
+) -> Still
+    requires maker_table { maker.old.table ≡ table.now.table }
+    requires first_table { first.old.token.table ≡ table.now.table }
+    requires first_ready { IsReady first.old }
+    requires second_table { second.old.token.table ≡ table.now.table }
+    requires second_pass { IsPass second.old }
+{
+    let rebuild = begin_top(table, first);
+    let updated = update_all(table, second, &[(10, Some(7)), (20, None)]);
+    let ten = find_from_anchor(table, maker, 10).value;
+    let twenty = find_from_anchor(table, maker, 20).value;
+    Still {
+        rebuild,
+        updated,
+        found: (ten, twenty),
+    }
+}
+
+// The same in a new table.
 fn see_still(alloc: Global) -> Result<Still, OpenFault> {
     let Opened {
         table,
@@ -40,15 +65,7 @@ fn see_still(alloc: Global) -> Result<Still, OpenFault> {
     } = open(alloc, &[TEN, TWENTY], 1000)?;
     let mut second = enter_idle(&table, &mut maker);
     let mut first = enter_call(&table, &mut maker);
-    let rebuild = begin_top(&table, &mut first);
-    let updated = update_all(&table, &mut second, &[(10, Some(7)), (20, None)]);
-    let ten = find_from_anchor(&table, &mut maker, 10).value;
-    let twenty = find_from_anchor(&table, &mut maker, 20).value;
-    Ok(Still {
-        rebuild,
-        updated,
-        found: (ten, twenty),
-    })
+    Ok(still_in(&table, &mut maker, &mut first, &mut second))
 }
 
 #[test]
@@ -60,7 +77,7 @@ fn a_put_is_answered_while_the_rebuild_in_its_way_stands_still(
         updated: true,
         found: (Some(7), None),
     };
-    assert_eq!(rt; see_still(rt.alloc())?, wanted);
+    same(&rt, &see_still(rt.alloc())?, &wanted, "two pairs");
     Ok(())
 }
 
@@ -195,7 +212,7 @@ fn a_lower_rebuild_is_done_unless_the_row_above_was_marked_before(
             ideal: true,
         };
         let came = see_both(rt.alloc(), early)?;
-        assert_eq!(rt; came, Some(both), "early {early}");
+        same(&rt, &came, &Some(both), early);
     }
     Ok(())
 }

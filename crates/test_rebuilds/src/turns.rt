@@ -1,12 +1,17 @@
 //! Two callers that start one rebuild, of which the other ends it.
+ghost use Rattle.std.specs.Prelude.{◌≡◌};
+ghost use Rattle.ist_rows.specs.Going.{IsReady};
 
 use crate::callers::{begin, enter_call, help_on, mark, see_rebuild, see_row};
+use crate::judging::same;
 use crate::tables::{Opened, all_words, are_alike, open, word_at};
 use ist_core::{Full, Pair};
 use ist_layout::Ref;
 use ist_rebuild::{Helped, Started};
+use ist_rows::Caller;
+use ist_rule::{TreeTable, TreeToken};
 use ist_tree::OpenFault;
-use std::alloc::Global;
+use std::alloc::{AllocError, Global};
 use std::test::Fail;
 
 const FIVE: Pair = Pair { key: 5, value: 7 };
@@ -29,7 +34,64 @@ struct Seen {
     late: (Option<Result<Helped, Full>>, Option<u32>, u64),
 }
 
-// The same in a new table of both pairs.
+// How many words of the table are used, the word of the anchor's slot, and whether the tree of the image is below it.
+fn root_in(
+    table: &TreeTable,
+    alloc: Global,
+    maker: &mut TreeToken,
+    image: &[u64],
+) -> Result<(Option<u64>, Option<u64>, bool), AllocError>
+    requires same_table { maker.old.table ≡ table.now.table }
+    ensures same_table { maker.new.table ≡ table.now.table }
+{
+    let words = all_words(alloc, table, maker)?;
+    let (used, root) = (words.first().copied(), words.get(3).copied());
+    let is_ideal = are_alike(alloc, image, &words, (34, root.unwrap_or(0)))?;
+    Ok((used, root, is_ideal))
+}
+
+// The same in a table of both pairs, whose words were the image.
+fn see_in(
+    table: &TreeTable,
+    alloc: Global,
+    maker: &mut TreeToken,
+    starter: &mut Caller,
+    helper: &mut Caller,
+    image: &[u64],
+) -> Result<Option<Seen>, OpenFault>
+    requires maker_table { maker.old.table ≡ table.now.table }
+    requires starter_table { starter.old.token.table ≡ table.now.table }
+    requires starter_ready { IsReady starter.old }
+    requires helper_table { helper.old.token.table ≡ table.now.table }
+    requires helper_ready { IsReady helper.old }
+{
+    let (Some(one), Some(two)) = (see_row(table, starter), see_row(table, helper)) else {
+        return Ok(None);
+    };
+    let starts = (begin(table, starter, one), begin(table, helper, two));
+    let held = (helper.rebuild, helper.change);
+    let Some(seen) = see_rebuild(table, helper) else {
+        return Ok(None);
+    };
+    let marked = mark(table, helper, seen);
+    let status = word_at(table, maker, 4);
+    let helped = help_on(table, helper, seen);
+    let words = root_in(table, alloc, maker, image)?;
+    let ended = match starts.0 {
+        Ok(Started::Yes { rebuild }) => Some(help_on(table, starter, rebuild)),
+        _ => None,
+    };
+    Ok(Some(Seen {
+        starts,
+        held,
+        marked: (seen, marked.target, marked.keys, status),
+        helped,
+        words,
+        late: (ended, starter.change, word_at(table, maker, 0)),
+    }))
+}
+
+// The same in a new table.
 fn see(alloc: Global) -> Result<Option<Seen>, OpenFault> {
     let Opened {
         table,
@@ -38,36 +100,7 @@ fn see(alloc: Global) -> Result<Option<Seen>, OpenFault> {
     } = open(alloc, &[FIVE, NINE], 59)?;
     let mut starter = enter_call(&table, &mut maker);
     let mut helper = enter_call(&table, &mut maker);
-    let (Some(one), Some(two)) = (see_row(&table, &mut starter), see_row(&table, &mut helper))
-    else {
-        return Ok(None);
-    };
-    let starts = (
-        begin(&table, &mut starter, one),
-        begin(&table, &mut helper, two),
-    );
-    let held = (helper.rebuild, helper.change);
-    let Some(seen) = see_rebuild(&table, &mut helper) else {
-        return Ok(None);
-    };
-    let marked = mark(&table, &mut helper, seen);
-    let status = word_at(&table, &mut maker, 4);
-    let helped = help_on(&table, &mut helper, seen);
-    let words = all_words(alloc, &table, &mut maker)?;
-    let (used, root) = (words.first().copied(), words.get(3).copied());
-    let is_ideal = are_alike(alloc, &image, &words, (34, root.unwrap_or(0)))?;
-    let ended = match starts.0 {
-        Ok(Started::Yes { rebuild }) => Some(help_on(&table, &mut starter, rebuild)),
-        _ => None,
-    };
-    Ok(Some(Seen {
-        starts,
-        held,
-        marked: (seen, marked.target, marked.keys, status),
-        helped,
-        words: (used, root, is_ideal),
-        late: (ended, starter.change, word_at(&table, &mut maker, 0)),
-    }))
+    see_in(&table, alloc, &mut maker, &mut starter, &mut helper, &image)
 }
 
 #[test]
@@ -86,6 +119,6 @@ fn a_rebuild_is_ended_by_another_than_who_started_it(rt: HostRuntime) -> Result<
         // The caller that comes too late has reserved a change row, which it still holds.
         late: (Some(Ok(Helped::Replaced)), Some(50), 59),
     };
-    assert_eq!(rt; see(rt.alloc())?, Some(wanted));
+    same(&rt, &see(rt.alloc())?, &Some(wanted), "two pairs");
     Ok(())
 }
