@@ -1,6 +1,8 @@
 //! One tree after another.
 ghost use Rattle.std.specs.Prelude.{◌≡◌, ◌≤◌, length, IfOk, IfErr, OnOk};
+ghost use Rattle.ist_core.specs.Images.{IsImage};
 ghost use Rattle.ist_core.specs.RowLayout.{place_limit};
+ghost use Rattle.ist_core.specs.StartLayout.{start};
 ghost use Rattle.ist_tree.specs.Closing.{ClosesWith};
 ghost use Rattle.ist_reopen.specs.Reopening.{OpensAfter, BeginsAfter, IsReopenFaultOf};
 
@@ -25,6 +27,7 @@ pub fn open_after(
     words: u32,
 ) -> Result<(Tree, Maker), ReopenFault>
     ensures new { IfOk result (λ t. OpensAfter closed.now words t.0 t.1) }
+    ensures image { IfOk result (λ t. IsImage (start t.0.start words) image.new) }
     ensures within { OnOk result (words ≤ place_limit) }
     ensures fault { IfErr result (λ f. IsReopenFaultOf closed.now words f) }
 {
@@ -52,6 +55,7 @@ pub fn reopen(
     requires same_tree { maker.tree ≡ tree }
     requires all_back { length maker.taken ≡ maker.made }
     ensures follows { IfOk result (λ t. BeginsAfter maker words t.0 t.1) }
+    ensures image { IfOk result (λ t. IsImage (start t.0.start words) image.new) }
     ensures kept { IfErr result (λ n. ClosesWith maker n.closed) }
     ensures size { IfErr result (λ n. length n.closed ≡ maker.tree.words) }
     ensures fault { IfErr result (λ n. IsReopenFaultOf n.closed words n.fault) }

@@ -8,19 +8,22 @@ use Rattle.ist_core.specs.StartLayout.{start}
 use Rattle.ist_core.specs.Elements.{Each}
 use Rattle.ist_core.specs.Images.{IsImage}
 use Rattle.ist_core.specs.Lawful.{CanOpen, Lawful, state_of}
+use Rattle.ist_core.specs.Logs.{Log}
 use Rattle.ist_rule.specs.declared.view.View.{View}
 use Rattle.ist_rule.specs.declared.view.About.{About}
+use Rattle.ist_core.specs.declared.events.Event.{Event}
 use Rattle.ist_core.specs.declared.events.Who.{Who}
-use Rattle.ist_core.specs.declared.events.Who.TheVariants.{Maker, Spent}
-use Rattle.ist_core.specs.Authors.{no_more}
+use Rattle.ist_core.specs.declared.events.Who.TheVariants.{Caller, Maker, Spent}
+use Rattle.ist_core.specs.Authors.{no_more, one_more, whose, Later, IsIdleIn}
 use Rattle.ist_core.specs.Changes.{changes_of, map_after_entries}
 use Rattle.ist_core.specs.Map.{map_of}
 use Rattle.laws_real_time.specs.Joining.{LinearizesTo}
 use Rattle.ist_rule.specs.Speaking.{no_later}
+use Rattle.ist_rule.proofs.EventLemmas.{Authored, authored, by_maker, by_caller}
 use Rattle.ist_rule.proofs.HeldLemmas.{idle_between}
 use Rattle.ist_rule.proofs.SpeakLemmas.{none_linear, working_linear}
 use Rattle.ist_rule.specs.Rule.{IsHeard, KeepsCalls, its_own, noted, IsWellMade, IsTrueIn, IsRetired, Fits, Kept, opened_view, first_view}
-use Rattle.ist_rule.specs.Seating.{IsLast}
+use Rattle.ist_rule.specs.Seating.{HasImage, IsLast, IsNewMaker}
 use Rattle.ist_rule.proofs.ViewPartLemmas.{well_made_plain}
 use Rattle.ist_rule.proofs.WhoLemmas.{maker_caller}
 use Rattle.ist_rule.proofs.SoundViewLemmas.{as_view}
@@ -93,6 +96,33 @@ opens k words can image =
             record { later = no_later; silent = λ _ n above. tt; taken = tt };
       };
     }
+
+-- an event is made by the maker or by a caller
+none_makes : (event : Event) → whose event ≢ Maker → ((number : ℕ) → whose event ≢ Caller number)
+    → ⊥
+none_makes event ne idle = at (authored event)
+  where
+    at : Authored event → ⊥
+    at (by_maker caller is who) = ne who
+    at (by_caller caller who same) = idle caller who
+
+-- a log without an event of the maker or of a caller is empty
+no_event : {log : Log} → Later Maker [] log → ((number : ℕ) → IsIdleIn (Caller number) log)
+    → log ≡ []
+no_event no_more idle = refl
+no_event (one_more event p ne) idle = absurd (none_makes event ne (λ number. (idle number).0))
+
+-- while the maker has entered no caller, the words are the image of the start
+pub first_image : (v : View) → IsNewMaker v → HasImage v (start v.start v.words)
+first_image v first k s i kept at =
+    let f = kept.seats i v at (λ e. absurd (cc)) in
+    let none : kept.log ≡ [] = no_event
+    (subst (λ w. Later w [] kept.log) first.maker
+    (subst (λ l. Later v.who l kept.log) first.seen f.later))
+    (λ number. f.is_true.idle first.maker number
+    (let low = (f.is_true.made first.maker).1 in let none = first.made in omega arith)) in
+    as_view k kept.log s.words v f (λ p n. IsImage (start p n) s.words)
+    (subst (λ l. IsImage (state_of k.start.value.items k.words l) s.words) none kept.image)
 
 -- what the words are after the last step
 pub closes : (k : About) (id : ℕ) (v : View) (words : List ℕ) (slots : List (Unit {0}))

@@ -1,10 +1,13 @@
--- Seats that are split from others and joined to others.
+-- Seats that are split from others and joined to others; the words at the opening and at the close.
 use Rattle.std.specs.Prelude.{◌≡◌, ◌≢◌, ℕ, ◌+◌, ◌&&◌, max, Bool, true, false, nat_lt, nat_le, if◌then◌else◌, List, [], ◌∷◌, length, Option, Some, None}
+use Rattle.atomic_table.specs.Table as T
 use Rattle.ist_core.specs.declared.calls.Call.{Call}
 use Rattle.ist_core.specs.Images.{IsImage}
 use Rattle.ist_core.specs.Logs.{Log}
+use Rattle.ist_core.specs.Snapshots.{Snapshot}
 use Rattle.ist_core.specs.Lawful.{Lawful, state_of}
 use Rattle.ist_rule.specs.declared.view.View.{View}
+use Rattle.ist_rule.specs.declared.view.About.{About}
 use Rattle.ist_rule.specs.declared.view.Met.{Met}
 use Rattle.ist_rule.specs.declared.view.Taken.{Taken}
 use Rattle.ist_core.specs.declared.events.Who.{Who}
@@ -14,7 +17,7 @@ use Rattle.ist_core.specs.Changes.{changes_of, map_after_entries}
 use Rattle.ist_core.specs.Map.{map_of}
 use Rattle.laws_real_time.specs.Moments.{Moments}
 use Rattle.laws_real_time.specs.Joining.{LinearizesTo}
-use Rattle.ist_rule.specs.Rule.{IsWellMade, IsTrueIn, IsHeard}
+use Rattle.ist_rule.specs.Rule.{HasView, IsWellMade, IsTrueIn, IsHeard, Kept}
 
 -- ---- splitting
 
@@ -122,6 +125,21 @@ pub record CanJoin (v w : View) : Type 0 where
   pub no_maker : w.who ≢ Maker
   pub in_none : w.pending ≡ None
   pub to_maker : (number : ℕ) → w.who ≡ Caller number → v.who ≡ Maker
+
+-- ---- opening
+
+-- this is the view of a maker that has entered no caller and seen no event
+pub record IsNewMaker (v : View) : Type 0 where
+  pub maker : v.who ≡ Maker
+  pub made : v.made ≡ 0
+  pub seen : v.log ≡ []
+
+-- between any two steps at which a seat has this view, the words of its table are the image of this
+-- state
+abbrev pub HasImage : View → Snapshot → Type 0
+HasImage v t =
+    (k : About) (s : T.State (Unit {0}) View) (i : ℕ) → Kept k s → HasView s i v
+    → IsImage t s.words
 
 -- ---- closing
 

@@ -4,9 +4,10 @@ ghost use Rattle.std.specs.Mem.Slots.{slots_items, slots_len, IsFull};
 ghost use Rattle.ist_core.specs.StartLayout.{start};
 ghost use Rattle.ist_core.specs.Images.{IsImage};
 ghost use Rattle.ist_core.specs.Lawful.{CanOpen};
+ghost use Rattle.ist_rule.specs.declared.view.View.{View};
 ghost use Rattle.ist_rule.specs.Rule.{opened_view, IsSound};
 ghost use Rattle.ist_rule.specs.Faces.{word_count_of};
-ghost use Rattle.ist_rule.specs.Seating.{IsLast};
+ghost use Rattle.ist_rule.specs.Seating.{HasImage, IsLast, IsNewMaker};
 
 use crate::table::{TreeTable, TreeToken};
 use crate::view::About;
@@ -35,6 +36,8 @@ pub fn open_table(
 
 /// Opens a table as `open_table` does, but the words stay the caller's. They are copied into the
 /// table, so their memory may serve for the image of the next one.
+///
+/// As long as the maker enters no caller, the words of its table are the image of a new tree.
 pub fn open_table_over(
     alloc: Global,
     image: &[u64],
@@ -46,6 +49,7 @@ pub fn open_table_over(
     ensures start { IfOk result (λ t. t.0.start ≡ pairs.now.items) }
     ensures same_table { IfOk result (λ t. t.1.table ≡ t.0.table) }
     ensures token { IfOk result (λ t. t.1.view ≡ opened_view pairs.now.items (length image.now)) }
+    ensures first { (v : View) → IsNewMaker v → HasImage v (start v.start v.words) }
 {
     let about = About {
         start: Snapshot::of(pairs),

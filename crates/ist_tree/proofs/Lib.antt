@@ -1,3 +1,4 @@
+pub mod OpeningLemmas
 pub mod IdleCallerLemmas
 pub mod SettlingLemmas
 pub mod HeardLemmas

@@ -5,8 +5,10 @@ ghost use Rattle.std.specs.List.Sorted.{IsStrictlyIncreasing};
 ghost use Rattle.ist_core.specs.RowLayout.{place_limit};
 ghost use Rattle.ist_core.specs.declared.commands.Command.TheVariants.{Get, Put, Remove};
 ghost use Rattle.ist_core.specs.Enabled.{caller_limit};
+ghost use Rattle.ist_core.specs.Images.{IsImage};
 ghost use Rattle.ist_core.specs.Logs.{GoesOn};
 ghost use Rattle.ist_core.specs.Standing.{makes_entry};
+ghost use Rattle.ist_core.specs.StartLayout.{start};
 ghost use Rattle.laws_histories.specs.Searching.{HasPosition};
 ghost use Rattle.ist_rule.specs.Speaking.{MomentsGoOn};
 ghost use Rattle.ist_find.specs.Spans.{pair_value, EndAtEdges};
@@ -52,7 +54,7 @@ impl Model for Tree {
 
 impl Tree {
     /// Makes a tree of the pairs, with this many words, and its maker. The keys are strictly
-    /// increasing.
+    /// increasing. Until the maker makes a pass, the words of the tree are the image of the pairs.
     ///
     /// All memory of the tree is allocated here. It returns `Small` exactly if the tree of the
     /// pairs takes more words, and decides this before it allocates. It returns `Memory` only if
@@ -80,6 +82,7 @@ impl Tree {
         requires few { length pairs.now < 2 ^ 32 }
         requires within { words ≤ place_limit }
         ensures new { IfOk result (λ t. IsNewTree words pairs.now t.0 t.1) }
+        ensures image { OnOk result (IsImage (start pairs.now words) image.new) }
         ensures fault { IfErr result (λ f. IsFaultOf words pairs.now f) }
     {
         let words = u64::from(words);

@@ -1,5 +1,7 @@
 use Rattle.std.proofs.Common.{◌<◌, ◌^◌, length, map, sym, subst}
 use Rattle.std.specs.List.Sorted.{IsStrictlyIncreasing}
+use Rattle.ist_core.specs.Images.{IsImage}
+use Rattle.ist_core.specs.StartLayout.{start}
 use Rattle.ist_reopen.proofs.FewLemmas.{found_few, found_rise}
 use Rattle.ist_reopen.proofs.ReopenLemmas.{opens_after}
 use Rattle.ist_reopen.proofs.reopening.open_after.Goals as goal
@@ -23,3 +25,9 @@ returns-clause-new c =
     opens_after c.args.closed.now c.args.words c.deref.result.now c.in_ok-pairs.pairs.items
     c.in_ok-open_over.field-0.0 c.in_ok-open_over.field-0.1 c.in_ok-open_over.ensures.new
     c.deref.ensures.value c.in_ok-pairs.ensures.held c.in_ok-pairs.ensures.of_map
+
+-- whose words are in the memory of the image
+pub returns-clause-image : goal.returns-clause-image
+returns-clause-image c =
+    subst (λ ps. IsImage (start ps c.args.words) c.open_over.new.image)
+    (sym c.in_ok-open_over.ensures.new.start_is) c.in_ok-open_over.ensures.image
