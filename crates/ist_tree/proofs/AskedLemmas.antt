@@ -1,5 +1,5 @@
 -- What helping a rebuild asks for stays so as rows grow; what was in the anchor's slot, and how many
--- puts there were, over longer logs. Serves `update_when` and `freeze`.
+-- puts there were, over longer logs. Serves `apply_in_call` and `freeze`.
 use Rattle.std.proofs.Common.{ℕ, ◌≤◌, List, length, filter, Option, sym, ap, ◌∙◌, subst, arith, length-append}
 use Rattle.std.proofs.lemmas.List.Elements.{filter-append}
 use Rattle.ist_core.specs.declared.pairs.Pair.{Pair}

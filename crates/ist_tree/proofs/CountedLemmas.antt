@@ -1,4 +1,4 @@
--- What a caller counted in a log, by what it counted in the parts of it. Serves `update_when` and
+-- What a caller counted in a log, by what it counted in the parts of it. Serves `apply_in_call` and
 -- `update_if`.
 use Rattle.std.proofs.Common.{◌≡◌, ◌≢◌, ℕ, ◌⊎◌, [], ◌∷◌, Option, refl, sym, subst, inl, inr, ⊎_elim}
 use Rattle.ist_core.specs.declared.commands.Command.{Command}

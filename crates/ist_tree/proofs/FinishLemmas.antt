@@ -1,5 +1,5 @@
 -- The rebuilds that a pass started in a call: each was finished, or one was refused. Serves
--- `update_when`, `run_rounds` and `freeze`.
+-- `apply_in_call`, `run_rounds` and `freeze`.
 use Rattle.std.proofs.Common.{◌≡◌, ℕ, Option, Some, None, refl, sym, ap, ◌∙◌, subst, inl, inr, ⊎_elim}
 use Rattle.std.specs.Option.{option_or}
 use Rattle.ist_core.specs.declared.ports.Full.{Full}

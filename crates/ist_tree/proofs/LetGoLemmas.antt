@@ -1,5 +1,5 @@
 -- A put or a remove that took no effect, from its beginning to its end, in the words of its steps.
--- Serves `update_when`.
+-- Serves `apply_in_call`.
 use Rattle.std.proofs.Common.{◌≡◌, ℕ, Option, Some, sym, ap, ◌∙◌, subst, arith}
 use Rattle.ist_core.specs.declared.commands.Command.{Command}
 use Rattle.ist_core.specs.declared.ports.Full.{Full}

@@ -1,12 +1,15 @@
 -- The rounds of a conditional update: what a round did holds since the beginning of the first. Serves
 -- `run_rounds`.
-use Rattle.std.proofs.Common.{◌≡◌, ◌≢◌, ◌-◌, ◌<◌, ◌∙◌, ℕ, Option, length}
+use Rattle.std.proofs.Common.{◌≡◌, ◌≢◌, ◌-◌, ◌<◌, ◌∙◌, ℕ, Option, length, refl}
 use Rattle.ist_core.specs.declared.commands.Command.{Command}
 use Rattle.ist_core.specs.declared.commands.Command.TheVariants.{Get}
 use Rattle.ist_core.specs.declared.ports.Full.{Full}
 use Rattle.ist_core.specs.Lawful.{Lawful}
 use Rattle.ist_core.specs.RowLayout.{place_limit}
+use Rattle.ist_updates.specs.declared.updates.Outcome.{Outcome}
+use Rattle.ist_updates.specs.declared.updates.Outcome.TheVariants.{Took, Nothing, Unmet}
 use Rattle.ist_updates.specs.declared.updates.When.TheVariants.{Had}
+use Rattle.ist_updates.specs.Meeting.{IsMetAs, reply_in}
 use Rattle.ist_tree.specs.Calls.{AddsCall}
 use Rattle.ist_tree.specs.DueRows.{none_came}
 use Rattle.ist_tree.specs.Faces.{PassFace, changes_seen}
@@ -17,6 +20,13 @@ use Rattle.ist_tree.proofs.FinishLemmas.{finish_from, idle_finishes}
 use Rattle.ist_tree.proofs.LookedLemmas.{idle_keeps}
 use Rattle.ist_tree.proofs.RoundLemmas.{adds_from, counted_from, due_from, idle_from, keeps_from, let_go_from, let_go_none, nowhere_from, refused_from, row_from, seen_from, starts_from}
 use Rattle.ist_tree.proofs.RoundWalkLemmas.{few_found, few_taken, pays_none, pays_on}
+
+-- an update that should take effect at this value, and did, replies with it
+pub met_reply : (expected : Option ℕ) (o : Outcome) → o ≢ Unmet → IsMetAs (Had expected) o
+    → reply_in o ≡ expected
+met_reply expected (Took done) n met = met
+met_reply expected Nothing n met = met
+met_reply expected Unmet n met = absurd (n refl)
 
 -- before the first round
 pub rounds_begin : (p : PassFace) → Lawful p.tree.start p.tree.words p.seen → IsBetweenRounds p p

@@ -1,5 +1,5 @@
 -- The result of carrying out an update, with the rebuild of the row that it made due. Serves
--- `update`.
+-- `rebuild_topmost` and `apply_in_call`.
 use Rattle.std.proofs.Common.{arith, ◌≡◌, ◌≢◌, ℕ, ◌⊎◌, true, List, Option, Some, None, Result, Ok, Err, IfErr, OnOk, sym, ap, ◌∙◌, subst, ⊎_elim}
 use Rattle.std.specs.Result.{result_err}
 use Rattle.ist_core.specs.declared.commands.Command.{Command}
@@ -34,14 +34,15 @@ use Rattle.ist_rows.specs.declared.callers.Caller.{Caller}
 use Rattle.ist_rows.specs.Building.{HasRefused}
 use Rattle.ist_rows.specs.Rows.{IsCaller}
 use Rattle.ist_rows.specs.Going.{IsQuiet, StaysReady}
-use Rattle.std.specs.Prelude.{IfOk, IfSome}
-use Rattle.ist_updates.specs.declared.updates.Applied.{Applied}
+use Rattle.std.specs.Prelude.{IfSome}
+use Rattle.ist_rebuild.specs.Starting.{MayStart}
 use Rattle.ist_updates.specs.declared.updates.Due.{Due}
+use Rattle.ist_updates.specs.declared.updates.Outcome.{Outcome}
 use Rattle.ist_updates.specs.Asking.{MayEnd, Updates}
 use Rattle.ist_updates.specs.Counting.{CameToLimit, CountedNowhere, IsCounted, LeavesDue}
 use Rattle.laws_calls.proofs.DoneLemmas.{others_count_nothing}
-use Rattle.ist_updates.specs.Refusals.{WasRefused}
-use Rattle.ist_tree.specs.Working.{Applies, CarriesOut, IsDueRefused, IsLetGo, IsShut, IsTopCame, IsTopShut, IsTurnedDown, KeepsDone, LeavesShut, Rebuilds, Works, is_shut, none_came, was_refused}
+use Rattle.ist_updates.specs.Meeting.{due_in, reply_in}
+use Rattle.ist_tree.specs.Working.{Applies, CarriesOut, IsDueRefused, IsLetGo, IsShut, IsTopCame, IsTopShut, KeepsDone, LeavesShut, Rebuilds, Works, is_shut, none_came, was_refused}
 use Rattle.ist_tree.proofs.RowAtLimitLemmas.{came_inside, came_within, closed_above, due_since, ever_here}
 use Rattle.ist_tree.proofs.UpdateKeptLemmas.{counted_on, may_end_on}
 use Rattle.ist_tree.proofs.DueLemmas.{done_more}
@@ -54,18 +55,18 @@ use Rattle.ist_rows.proofs.GoneLemmas.{still_ready}
 
 -- ---- what an update that was applied leaves
 
--- an update that returned a reply was applied
-pub applies_by : (old mid : Caller) (command : Command) (answer : Result (Option Applied) Full)
-    (done : Applied) → answer ≡ Ok (Some done)
+-- an update that ended, and met no other value, was applied
+pub applies_by : (old mid : Caller) (command : Command) (o : Outcome) (reply : Option ℕ)
+    (due : Option Due) → reply ≡ reply_in o → due ≡ due_in o
     → IsCaller mid → HasRefused mid → IsQuiet mid → mid.number ≡ old.number
     → SearchedOn Updates old.token.view mid.token.view → HasWalkedFew old.token.view mid.token.view
-    → IfOk answer (λ o. IfSome o (λ x. MayEnd mid command x.reply))
-    → IfOk answer (λ o. IfSome o (λ x. makes_entry command x.reply ≡ true
+    → MayEnd mid command (reply_in o)
+    → (makes_entry command (reply_in o) ≡ true
     → IsCounted old.token.view.start old.token.view.words old.token.view.log mid.token.view.log
-    old.number command))
-    → IfOk answer (λ o. IfSome o (λ x. LeavesDue old.token.view mid.token.view old.number x.due))
-    → Applies old mid command done.reply done.due
-applies_by old mid command answer done e c r q n w few may counted left =
+    old.number command)
+    → LeavesDue old.token.view mid.token.view old.number (due_in o)
+    → Applies old mid command reply due
+applies_by old mid command o reply due reply_is due_is c r q n w few may counted left =
     record {
       caller = c;
       refused = r;
@@ -73,13 +74,16 @@ applies_by old mid command answer done e c r q n w few may counted left =
       number = n;
       went = w;
       few_walks = few;
-      may = subst (λ a. IfOk a (λ o. IfSome o (λ x. MayEnd mid command x.reply))) e may;
-      counted = subst (λ a. IfOk a (λ o. IfSome o (λ x. makes_entry command x.reply ≡ true
-          → IsCounted old.token.view.start old.token.view.words old.token.view.log
-          mid.token.view.log old.number command))) e counted;
-      due = subst (λ a. IfOk a (λ o. IfSome o (λ x. LeavesDue old.token.view mid.token.view
-          old.number x.due))) e left;
+      may = subst (MayEnd mid command) (sym reply_is) may;
+      counted = λ entry. counted (subst (λ r. makes_entry command r ≡ true) reply_is entry);
+      due = subst (LeavesDue old.token.view mid.token.view old.number) (sym due_is) left;
     }
+
+-- a rebuild of the row that it made due may be started
+pub due_may_start : (v w : View) (n : ℕ) (due : Option Due) → LeavesDue v w n due
+    → IfSome due (λ d. MayStart w d.parent d.index d.target)
+due_may_start v w n None h = tt
+due_may_start v w n (Some due) h = h.may
 
 -- it starts no rebuild
 applied_done : (old mid : Caller) → old.token.view.who ≡ CallerOf old.number
@@ -139,18 +143,6 @@ let_go old new mine resolved c refused number went few can due uncounted =
       starts = applied_done old new mine resolved went;
       due = none_due old new.token.view went due;
     }
-
--- it was refused
-pub turned_by : (old new : Caller) (words key : ℕ) (value : Option ℕ) (full : Full)
-    → old.token.view.who ≡ CallerOf old.number
-    → IsResolved old.token.view old.number → IsCaller new → HasRefused new → new.number ≡ old.number
-    → SearchedOn Updates old.token.view new.token.view → HasWalkedFew old.token.view new.token.view
-    → WasRefused old.token.view key value words full new.token.view → CanGiveUp new.token.view
-    → LeavesDue old.token.view new.token.view old.number None
-    → CountedNowhere old.token.view.log new.token.view.log old.number
-    → IsTurnedDown old new words key value full
-turned_by old new words key value full mine resolved c r n w few cause can due uncounted =
-    record { let_go = let_go old new mine resolved c r n w few can due uncounted; cause = cause }
 
 -- ---- a row was made due
 

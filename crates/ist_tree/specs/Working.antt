@@ -37,7 +37,6 @@ use Rattle.ist_updates.specs.declared.updates.Due.{Due}
 use Rattle.ist_updates.specs.Asking.{MayEnd, Updates}
 use Rattle.ist_updates.specs.Counting.{CountedNowhere, IsCounted, CameToLimit, LeavesDue}
 use Rattle.ist_updates.specs.Further.{HasWalkedFew}
-use Rattle.ist_updates.specs.Refusals.{WasRefused}
 use Rattle.ist_tree.specs.declared.rebuilding.Instead.{Instead}
 use Rattle.ist_tree.specs.declared.rebuilding.Instead.TheVariants.{Rebuild, Change, Other}
 use Rattle.ist_tree.specs.DueRows.{InstallsDue}
@@ -190,9 +189,3 @@ pub record IsLetGo (old new : Caller) : Type 0 where
   pub starts : KeepsDone old new
   pub due : let v = old.token.view in DueRowsAreClosed (start v.start v.words) v.log old.number
       → DueRowsAreClosed (start v.start v.words) new.token.view.log old.number
-
--- the caller was refused a row for the put or remove, and nothing took effect
-pub record IsTurnedDown (old new : Caller) (words key : ℕ) (value : Option ℕ) (full : Full)
-    : Type 0 where
-  pub let_go : IsLetGo old new
-  pub cause : WasRefused old.token.view key value words full new.token.view

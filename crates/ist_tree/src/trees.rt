@@ -26,13 +26,14 @@ ghost use Rattle.ist_tree.specs.Spans.{AllHave, HasLoadedFewOver, state_seen};
 use crate::faults::OpenFault;
 use crate::finding::begin_find;
 use crate::passes::{Maker, Note, Pass};
-use crate::updating::{update, update_if};
+use crate::updating::{apply_in_call, update_if};
 use ist_core::{Full, Pair, Reply};
 use ist_find::{Span, find_span};
 use ist_image::{Image, needed_words};
 use ist_rest::Closed;
 use ist_rows::{Caller, enter};
 use ist_rule::{TreeTable, begin_read, close, end_call, join, know, open_table_over, split};
+use ist_updates::{Update, When};
 use std::alloc::Global;
 use std::marker::Model;
 
@@ -284,7 +285,12 @@ impl Tree {
         ensures finished { FinishesUpdate pass.old pass.new }
         ensures done { HasStartsDone pass.new }
     {
-        update(self, pass, key, Some(value))
+        let value = Some(value);
+        let when = When::Always;
+        match apply_in_call(self, pass, Update { key, value, when }) {
+            Ok(outcome) => Ok(outcome.reply()),
+            Err(full) => Err(full),
+        }
     }
 
     /// Removes the key, and returns the value that it had, if it had one. All else is as with
@@ -309,7 +315,12 @@ impl Tree {
         ensures finished { FinishesUpdate pass.old pass.new }
         ensures done { HasStartsDone pass.new }
     {
-        update(self, pass, key, None)
+        let value = None;
+        let when = When::Always;
+        match apply_in_call(self, pass, Update { key, value, when }) {
+            Ok(outcome) => Ok(outcome.reply()),
+            Err(full) => Err(full),
+        }
     }
 
     /// Puts the value at the key if the key has the value that is expected, or no value if none is

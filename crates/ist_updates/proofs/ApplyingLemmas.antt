@@ -23,7 +23,7 @@ use Rattle.ist_find.specs.Searches.{HasCome}
 use Rattle.ist_find.proofs.SearchLemmas.{begun_comes}
 use Rattle.ist_updates.specs.declared.updates.Applied.{Applied}
 use Rattle.ist_updates.specs.declared.updates.Due.{Due}
-use Rattle.ist_updates.specs.declared.walking.Walked.TheVariants.{Took}
+use Rattle.ist_updates.specs.declared.updates.Outcome.TheVariants.{Took}
 use Rattle.ist_updates.specs.Asking.{Updates, command_for, IsAsked, MayEnd}
 use Rattle.ist_updates.specs.Counting.{CountedNowhere, IsCounted, LeavesDue}
 use Rattle.ist_updates.specs.Refusals.{IsUpdateRefused, WasRefused}
@@ -140,7 +140,7 @@ module _ (old who : Caller) (key : ℕ) (value : Option ℕ) (a : IsAsked old (c
   -- ---- if it took effect
 
   module _ (new : Caller) (words : ℕ) (done : Applied) (g : WentOn Updates v new.token.view)
-      (h : HasWalked who key value anchor words (Ok (Took done)) new) where
+      (h : HasWalked who key value anchor words (Ok (Some (Took done))) new) where
     abbrev w : View
     w = new.token.view
 

@@ -1,5 +1,5 @@
 -- One step down of a walk, and what the walk from there makes of it. Serves `descend`.
-use Rattle.std.proofs.Common.{◌≡◌, ◌≢◌, ℕ, List, [], ◌∷◌, ◌++◌, Option, Some, sym, ap, subst}
+use Rattle.std.proofs.Common.{◌≡◌, ◌≢◌, ℕ, List, [], ◌∷◌, ◌++◌, Option, Some, None, sym, ap, subst}
 use Rattle.std.specs.Prelude.{IfOk, IsErrAnd, Ok, Err, Result}
 use Rattle.ist_core.specs.declared.commands.Command.{Command}
 use Rattle.ist_core.specs.declared.ports.Full.{Full}
@@ -18,12 +18,12 @@ use Rattle.ist_rows.proofs.GoneLemmas.{ready_more}
 use Rattle.ist_find.specs.Searches.{HasCome, Came, Names}
 use Rattle.ist_updates.specs.declared.updates.Applied.{Applied}
 use Rattle.ist_updates.specs.declared.updates.When.{When}
-use Rattle.ist_updates.specs.declared.walking.Walked.{Walked}
-use Rattle.ist_updates.specs.declared.walking.Walked.TheVariants.{Took, Again, Unmet}
+use Rattle.ist_updates.specs.declared.updates.Outcome.{Outcome}
+use Rattle.ist_updates.specs.declared.updates.Outcome.TheVariants.{Took, Unmet}
 use Rattle.ist_updates.specs.Asking.{Updates, command_for, IsAsked}
 use Rattle.ist_updates.specs.Ending.{IsWalk}
 use Rattle.ist_updates.specs.Further.{IsFreshNode}
-use Rattle.ist_updates.specs.Meeting.{HasMissed, IsMetBy, IsWalkMet}
+use Rattle.ist_updates.specs.Meeting.{HasMissed, IsMetBy, IsTryMet}
 use Rattle.ist_updates.specs.Trying.{IsAtSlot}
 use Rattle.ist_updates.specs.Walking.{HasCounted, HasStood, HasWalked}
 use Rattle.ist_updates.proofs.AfterLemmas.{after_loads}
@@ -58,14 +58,14 @@ pub record HasComeBack (old : Caller) (key : ℕ) (value : Option ℕ) (when : W
       → ((earlier : Log) (command : Command) (rows : List ℕ)
       → HasCounted u.start u.words earlier u.log second.number command (rows ++ row ∷ []) below
       → HasCounted u.start u.words earlier new.token.view.log second.number command rows done)
-      → done.reply ≡ below.reply → IsWalk old key value when node words (Ok (Took done)) new
+      → done.reply ≡ below.reply → IsWalk old key value when node words (Ok (Some (Took done))) new
 
 -- a walk that took effect needn't begin again
-done_again : (done : Applied) → ◌≡◌ {A = Result Walked Full} (Ok (Took done)) (Ok Again) → ⊥
+done_again : (done : Applied) → ◌≡◌ {A = Result (Option Outcome) Full} (Ok (Some (Took done))) (Ok None) → ⊥
 done_again done e = cc
 
 -- a walk that took effect didn't miss a value
-done_unmet : (done : Applied) → ◌≡◌ {A = Result Walked Full} (Ok (Took done)) (Ok Unmet) → ⊥
+done_unmet : (done : Applied) → ◌≡◌ {A = Result (Option Outcome) Full} (Ok (Some (Took done))) (Ok (Some Unmet)) → ⊥
 done_unmet done e = cc
 
 module _ {old : Caller} {token : TokenFace} {key : ℕ} {value : Option ℕ} {node index word : ℕ}
@@ -88,11 +88,11 @@ module _ {old : Caller} {token : TokenFace} {key : ℕ} {value : Option ℕ} {no
 
   module _ {when : When} {words : ℕ} where
     -- a walk that ends at the node
-    pub here_walk : {r : Result Walked Full} {new : Caller} → StaysReady Updates there new
+    pub here_walk : {r : Result (Option Outcome) Full} {new : Caller} → StaysReady Updates there new
         → HasWalked there key value node words r new
-        → (r ≡ Ok Again → (first : View) → IsFreshNode first token.view node
+        → (r ≡ Ok None → (first : View) → IsFreshNode first token.view node
         → CameFurther first new.token.view)
-        → IfOk r (IsWalkMet when) → (r ≡ Ok Unmet → HasMissed token.view new.token.view key when)
+        → IfOk r (IsTryMet when) → (r ≡ Ok (Some Unmet) → HasMissed token.view new.token.view key when)
         → IsWalk old key value when node words r new
     here_walk {r} {new} on walked further met missed =
         record {
@@ -107,7 +107,7 @@ module _ {old : Caller} {token : TokenFace} {key : ℕ} {value : Option ℕ} {no
         }
 
     module _ {row : ℕ} (is : ref_of word ≡ Some (InnerAt row)) where
-      none_walk : (r : Result Walked Full) (new : Caller) → ((done : Applied) → r ≢ Ok (Took done))
+      none_walk : (r : Result (Option Outcome) Full) (new : Caller) → ((done : Applied) → r ≢ Ok (Some (Took done)))
           → IsWalk there key value when row words r new → IsWalk old key value when node words r new
       none_walk r new none h =
           record {
@@ -125,27 +125,29 @@ module _ {old : Caller} {token : TokenFace} {key : ℕ} {value : Option ℕ} {no
           }
 
       -- a walk that goes on from a row below and takes no effect
-      pub below_walk : {x : Walked} {new : Caller} → ((done : Applied) → x ≢ Took done)
+      pub below_walk : {x y : Option Outcome} {new : Caller} → x ≡ y
+          → ((done : Applied) → y ≢ Some (Took done))
           → IsWalk there key value when row words (Ok x) new
-          → IsWalk old key value when node words (Ok x) new
-      below_walk {x} {new} none h =
-          none_walk (Ok x) new (λ done e. none done (ok_walked x (Took done) e)) h
+          → IsWalk old key value when node words (Ok y) new
+      below_walk {x} {y} {new} is none h =
+          none_walk (Ok y) new (λ done e. none done (ok_walked y (Some (Took done)) e))
+          (subst (λ z. IsWalk there key value when row words (Ok z) new) is h)
 
       -- a walk that goes on from a row below and is refused
-      pub refused_walk : (r : Result Walked Full) {full : Full} {new : Caller}
+      pub refused_walk : (r : Result (Option Outcome) Full) {full : Full} {new : Caller}
           → IsErrAnd r (λ x. x ≡ full) → IsWalk there key value when row words (Err full) new
           → IsWalk old key value when node words r new
       refused_walk (Ok x) {full} {new} same h = absurd same
       refused_walk (Err e) {full} {new} same h =
           subst (λ x. IsWalk old key value when node words (Err x) new) (sym same)
-          (none_walk (Err full) new (λ done e. err_walked full (Took done) e) h)
+          (none_walk (Err full) new (λ done e. err_walked full (Some (Took done)) e) h)
 
       -- a walk that goes on from a row below and takes effect
-      pub come_back : {x : Walked} {below : Applied} {second : Caller} → x ≡ Took below
+      pub come_back : {x : Option Outcome} {below : Applied} {second : Caller} → x ≡ Some (Took below)
           → IsWalk there key value when row words (Ok x) second
           → HasComeBack old key value when node index row words below second
       come_back {x} {below} {second} took h =
-          let took_is : ◌≡◌ {A = Result Walked Full} (Ok x) (Ok (Took below)) = ap Ok took in
+          let took_is : ◌≡◌ {A = Result (Option Outcome) Full} (Ok x) (Ok (Some (Took below))) = ap Ok took in
           let on = h.on.gone in
           let walked = subst (λ r. IsWalk there key value when row words r second) took_is h in
           record {

@@ -1,5 +1,5 @@
 -- An update that met a value at which it shouldn't take effect: which value its search found, and at
--- which position. Serves `trying`, `descend` and `walk_to_end`.
+-- which position. Serves `trying`, `descend` and `apply`.
 use Rattle.std.proofs.Common.{◌≡◌, ℕ, ◌∙◌, Option, Some, None, length, if◌then◌else◌, sym, ap, subst, ⊎_elim}
 use Rattle.std.proofs.Math.Nat.{le_trans}
 use Rattle.std.proofs.lemmas.Bool.Decides.{eqb_tells}

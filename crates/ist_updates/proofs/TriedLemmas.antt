@@ -32,8 +32,8 @@ use Rattle.ist_rebuild.specs.Lacking.{LacksNow}
 use Rattle.ist_updates.specs.declared.plans.Aim.{Aim}
 use Rattle.ist_rule.specs.Faces.{TokenFace}
 use Rattle.ist_rows.specs.declared.callers.Caller.{Caller}
-use Rattle.ist_updates.specs.declared.updates.Tried.{Tried}
-use Rattle.ist_updates.specs.declared.updates.Tried.TheVariants.{Took, Nothing, Again, Unmet}
+use Rattle.ist_updates.specs.declared.updates.Outcome.{Outcome}
+use Rattle.ist_updates.specs.declared.updates.Outcome.TheVariants.{Took, Nothing, Unmet}
 use Rattle.ist_updates.specs.Answering.{IsTried, IsTryRefused}
 use Rattle.ist_updates.specs.Asking.{command_for, IsAsked, Updates}
 use Rattle.ist_updates.specs.Changing.{WasAtSlot, Prepares}
@@ -198,14 +198,17 @@ module _ (old : Caller) (token : TokenFace) (key : ℕ) (value : Option ℕ)
       (loads_gone Prepares old token a.caller a.refused g) prepares_none
 
   -- the result of a try after loads is the result of a try that makes them first
-  pub tried_after : (node : ℕ) (new : Caller) (tried : Tried) → IsTried mid key value node new tried
-      → IsTried old key value node new tried
-  tried_after node new (Took reply) t =
-      taken_since old mid (command_for key value) a loads_asked
-      (loads_gone Prepares old token a.caller a.refused g) new.token.view node reply reply refl t
-  tried_after node new Nothing t = (t.0, t.1, t.2, t.3 ∙ g.since)
-  tried_after node new Again t = t
-  tried_after node new Unmet t = t
+  pub tried_after : (node : ℕ) (new : Caller) (tried : Option Outcome)
+      → IsTried mid key value node new tried → IsTried old key value node new tried
+  tried_after node new (Some (Took done)) t = (
+    taken_since old mid (command_for key value) a loads_asked
+        (loads_gone Prepares old token a.caller a.refused g) new.token.view node done.reply done.reply
+        refl t.0,
+    t.1,
+  )
+  tried_after node new (Some Nothing) t = (t.0, t.1, t.2, t.3 ∙ g.since)
+  tried_after node new (Some Unmet) t = t
+  tried_after node new None t = t
 
   -- a try that was refused after loads was refused with them
   pub refused_loads : (words : ℕ) (full : Full) (new : Caller)
@@ -221,52 +224,14 @@ module _ (old : Caller) (token : TokenFace) (key : ℕ) (value : Option ℕ)
       }
 
   -- any result but `Full` after loads is a result of the try with them
-  pub ok_after : (node : ℕ) (new : Caller) (r : Result Tried Full)
+  pub ok_after : (node : ℕ) (new : Caller) (r : Result (Option Outcome) Full)
       → IfOk r (λ t. IsTried mid key value node new t) → IfOk r (λ t. IsTried old key value node new t)
   ok_after node new (Ok t) h = tried_after node new t h
   ok_after node new (Err full) h = tt
 
   -- and so is a `Full` after loads
-  pub err_after : (words : ℕ) (new : Caller) (r : Result Tried Full)
+  pub err_after : (words : ℕ) (new : Caller) (r : Result (Option Outcome) Full)
       → IfErr r (λ full. IsTryRefused mid key value words full new)
       → IfErr r (λ full. IsTryRefused old key value words full new)
   err_after words new (Ok t) h = tt
   err_after words new (Err full) h = refused_loads words full new h
-
--- ---- what a result promises
-
--- the clauses on each result follow from what the try promises
-module _ (old new : Caller) (key : ℕ) (value : Option ℕ) (node : ℕ) (r : Result Tried Full)
-    (h : IfOk r (λ t. IsTried old key value node new t)) where
-  -- the update took effect with this reply
-  pub told_took : (reply : Option ℕ) → r ≡ Ok (Took reply)
-      → HasTakenEffect old.token.view new.token.view old.number (command_for key value) node reply
-  told_took reply e = subst (λ x. IfOk x (λ t. IsTried old key value node new t)) e h
-
-  -- there was nothing to remove
-  pub told_nothing : r ≡ Ok Nothing → (value ≡ None) × HasFoundNone new.token.view key
-      × IsAsked new (command_for key value) × (new.token.view.loads.since ≡ old.token.view.loads.since)
-  told_nothing e = subst (λ x. IfOk x (λ t. IsTried old key value node new t)) e h
-
-  -- the caller is still asked, after `Again`
-  pub told_again : r ≡ Ok Again → IsAsked new (command_for key value)
-  told_again e = subst (λ x. IfOk x (λ t. IsTried old key value node new t)) e h
-
-  -- the caller is still asked, after `Unmet`
-  pub told_unmet : r ≡ Ok Unmet → IsAsked new (command_for key value)
-  told_unmet e = subst (λ x. IfOk x (λ t. IsTried old key value node new t)) e h
-
--- with `Full` the update is refused, counted from any view since which its search began
-pub told_full : (old new : Caller) (key : ℕ) (value : Option ℕ) (words : ℕ) (r : Result Tried Full)
-    → IfErr r (λ full. IsTryRefused old key value words full new)
-    → IfErr r (λ full. (first : View) → BeganSince first old.token.view
-    → IsUpdateRefused first key value words full new.token.view)
-told_full old new key value words (Ok t) h = tt
-told_full old new key value words (Err full) h = h.cause
-
--- with `Full` the caller is still asked
-pub told_still : (old new : Caller) (key : ℕ) (value : Option ℕ) (words : ℕ) (r : Result Tried Full)
-    → IfErr r (λ full. IsTryRefused old key value words full new)
-    → IfErr r (λ full. IsAsked new (command_for key value))
-told_still old new key value words (Ok t) h = tt
-told_still old new key value words (Err full) h = h.still

@@ -1,5 +1,5 @@
--- An update that took effect at its slot, as its walk reports it: not yet counted. Serves `try_at`.
-use Rattle.std.proofs.Common.{◌≡◌, ℕ, List, [], ◌++◌, length, Option, Some, None, sym, ap, ◌∙◌, subst, append-nil, arith}
+-- A try at a slot, as its walk reports it: an update that took effect isn't yet counted. Serves `try_slot`.
+use Rattle.std.proofs.Common.{◌≡◌, ℕ, List, [], ◌++◌, length, Option, Some, None, IfOk, IfErr, Result, Ok, Err, sym, ap, ◌∙◌, subst, append-nil, arith}
 use Rattle.ist_core.specs.declared.commands.Command.{Command}
 use Rattle.ist_core.specs.declared.events.Event.{Event}
 use Rattle.ist_core.specs.declared.events.Event.TheVariants.{Count}
@@ -21,9 +21,21 @@ use Rattle.laws_calls.proofs.WalkLemmas.{meeting_on}
 use Rattle.laws_calls.specs.Counting.{IsOneUpdate}
 use Rattle.ist_rows.specs.declared.callers.Caller.{Caller}
 use Rattle.ist_find.specs.Searches.{HasCome}
-use Rattle.ist_updates.specs.Asking.{Updates, IsAsked}
-use Rattle.ist_updates.specs.Trying.{Tries, HasTakenEffect}
-use Rattle.ist_updates.specs.Walking.{HasTriedSince, HasCounted}
+use Rattle.ist_core.specs.declared.ports.Full.{Full}
+use Rattle.ist_rule.specs.Rule.{IsSound}
+use Rattle.ist_rows.proofs.GoneLemmas.{ready_all}
+use Rattle.ist_updates.specs.declared.plans.Aim.{Aim}
+use Rattle.ist_updates.specs.declared.updates.Applied.{Applied}
+use Rattle.ist_updates.specs.declared.updates.Outcome.{Outcome}
+use Rattle.ist_updates.specs.declared.updates.Outcome.TheVariants.{Took, Nothing, Unmet}
+use Rattle.ist_updates.specs.declared.updates.When.{When}
+use Rattle.ist_updates.specs.Answering.{HasTried, IsTried, IsTryRefused}
+use Rattle.ist_updates.specs.Asking.{Updates, IsAsked, command_for}
+use Rattle.ist_updates.specs.Ending.{IsWalk}
+use Rattle.ist_updates.specs.Meeting.{HasMissed, IsMetBy, IsTryMet, RepliesWith}
+use Rattle.ist_updates.specs.Trying.{Tries, HasTakenEffect, IsAtSlot}
+use Rattle.ist_updates.specs.Walking.{HasTriedSince, HasCounted, HasWalked}
+use Rattle.ist_updates.proofs.FurtherLemmas.{slot_aimed}
 use Rattle.ist_updates.proofs.OwnCountLemmas.{CountsNone, tried_none, from_none, came_none}
 
 -- a try is a step of an update
@@ -117,3 +129,67 @@ module _ (old : Caller) (command : Command) (a : IsAsked old command) (first : V
             counted = λ row i. absurd i;
             due = λ row k. came_none v.start v.words first.log old.number w.log tried_by row k;
           }
+
+-- ---- the walk that ends with the try
+
+module _ (old new : Caller) (aim : Aim) (value : Option ℕ) (words : ℕ)
+    (a : IsAsked old (command_for aim.key value)) where
+  -- what each result of the try means for the walk
+  walked_tried : (r : Result (Option Outcome) Full) → WentOn Tries old.token.view new.token.view
+      → IfOk r (λ t. IsTried old aim.key value aim.node new t)
+      → IfErr r (λ full. IsTryRefused old aim.key value words full new)
+      → HasWalked old aim.key value aim.node words r new
+  walked_tried (Ok (Some (Took done))) went t full =
+      λ first rows since come.
+      subst (HasCounted old.token.view.start old.token.view.words first.log new.token.view.log
+      old.number (command_for aim.key value) rows) (sym t.1)
+      (taken_counted old (command_for aim.key value) a first since new.token.view went aim.node
+      done.reply t.0 aim.key rows come)
+  walked_tried (Ok (Some Nothing)) went t full = (
+    record { went = went; asked = t.2 },
+    record { remove = t.0; found = t.1; since = t.3 },
+  )
+  walked_tried (Ok (Some Unmet)) went t full = record { went = went; asked = t }
+  walked_tried (Ok None) went t full = record { went = went; asked = t }
+  walked_tried (Err f) went t full = (record { went = went; asked = full.still }, full.cause)
+
+-- the try is a whole walk from its node on
+pub tried_walk : {old new : Caller} {aim : Aim} {value : Option ℕ} {words : ℕ} {when : When}
+    {r : Result (Option Outcome) Full} → IsAsked old (command_for aim.key value)
+    → IsSound old.token.view → IsAtSlot old.token.view aim.key aim.node aim.index aim.word
+    → HasTried old aim value words r new → IfOk r (IsTryMet when)
+    → (r ≡ Ok (Some Unmet) → HasMissed old.token.view new.token.view aim.key when)
+    → IsWalk old aim.key value when aim.node words r new
+tried_walk {old} {new} {aim} {value} {words} {when} {r} a sound at t met missed =
+    record {
+      on = ready_all Tries Updates tries_update old new t.on;
+      walked = walked_tried old new aim value words a r t.on.gone.went t.told t.full;
+      further = λ is first fresh. t.further is first
+          (slot_aimed first old.token.view aim.key aim.node aim.index aim.word sound at fresh);
+      met = met;
+      missed = missed;
+    }
+
+-- ---- the value that the try met
+
+-- a try that replaced this value met it
+pub replied_met : (when : When) (had : Option ℕ) (r : Result (Option Outcome) Full)
+    → IsMetBy when had → IfOk r (RepliesWith had) → IfOk r (IsTryMet when)
+replied_met when had (Ok (Some (Took done))) met h = subst (IsMetBy when) (sym h) met
+replied_met when had (Ok (Some Nothing)) met h = subst (IsMetBy when) h met
+replied_met when had (Ok (Some Unmet)) met h = tt
+replied_met when had (Ok None) met h = tt
+replied_met when had (Err full) met h = tt
+
+-- and missed none
+pub replied_unmissed : (had : Option ℕ) (r : Result (Option Outcome) Full) → IfOk r (RepliesWith had)
+    → r ≡ Ok (Some Unmet) → ⊥
+replied_unmissed had r h is = subst (λ x. IfOk x (RepliesWith had)) is h
+
+-- nor does one that must begin again
+pub none_met : (when : When) (o : Option Outcome) → o ≡ None → IsTryMet when o
+none_met when o e = subst (IsTryMet when) (sym e) tt
+
+pub none_unmet : (o : Option Outcome) → o ≡ None
+    → ◌≡◌ {A = Result (Option Outcome) Full} (Ok o) (Ok (Some Unmet)) → ⊥
+none_unmet o none is = cc

@@ -17,9 +17,9 @@ use Rattle.ist_rows.proofs.GoneLemmas.{loads_gone, gone_more, ready_same}
 use Rattle.ist_updates.specs.declared.plans.Aim.{Aim}
 use Rattle.ist_updates.specs.declared.plans.Way.{Way}
 use Rattle.ist_updates.specs.declared.plans.Way.TheVariants as way
-use Rattle.ist_updates.specs.declared.updates.Tried.{Tried}
-use Rattle.ist_updates.specs.declared.updates.Tried.TheVariants.{Took, Nothing, Again, Unmet}
-use Rattle.ist_updates.specs.Answering.{HasChanged, HasTried, IsTryRefused}
+use Rattle.ist_updates.specs.declared.updates.Outcome.{Outcome}
+use Rattle.ist_updates.specs.declared.updates.Outcome.TheVariants.{Nothing, Unmet}
+use Rattle.ist_updates.specs.Answering.{HasChanged, HasTried, IsTryRefused, just_took}
 use Rattle.ist_updates.specs.Asking.{command_for, IsAsked}
 use Rattle.ist_updates.specs.Changing.{MayAskFor, command_by}
 use Rattle.ist_updates.specs.Further.{HasAimed}
@@ -32,20 +32,20 @@ use Rattle.ist_updates.proofs.TriedLemmas.{IsPutFor, err_after, ok_after, put_re
 
 -- ---- results
 
--- an error isn't `Again`
-refused_again : (full : Full) → ◌≡◌ {A = Result Tried Full} (Err full) (Ok Again) → ⊥
+-- an error isn't `None`
+refused_again : (full : Full) → ◌≡◌ {A = Result (Option Outcome) Full} (Err full) (Ok None) → ⊥
 refused_again full e = cc
 
--- a reply isn't `Again`
-took_again : (reply : Option ℕ) → ◌≡◌ {A = Result Tried Full} (Ok (Took reply)) (Ok Again) → ⊥
+-- a reply isn't `None`
+took_again : (reply : Option ℕ) → ◌≡◌ {A = Result (Option Outcome) Full} (Ok (Some (just_took reply))) (Ok None) → ⊥
 took_again reply e = cc
 
--- nothing to remove isn't `Again`
-nothing_again : ◌≡◌ {A = Result Tried Full} (Ok Nothing) (Ok Again) → ⊥
+-- nothing to remove isn't `None`
+nothing_again : ◌≡◌ {A = Result (Option Outcome) Full} (Ok (Some Nothing)) (Ok None) → ⊥
 nothing_again e = cc
 
--- a missed value isn't `Again`
-unmet_again : ◌≡◌ {A = Result Tried Full} (Ok Unmet) (Ok Again) → ⊥
+-- a missed value isn't `None`
+unmet_again : ◌≡◌ {A = Result (Option Outcome) Full} (Ok (Some Unmet)) (Ok None) → ⊥
 unmet_again e = cc
 
 -- ---- a try without a step
@@ -61,13 +61,13 @@ module _ (who : Caller) (aim : Aim) (value : Option ℕ) (words : ℕ) (s : IsSo
       }
 
   -- the key has a value at which the update shouldn't take effect
-  pub unmet_tried : HasTried who aim value words (Ok Unmet) who
+  pub unmet_tried : HasTried who aim value words (Ok (Some Unmet)) who
   unmet_tried =
       record { on = ready; told = a; full = tt; further = λ is. absurd (unmet_again is) }
 
   -- there is nothing to remove
   pub nothing_tried : value ≡ None → HasFoundNone who.token.view aim.key
-      → HasTried who aim value words (Ok Nothing) who
+      → HasTried who aim value words (Ok (Some Nothing)) who
   nothing_tried none found =
       record {
         on = ready;
@@ -85,7 +85,7 @@ module _ (old new : Caller) (aim : Aim) (value : Option ℕ) (words : ℕ) where
   -- the walk must begin again, and the table came further
   pub again_tried : HasGone Tries old new → IsAsked new command
       → ((first : View) → HasAimed first old.token.view aim.node aim.index aim.word
-      → CameFurther first new.token.view) → HasTried old aim value words (Ok Again) new
+      → CameFurther first new.token.view) → HasTried old aim value words (Ok None) new
   again_tried gone still further =
       record {
         on = record { gone = gone; quiet = asked_quiet new command still };
@@ -109,19 +109,21 @@ module _ (old new : Caller) (aim : Aim) (value : Option ℕ) (words : ℕ) where
 
 module _ {old new : Caller} {aim : Aim} {x : Way} {words : ℕ} where
   -- the change was carried out or lost
-  pub changed_tried : (value : Option ℕ) {taken : Bool} (tried : Tried) (reply : Option ℕ)
+  pub changed_tried : (value : Option ℕ) {taken : Bool} (tried : Option Outcome) (reply : Option ℕ)
       → command_by aim.key x ≡ command_for aim.key value → HasChanged old aim x words (Ok taken) new
-      → (taken ≡ true → tried ≡ Took reply) → (taken ≡ false → tried ≡ Again)
+      → (taken ≡ true → tried ≡ Some (just_took reply)) → (taken ≡ false → tried ≡ None)
       → value_at (now old.token.view).pieces (ref_of aim.word) aim.key ≡ reply
       → HasTried old aim value words (Ok tried) new
   changed_tried value {taken = true} tried reply is h took again told =
       let v = old.token.view in
       subst (λ t. HasTried old aim value words (Ok t) new) (sym (took refl)) record {
         on = h.on;
-        told = subst (HasTakenEffect v new.token.view old.number (command_for aim.key value) aim.node)
-            told
-            (subst (λ k. HasTakenEffect v new.token.view old.number k aim.node
-            (value_at (now v).pieces (ref_of aim.word) aim.key)) is (h.took refl));
+        told = (
+          subst (HasTakenEffect v new.token.view old.number (command_for aim.key value) aim.node) told
+              (subst (λ k. HasTakenEffect v new.token.view old.number k aim.node
+              (value_at (now v).pieces (ref_of aim.word) aim.key)) is (h.took refl)),
+          refl,
+        );
         full = tt;
         further = λ e. absurd (took_again reply e);
       }
@@ -160,7 +162,7 @@ remove_unchanged {old} {new} {aim} {words} {full} found h searched =
 
 -- a try after loads is a try that makes them first
 pub loads_tried : (old : Caller) (token : TokenFace) {aim : Aim} {value : Option ℕ} {words : ℕ}
-    {r : Result Tried Full} {new : Caller} → IsAsked old (command_for aim.key value)
+    {r : Result (Option Outcome) Full} {new : Caller} → IsAsked old (command_for aim.key value)
     → GoesOnTo old.token.view token.view
     → HasTried (record old { token = token }) aim value words r new
     → HasTried old aim value words r new

@@ -1,5 +1,5 @@
 -- A walk by one step down, the walk from there, and a Count on the way back. Serves `descend`.
-use Rattle.std.proofs.Common.{◌≡◌, ◌≢◌, ℕ, ◌≤◌, List, [], ◌∷◌, ◌++◌, length, Option, Some, Result, Ok, Err, refl, sym, ap, ◌∙◌, subst}
+use Rattle.std.proofs.Common.{◌≡◌, ◌≢◌, ℕ, ◌≤◌, List, [], ◌∷◌, ◌++◌, length, Option, Some, None, Result, Ok, Err, refl, sym, ap, ◌∙◌, subst}
 use Rattle.ist_core.specs.declared.commands.Command.{Command}
 use Rattle.ist_core.specs.declared.events.Event.{Event}
 use Rattle.ist_core.specs.declared.pairs.Pair.{Pair}
@@ -22,8 +22,8 @@ use Rattle.laws_calls.proofs.WalkLemmas.{meeting_comes}
 use Rattle.ist_rows.specs.declared.callers.Caller.{Caller}
 use Rattle.ist_find.specs.Searches.{HasCome, Came}
 use Rattle.ist_updates.specs.declared.updates.Applied.{Applied}
-use Rattle.ist_updates.specs.declared.walking.Walked.{Walked}
-use Rattle.ist_updates.specs.declared.walking.Walked.TheVariants.{Took, Nothing, Again, Unmet}
+use Rattle.ist_updates.specs.declared.updates.Outcome.{Outcome}
+use Rattle.ist_updates.specs.declared.updates.Outcome.TheVariants.{Took, Nothing, Unmet}
 use Rattle.ist_updates.specs.Asking.{Updates, command_for, IsAsked}
 use Rattle.ist_updates.specs.Refusals.{IsUpdateRefused}
 use Rattle.ist_updates.specs.Trying.{Tries, BeganSince}
@@ -96,21 +96,21 @@ module _ (old : Caller) (token : TokenFace) (g : GoesOnTo old.token.view token.v
       }
 
   -- a walk that ends at this node
-  pub walked_here : (key : ℕ) (value : Option ℕ) (node words : ℕ) (result : Result Walked Full)
+  pub walked_here : (key : ℕ) (value : Option ℕ) (node words : ℕ) (result : Result (Option Outcome) Full)
       (new : Caller) → ((rows : List ℕ) → HasCome v key node rows → HasCome w key node rows)
       → HasWalked there key value node words result new
       → HasWalked old key value node words result new
-  walked_here key value node words (Ok (Took done)) new stays h =
+  walked_here key value node words (Ok (Some (Took done))) new stays h =
       λ first rows since come.
       back (λ p n. HasCounted p n first.log new.token.view.log old.number (command_for key value) rows
       done) (h first rows (tried_there first since) (stays rows come))
-  walked_here key value node words (Ok Nothing) new stays h = (
+  walked_here key value node words (Ok (Some Nothing)) new stays h = (
     still_before new (command_for key value) h.0,
     not_there_before new.token.view key value h.1,
   )
-  walked_here key value node words (Ok Again) new stays h =
+  walked_here key value node words (Ok None) new stays h =
       still_before new (command_for key value) h
-  walked_here key value node words (Ok Unmet) new stays h =
+  walked_here key value node words (Ok (Some Unmet)) new stays h =
       still_before new (command_for key value) h
   walked_here key value node words (Err full) new stays h = (
     still_before new (command_for key value) h.0,
@@ -119,16 +119,16 @@ module _ (old : Caller) (token : TokenFace) (g : GoesOnTo old.token.view token.v
 
   -- a walk that took no effect from a row below took none from this node
   pub none_below : (key : ℕ) (value : Option ℕ) (node row words : ℕ) (new : Caller)
-      (r : Result Walked Full) → ((done : Applied) → r ≢ Ok (Took done))
+      (r : Result (Option Outcome) Full) → ((done : Applied) → r ≢ Ok (Some (Took done)))
       → HasWalked there key value row words r new → HasWalked old key value node words r new
-  none_below key value node row words new (Ok (Took done)) none h = absurd (none done refl)
-  none_below key value node row words new (Ok Nothing) none h = (
+  none_below key value node row words new (Ok (Some (Took done))) none h = absurd (none done refl)
+  none_below key value node row words new (Ok (Some Nothing)) none h = (
     still_before new (command_for key value) h.0,
     not_there_before new.token.view key value h.1,
   )
-  none_below key value node row words new (Ok Again) none h =
+  none_below key value node row words new (Ok None) none h =
       still_before new (command_for key value) h
-  none_below key value node row words new (Ok Unmet) none h =
+  none_below key value node row words new (Ok (Some Unmet)) none h =
       still_before new (command_for key value) h
   none_below key value node row words new (Err full) none h = (
     still_before new (command_for key value) h.0,
@@ -143,7 +143,7 @@ module _ (old : Caller) (token : TokenFace) (g : GoesOnTo old.token.view token.v
       (holds : SlotHolds (now w) node index word) (is : ref_of word ≡ Some (InnerAt row)) where
     module _ (words : ℕ) (below : Applied) (second : Caller)
         (number_is : second.number ≡ old.number) (went : WentOn Updates w second.token.view)
-        (h : HasWalked there key value row words (Ok (Took below)) second) where
+        (h : HasWalked there key value row words (Ok (Some (Took below))) second) where
       abbrev u : View
       u = second.token.view
 

@@ -12,8 +12,8 @@ use Rattle.laws_coming.specs.Further.{CameFurther}
 use Rattle.ist_updates.specs.declared.plans.Aim.{Aim}
 use Rattle.ist_updates.specs.declared.plans.PlannedChange.{PlannedChange}
 use Rattle.ist_updates.specs.declared.plans.Way.{Way}
-use Rattle.ist_updates.specs.declared.updates.Tried.{Tried}
-use Rattle.ist_updates.specs.declared.updates.Tried.TheVariants.{Took, Nothing, Again, Unmet}
+use Rattle.ist_updates.specs.declared.updates.Outcome.{Outcome}
+use Rattle.ist_updates.specs.declared.updates.Outcome.TheVariants.{Took, Nothing, Unmet}
 use Rattle.ist_updates.specs.Asking.{command_for, IsAsked}
 use Rattle.ist_updates.specs.Changing.{command_by, IsWayRefused}
 use Rattle.ist_updates.specs.Further.{HasAimed}
@@ -50,15 +50,20 @@ pub record HasChanged (old : Caller) (aim : Aim) (w : Way) (words : ℕ) (result
 
 -- ---- a try
 
+-- the update took effect with this reply, and was counted at no row yet
+abbrev pub just_took : Option ℕ → Outcome
+just_took reply = Took record { reply = reply; due = None }
+
 -- the update took effect, or there was nothing to remove, or the caller is still asked
-abbrev pub IsTried : Caller → ℕ → Option ℕ → ℕ → Caller → Tried → Type 0
-IsTried old key value node new (Took reply) =
-    HasTakenEffect old.token.view new.token.view old.number (command_for key value) node reply
-IsTried old key value node new Nothing =
+abbrev pub IsTried : Caller → ℕ → Option ℕ → ℕ → Caller → Option Outcome → Type 0
+IsTried old key value node new (Some (Took done)) =
+    HasTakenEffect old.token.view new.token.view old.number (command_for key value) node done.reply
+    × (done ≡ record { reply = done.reply; due = None })
+IsTried old key value node new (Some Nothing) =
     (value ≡ None) × HasFoundNone new.token.view key × IsAsked new (command_for key value)
     × (new.token.view.loads.since ≡ old.token.view.loads.since)
-IsTried old key value node new Again = IsAsked new (command_for key value)
-IsTried old key value node new Unmet = IsAsked new (command_for key value)
+IsTried old key value node new None = IsAsked new (command_for key value)
+IsTried old key value node new (Some Unmet) = IsAsked new (command_for key value)
 
 -- the table had too few words: the caller is still asked, and its update is refused, counted from any
 -- view since which its search began
@@ -70,9 +75,9 @@ pub record IsTryRefused (old : Caller) (key : ℕ) (value : Option ℕ) (words :
 
 -- what each result of a try at the slot means; if the walk must begin again, the table came further
 pub record HasTried (old : Caller) (aim : Aim) (value : Option ℕ) (words : ℕ)
-    (result : Result Tried Full) (new : Caller) : Type 0 where
+    (result : Result (Option Outcome) Full) (new : Caller) : Type 0 where
   pub on : StaysReady Tries old new
   pub told : IfOk result (λ tried. IsTried old aim.key value aim.node new tried)
   pub full : IfErr result (λ full. IsTryRefused old aim.key value words full new)
-  pub further : result ≡ Ok Again → (first : View)
+  pub further : result ≡ Ok None → (first : View)
       → HasAimed first old.token.view aim.node aim.index aim.word → CameFurther first new.token.view

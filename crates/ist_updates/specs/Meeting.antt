@@ -1,14 +1,13 @@
 -- An update that should take effect only if the key has a certain value: what each result says of
 -- it.
-use Rattle.std.specs.Prelude.{◌≡◌, ◌≢◌, ℕ, Option, None}
+use Rattle.std.specs.Prelude.{◌≡◌, ◌≢◌, ℕ, Option, Some, None}
 use Rattle.laws_histories.specs.Searching.{Searched, HasPosition}
 use Rattle.ist_rule.specs.declared.view.View.{View}
-use Rattle.ist_updates.specs.declared.updates.Tried.{Tried}
-use Rattle.ist_updates.specs.declared.updates.Tried.TheVariants as tried
+use Rattle.ist_updates.specs.declared.updates.Due.{Due}
+use Rattle.ist_updates.specs.declared.updates.Outcome.{Outcome}
+use Rattle.ist_updates.specs.declared.updates.Outcome.TheVariants.{Took, Nothing, Unmet}
 use Rattle.ist_updates.specs.declared.updates.When.{When}
 use Rattle.ist_updates.specs.declared.updates.When.TheVariants.{Always, Had}
-use Rattle.ist_updates.specs.declared.walking.Walked.{Walked}
-use Rattle.ist_updates.specs.declared.walking.Walked.TheVariants as walked
 
 -- the update should take effect if the key has this value
 abbrev pub IsMetBy : When → Option ℕ → Type 0
@@ -20,28 +19,37 @@ abbrev pub IsMissedBy : When → Option ℕ → Type 0
 IsMissedBy Always had = ⊥
 IsMissedBy (Had value) had = had ≢ value
 
--- ---- the value that an update replaced
+-- ---- what an outcome says
+
+-- the value that the key had before the update took effect
+abbrev pub reply_in : Outcome → Option ℕ
+reply_in (Took done) = done.reply
+reply_in Nothing = None
+reply_in Unmet = None
+
+-- the topmost row that the update made due
+abbrev pub due_in : Outcome → Option Due
+due_in (Took done) = done.due
+due_in Nothing = None
+due_in Unmet = None
+
+-- if the update took effect, or found nothing to remove, the key had a value at which it should
+abbrev pub IsMetAs : When → Outcome → Type 0
+IsMetAs when (Took done) = IsMetBy when done.reply
+IsMetAs when Nothing = IsMetBy when None
+IsMetAs when Unmet = Unit {0}
+
+-- the same for a walk, which may have to begin again
+abbrev pub IsTryMet : When → Option Outcome → Type 0
+IsTryMet when (Some outcome) = IsMetAs when outcome
+IsTryMet when None = Unit {0}
 
 -- the update replaced this value, or there is no value and there was nothing to remove
-abbrev pub RepliesWith : Option ℕ → Tried → Type 0
-RepliesWith had (tried.Took reply) = reply ≡ had
-RepliesWith had tried.Nothing = had ≡ None
-RepliesWith had tried.Again = Unit {0}
-RepliesWith had tried.Unmet = ⊥
-
--- if the try took effect, or found nothing to remove, the key had a value at which it should
-abbrev pub IsMetAs : When → Tried → Type 0
-IsMetAs when (tried.Took reply) = IsMetBy when reply
-IsMetAs when tried.Nothing = IsMetBy when None
-IsMetAs when tried.Again = Unit {0}
-IsMetAs when tried.Unmet = Unit {0}
-
--- the same for a walk
-abbrev pub IsWalkMet : When → Walked → Type 0
-IsWalkMet when (walked.Took done) = IsMetBy when done.reply
-IsWalkMet when walked.Nothing = IsMetBy when None
-IsWalkMet when walked.Again = Unit {0}
-IsWalkMet when walked.Unmet = Unit {0}
+abbrev pub RepliesWith : Option ℕ → Option Outcome → Type 0
+RepliesWith had (Some (Took done)) = done.reply ≡ had
+RepliesWith had (Some Nothing) = had ≡ None
+RepliesWith had (Some Unmet) = ⊥
+RepliesWith had None = Unit {0}
 
 -- ---- the value at which it took no effect
 

@@ -32,8 +32,8 @@ use Rattle.laws_calls.specs.Counting.{IsOneUpdate, CountsFrom}
 use Rattle.ist_find.specs.Searches.{HasCome}
 use Rattle.ist_updates.specs.declared.updates.Applied.{Applied}
 use Rattle.ist_updates.specs.declared.updates.Due.{Due}
-use Rattle.ist_updates.specs.declared.walking.Walked.{Walked}
-use Rattle.ist_updates.specs.declared.walking.Walked.TheVariants.{Took, Nothing, Again, Unmet}
+use Rattle.ist_updates.specs.declared.updates.Outcome.{Outcome}
+use Rattle.ist_updates.specs.declared.updates.Outcome.TheVariants.{Took, Nothing, Unmet}
 use Rattle.ist_updates.specs.Asking.{command_for, IsAsked}
 use Rattle.ist_updates.specs.Counting.{WasCounted, CameToLimit}
 use Rattle.ist_updates.specs.Refusals.{IsUpdateRefused}
@@ -142,18 +142,18 @@ pub record IsNotThere (v w : View) (key : ℕ) (value : Option ℕ) : Type 0 whe
   pub found : HasFoundNone w key
   pub since : w.loads.since ≡ v.loads.since
 
--- what each result of the walk from the node on means
-abbrev pub HasWalked : Caller → ℕ → Option ℕ → ℕ → ℕ → Result Walked Full → Caller → Type 0
-HasWalked old key value node words (Ok (Took done)) new =
+-- what each result of the walk from the node on means: with `None` it must begin again
+abbrev pub HasWalked : Caller → ℕ → Option ℕ → ℕ → ℕ → Result (Option Outcome) Full → Caller → Type 0
+HasWalked old key value node words (Ok (Some (Took done))) new =
     (first : View) (rows : List ℕ) → HasTriedSince first old.token.view old.number
     → HasCome old.token.view key node rows
     → HasCounted old.token.view.start old.token.view.words first.log new.token.view.log old.number
     (command_for key value) rows done
-HasWalked old key value node words (Ok Nothing) new =
+HasWalked old key value node words (Ok (Some Nothing)) new =
     IsAskedStill old new (command_for key value)
     × IsNotThere old.token.view new.token.view key value
-HasWalked old key value node words (Ok Again) new = IsAskedStill old new (command_for key value)
-HasWalked old key value node words (Ok Unmet) new = IsAskedStill old new (command_for key value)
+HasWalked old key value node words (Ok None) new = IsAskedStill old new (command_for key value)
+HasWalked old key value node words (Ok (Some Unmet)) new = IsAskedStill old new (command_for key value)
 HasWalked old key value node words (Err full) new =
     IsAskedStill old new (command_for key value)
     × ((first : View) → BeganSince first old.token.view

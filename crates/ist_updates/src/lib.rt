@@ -15,5 +15,5 @@ mod trying;
 mod updates;
 mod walking;
 
-pub use applying::{apply, apply_when};
-pub use updates::{Applied, Due, When};
+pub use applying::apply;
+pub use updates::{Applied, Due, Outcome, Update, When};

@@ -1,27 +1,23 @@
 //! Trying an update at the slot of its key.
-ghost use Rattle.std.specs.Prelude.{◌≡◌, ◌≢◌, ℕ, true, false, Option, Some, None, Ok, IfOk, IfErr};
+ghost use Rattle.std.specs.Prelude.{◌≡◌, ◌≢◌, true, false, Option, Some, None, Ok, IfOk};
 ghost use Rattle.ist_updates.specs.declared.updates.When.{When as WhenOf};
-ghost use Rattle.ist_updates.specs.declared.updates.Tried.TheVariants.{Took, Nothing, Again, Unmet};
+ghost use Rattle.ist_updates.specs.declared.updates.Outcome.TheVariants.{Unmet};
 ghost use Rattle.ist_core.specs.Changes.{value_in};
 ghost use Rattle.ist_core.specs.Pieces.{Leaf};
 ghost use Rattle.ist_core.specs.References.{Empty, LeafAt, ChangeAt, RebuildAt, ref_of};
 ghost use Rattle.ist_rule.specs.Learning.{now, GoesOnTo};
-ghost use Rattle.laws_coming.specs.Further.{CameFurther};
-ghost use Rattle.ist_updates.specs.Further.{IsFreshNode};
-ghost use Rattle.ist_rule.specs.declared.view.View.{View};
 ghost use Rattle.ist_find.specs.Searches.{SeesLeaf};
-ghost use Rattle.ist_updates.specs.Answering.{HasTried};
+ghost use Rattle.ist_updates.specs.Answering.{HasTried, just_took};
 ghost use Rattle.ist_updates.specs.Changing.{WasAtSlot};
 ghost use Rattle.ist_rule.specs.Faces.{word_count_of};
-ghost use Rattle.ist_rows.specs.Going.{StaysReady};
 ghost use Rattle.ist_updates.specs.Asking.{command_for, IsAsked};
-ghost use Rattle.ist_updates.specs.Meeting.{IsMetBy, IsMissedBy, RepliesWith, IsMetAs, HasMissed};
-ghost use Rattle.ist_updates.specs.Refusals.{IsUpdateRefused};
-ghost use Rattle.ist_updates.specs.Trying.{Tries, BeganSince, IsAtSlot, HasFoundNone, HasTakenEffect};
+ghost use Rattle.ist_updates.specs.Ending.{IsWalk};
+ghost use Rattle.ist_updates.specs.Meeting.{IsMetBy, IsMissedBy, RepliesWith, IsTryMet, HasMissed};
+ghost use Rattle.ist_updates.specs.Trying.{IsAtSlot};
 
 use crate::changing::change_slot;
 use crate::plans::{Aim, Way};
-use crate::updates::{Tried, When};
+use crate::updates::{Applied, Outcome, Update, When};
 use ist_core::{Full, LeafRow, Reply};
 use ist_dcss::help;
 use ist_find::{Child, leaf_pair};
@@ -30,16 +26,18 @@ use ist_rebuild::help_rebuild;
 use ist_rows::Caller;
 use ist_rule::{TreeTable, TreeToken, know};
 
+// The result of a try is `None` if the walk must begin again.
+
 // What a try returns if its change was decided so.
-fn answer(taken: bool, reply: Reply) -> Tried
-    ensures took { taken ≡ true → result ≡ Took reply }
-    ensures again { taken ≡ false → result ≡ Again }
+fn answer(taken: bool, reply: Reply) -> Option<Outcome>
+    ensures took { taken ≡ true → result ≡ Some (just_took reply) }
+    ensures again { taken ≡ false → result ≡ None }
     ensures replies { RepliesWith reply result }
 {
     if taken {
-        Tried::Took(reply)
+        Some(Outcome::Took(Applied { reply, due: None }))
     } else {
-        Tried::Again
+        None
     }
 }
 
@@ -85,29 +83,28 @@ fn try_empty(
     table: &TreeTable,
     who: &mut Caller,
     aim: Aim,
-    value: Option<u64>,
-    when: When,
-) -> Result<Tried, Full>
+    update: Update,
+) -> Result<Option<Outcome>, Full>
     requires same_table { who.old.token.table ≡ table.now.table }
-    requires asked { IsAsked who.old (command_for aim.key value) }
+    requires asked { IsAsked who.old (command_for aim.key update.value) }
     requires at_slot { WasAtSlot who.old.token.view aim }
     requires empty { ref_of aim.word ≡ Some Empty }
     ensures same_table { who.new.token.table ≡ table.now.table }
-    ensures tried { HasTried who.old aim value (word_count_of table.now) result who.new }
-    ensures met { IfOk result (IsMetAs when) }
-    ensures missed { result ≡ Ok Unmet
-        → HasMissed who.old.token.view who.new.token.view aim.key when }
+    ensures tried { HasTried who.old aim update.value (word_count_of table.now) result who.new }
+    ensures met { IfOk result (IsTryMet update.when) }
+    ensures missed { result ≡ Ok (Some Unmet)
+        → HasMissed who.old.token.view who.new.token.view aim.key update.when }
 {
     know(&who.token);
-    if !meets(when, None) {
-        return Ok(Tried::Unmet);
+    if !meets(update.when, None) {
+        return Ok(Some(Outcome::Unmet));
     }
-    match value {
+    match update.value {
         Some(value) => {
             let taken = change_slot(table, who, aim, Way::Leaf { value })?;
             Ok(answer(taken, None))
         }
-        None => Ok(Tried::Nothing),
+        None => Ok(Some(Outcome::Nothing)),
     }
 }
 
@@ -119,7 +116,7 @@ fn put_at(
     value: u64,
     base: u32,
     leaf: LeafRow,
-) -> Result<Tried, Full>
+) -> Result<Option<Outcome>, Full>
     requires same_table { who.old.token.table ≡ table.now.table }
     requires asked { IsAsked who.old (command_for aim.key (Some value)) }
     requires at_slot { WasAtSlot who.old.token.view aim }
@@ -149,7 +146,7 @@ fn remove_at(
     aim: Aim,
     base: u32,
     leaf: LeafRow,
-) -> Result<Tried, Full>
+) -> Result<Option<Outcome>, Full>
     requires same_table { who.old.token.table ≡ table.now.table }
     requires asked { IsAsked who.old (command_for aim.key None) }
     requires at_slot { WasAtSlot who.old.token.view aim }
@@ -161,41 +158,10 @@ fn remove_at(
 {
     know(&who.token);
     if leaf.key != aim.key {
-        return Ok(Tried::Nothing);
+        return Ok(Some(Outcome::Nothing));
     }
     let removed = change_slot(table, who, aim, Way::Clear)?;
     Ok(answer(removed, Some(leaf.value)))
-}
-
-// Tries the update at a slot that holds this leaf.
-fn try_read(
-    table: &TreeTable,
-    who: &mut Caller,
-    aim: Aim,
-    value: Option<u64>,
-    when: When,
-    base: u32,
-    leaf: LeafRow,
-) -> Result<Tried, Full>
-    requires same_table { who.old.token.table ≡ table.now.table }
-    requires asked { IsAsked who.old (command_for aim.key value) }
-    requires at_slot { WasAtSlot who.old.token.view aim }
-    requires leaf { ref_of aim.word ≡ Some (LeafAt base) }
-    requires stands { (now who.old.token.view).pieces base ≡ Some (Leaf leaf) }
-    ensures same_table { who.new.token.table ≡ table.now.table }
-    ensures tried { HasTried who.old aim value (word_count_of table.now) result who.new }
-    ensures met { IfOk result (IsMetAs when) }
-    ensures missed { result ≡ Ok Unmet
-        → HasMissed who.old.token.view who.new.token.view aim.key when }
-{
-    know(&who.token);
-    if !meets(when, had_in(leaf, aim.key)) {
-        return Ok(Tried::Unmet);
-    }
-    match value {
-        Some(value) => put_at(table, who, aim, value, base, leaf),
-        None => remove_at(table, who, aim, base, leaf),
-    }
 }
 
 // Tries the update at a slot that holds a leaf.
@@ -203,23 +169,29 @@ fn try_leaf(
     table: &TreeTable,
     who: &mut Caller,
     aim: Aim,
-    value: Option<u64>,
-    when: When,
+    update: Update,
     base: u32,
-) -> Result<Tried, Full>
+) -> Result<Option<Outcome>, Full>
     requires same_table { who.old.token.table ≡ table.now.table }
-    requires asked { IsAsked who.old (command_for aim.key value) }
+    requires asked { IsAsked who.old (command_for aim.key update.value) }
     requires at_slot { WasAtSlot who.old.token.view aim }
     requires leaf { ref_of aim.word ≡ Some (LeafAt base) }
     ensures same_table { who.new.token.table ≡ table.now.table }
-    ensures tried { HasTried who.old aim value (word_count_of table.now) result who.new }
-    ensures met { IfOk result (IsMetAs when) }
-    ensures missed { result ≡ Ok Unmet
-        → HasMissed who.old.token.view who.new.token.view aim.key when }
+    ensures tried { HasTried who.old aim update.value (word_count_of table.now) result who.new }
+    ensures met { IfOk result (IsTryMet update.when) }
+    ensures missed { result ≡ Ok (Some Unmet)
+        → HasMissed who.old.token.view who.new.token.view aim.key update.when }
 {
     know(&who.token);
     let leaf = read_leaf(table, &mut who.token, base);
-    try_read(table, who, aim, value, when, base, leaf)
+    know(&who.token);
+    if !meets(update.when, had_in(leaf, aim.key)) {
+        return Ok(Some(Outcome::Unmet));
+    }
+    match update.value {
+        Some(value) => put_at(table, who, aim, value, base, leaf),
+        None => remove_at(table, who, aim, base, leaf),
+    }
 }
 
 // Helps the change in the slot.
@@ -227,22 +199,22 @@ fn help_change(
     table: &TreeTable,
     who: &mut Caller,
     aim: Aim,
-    value: Option<u64>,
+    update: Update,
     base: u32,
-) -> Tried
+) -> Option<Outcome>
     requires same_table { who.old.token.table ≡ table.now.table }
-    requires asked { IsAsked who.old (command_for aim.key value) }
+    requires asked { IsAsked who.old (command_for aim.key update.value) }
     requires at_slot { IsAtSlot who.old.token.view aim.key aim.node aim.index aim.word }
     requires change { ref_of aim.word ≡ Some (ChangeAt base) }
     ensures same_table { who.new.token.table ≡ table.now.table }
-    ensures again { result ≡ Again }
+    ensures again { result ≡ None }
     ensures tried { let words = word_count_of table.now in
-        HasTried who.old aim value words (Ok result) who.new }
+        HasTried who.old aim update.value words (Ok result) who.new }
 {
     know(&who.token);
     // Okay, Decide and Resolve. Meets another helper's, and a mark of the node.
     help(table, &mut who.token, base);
-    Tried::Again
+    None
 }
 
 // Helps the rebuild in the slot.
@@ -250,51 +222,22 @@ fn help_target(
     table: &TreeTable,
     who: &mut Caller,
     aim: Aim,
-    value: Option<u64>,
+    update: Update,
     base: u32,
-) -> Result<Tried, Full>
+) -> Result<Option<Outcome>, Full>
     requires same_table { who.old.token.table ≡ table.now.table }
-    requires asked { IsAsked who.old (command_for aim.key value) }
+    requires asked { IsAsked who.old (command_for aim.key update.value) }
     requires at_slot { IsAtSlot who.old.token.view aim.key aim.node aim.index aim.word }
     requires rebuild { ref_of aim.word ≡ Some (RebuildAt base) }
     ensures same_table { who.new.token.table ≡ table.now.table }
-    ensures tried { HasTried who.old aim value (word_count_of table.now) result who.new }
-    ensures met { (when : WhenOf) → IfOk result (IsMetAs when) }
-    ensures unmissed { result ≢ Ok Unmet }
+    ensures tried { HasTried who.old aim update.value (word_count_of table.now) result who.new }
+    ensures met { (when : WhenOf) → IfOk result (IsTryMet when) }
+    ensures unmissed { result ≢ Ok (Some Unmet) }
 {
     know(&who.token);
     // Only steps of its help, and of installs only the finish's. Meets other helpers of the rebuild.
     help_rebuild(table, who, base)?;
-    Ok(Tried::Again)
-}
-
-// Tries the update, according to what the word of the slot names.
-fn try_word(
-    table: &TreeTable,
-    who: &mut Caller,
-    aim: Aim,
-    value: Option<u64>,
-    when: When,
-) -> Result<Tried, Full>
-    requires same_table { who.old.token.table ≡ table.now.table }
-    requires asked { IsAsked who.old (command_for aim.key value) }
-    requires at_slot { IsAtSlot who.old.token.view aim.key aim.node aim.index aim.word }
-    ensures same_table { who.new.token.table ≡ table.now.table }
-    ensures tried { HasTried who.old aim value (word_count_of table.now) result who.new }
-    ensures met { IfOk result (IsMetAs when) }
-    ensures missed { result ≡ Ok Unmet
-        → HasMissed who.old.token.view who.new.token.view aim.key when }
-{
-    know(&who.token);
-    match Ref::from_word(aim.word) {
-        Some(Ref::Empty) => try_empty(table, who, aim, value, when),
-        Some(Ref::Leaf { base }) => try_leaf(table, who, aim, value, when, base),
-        Some(Ref::Change { base }) => Ok(help_change(table, who, aim, value, base)),
-        Some(Ref::Rebuild { base }) => help_target(table, who, aim, value, base),
-        Some(Ref::Inner { base: _ }) => unreachable!(),
-        Some(Ref::Unset) => unreachable!(),
-        None => unreachable!(),
-    }
+    Ok(None)
 }
 
 /// Tries the update once, at the slot at which its walk ended.
@@ -305,40 +248,32 @@ fn try_word(
 pub(crate) fn try_slot(
     table: &TreeTable,
     who: &mut Caller,
-    key: u64,
-    value: Option<u64>,
-    when: When,
+    update: Update,
     node: u32,
     child: Child,
-) -> Result<Tried, Full>
+) -> Result<Option<Outcome>, Full>
     requires same_table { who.old.token.table ≡ table.now.table }
-    requires asked { IsAsked who.old (command_for key value) }
-    requires at_slot { IsAtSlot who.old.token.view key node child.index child.word }
+    requires asked { IsAsked who.old (command_for update.key update.value) }
+    requires at_slot { IsAtSlot who.old.token.view update.key node child.index child.word }
     ensures same_table { who.new.token.table ≡ table.now.table }
-    ensures on { StaysReady Tries who.old who.new }
-    ensures took { let v = who.old.token.view in (reply : Option ℕ) → result ≡ Ok (Took reply)
-        → HasTakenEffect v who.new.token.view who.old.number (command_for key value) node reply }
-    ensures nothing { result ≡ Ok Nothing
-        → (value ≡ None) × HasFoundNone who.new.token.view key × IsAsked who.new (command_for key value) }
-    ensures since { result ≡ Ok Nothing
-        → who.new.token.view.loads.since ≡ who.old.token.view.loads.since }
-    ensures again { result ≡ Ok Again → IsAsked who.new (command_for key value) }
-    ensures further { result ≡ Ok Again → (first : View) → IsFreshNode first who.old.token.view node
-        → CameFurther first who.new.token.view }
-    ensures unmet { result ≡ Ok Unmet → IsAsked who.new (command_for key value) }
-    ensures met { IfOk result (IsMetAs when) }
-    ensures missed { result ≡ Ok Unmet
-        → HasMissed who.old.token.view who.new.token.view key when }
-    ensures full { IfErr result (λ full. (first : View) → BeganSince first who.old.token.view
-        → IsUpdateRefused first key value (word_count_of table.now) full who.new.token.view) }
-    ensures still { IfErr result (λ full. IsAsked who.new (command_for key value)) }
+    ensures walk { IsWalk who.old update.key update.value update.when node (word_count_of table.now)
+        result who.new }
 {
     know(&who.token);
     let aim = Aim {
         node,
         index: child.index,
         word: child.word,
-        key,
+        key: update.key,
     };
-    try_word(table, who, aim, value, when)
+    match Ref::from_word(aim.word) {
+        Some(Ref::Empty) => try_empty(table, who, aim, update),
+        Some(Ref::Leaf { base }) => try_leaf(table, who, aim, update, base),
+        Some(Ref::Change { base }) => Ok(help_change(table, who, aim, update, base)),
+        Some(Ref::Rebuild { base }) => help_target(table, who, aim, update, base),
+        // No walk ends at such a word.
+        Some(Ref::Inner { base: _ }) => Ok(None),
+        Some(Ref::Unset) => Ok(None),
+        None => Ok(None),
+    }
 }

@@ -1,5 +1,9 @@
-//! What an update returns.
-use ist_core::Reply;
+//! An update, and what it returns.
+ghost use Rattle.std.specs.Prelude.{◌≡◌};
+ghost use Rattle.ist_updates.specs.Asking.{command_for};
+ghost use Rattle.ist_updates.specs.Meeting.{due_in, reply_in};
+
+use ist_core::{Command, Reply};
 
 /// At which value of its key an update should take effect.
 #[derive(Clone, Copy, Debug, PartialEq, Eq, Drop)]
@@ -10,6 +14,30 @@ pub enum When {
     Had(Reply),
 }
 
+/// One put or remove of a key.
+#[derive(Clone, Copy, Debug, PartialEq, Eq, Drop)]
+pub struct Update {
+    pub key: u64,
+    /// The value to put, or `None` to remove the key.
+    pub value: Option<u64>,
+    pub when: When,
+}
+
+impl Update {
+    /// The put or remove as a command of the map.
+    pub fn command(self) -> Command
+        ensures value { result ≡ command_for self.key self.value }
+    {
+        match self.value {
+            Some(value) => Command::Put {
+                key: self.key,
+                value,
+            },
+            None => Command::Remove { key: self.key },
+        }
+    }
+}
+
 /// A row whose count reached its limit, with the slot of its parent that holds it.
 #[derive(Clone, Copy, Debug, PartialEq, Eq, Drop)]
 pub struct Due {
@@ -18,7 +46,7 @@ pub struct Due {
     pub target: u32,
 }
 
-/// An update that took effect, or a remove that found nothing.
+/// What an update that took effect leaves.
 #[derive(Clone, Copy, Debug, PartialEq, Eq, Drop)]
 pub struct Applied {
     /// The value that the key had before.
@@ -27,15 +55,37 @@ pub struct Applied {
     pub due: Option<Due>,
 }
 
-/// The result of trying an update at a slot.
+/// How an update ended.
 #[derive(Clone, Copy, Debug, PartialEq, Eq, Drop)]
-pub(crate) enum Tried {
-    /// It took effect, and the key had this value before.
-    Took(Reply),
+pub enum Outcome {
+    /// It took effect, and was counted at the rows on its way.
+    Took(Applied),
     /// There is nothing to remove.
     Nothing,
-    /// The walk must begin again.
-    Again,
     /// The key has a value at which the update shouldn't take effect.
     Unmet,
+}
+
+impl Outcome {
+    /// The value that the key had before the update took effect.
+    pub fn reply(self) -> Reply
+        ensures value { result ≡ reply_in self }
+    {
+        match self {
+            Outcome::Took(done) => done.reply,
+            Outcome::Nothing => None,
+            Outcome::Unmet => None,
+        }
+    }
+
+    /// The topmost row that the update made due.
+    pub fn due(self) -> Option<Due>
+        ensures value { result ≡ due_in self }
+    {
+        match self {
+            Outcome::Took(done) => done.due,
+            Outcome::Nothing => None,
+            Outcome::Unmet => None,
+        }
+    }
 }

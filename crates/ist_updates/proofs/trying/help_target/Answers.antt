@@ -21,10 +21,10 @@ pub returns-in_err-help_rebuild-clause-tried : goal.returns-in_err-help_rebuild-
 returns-in_err-help_rebuild-clause-tried c =
     let on = c.help_rebuild.ensures.helped.on in
     let still = asked_served _ _ _ c.requires.asked on.gone on.quiet.resolved in
-    let h = refused_tried _ _ c.args.aim c.args.value _ _
-    (gone_all ServesRebuild Tries serves_tries _ _ on.gone) (refused_still c.args.who.now c.help_rebuild.new.who c.args.aim.key c.args.value _ _ still
+    let h = refused_tried _ _ c.args.aim c.args.update.value _ _
+    (gone_all ServesRebuild Tries serves_tries _ _ on.gone) (refused_still c.args.who.now c.help_rebuild.new.who c.args.aim.key c.args.update.value _ _ still
     (help_refused _ c.know.ensures.sound c.args.aim.key c.args.aim.node c.args.aim.index
-    c.args.aim.word c.args.base c.requires.at_slot c.requires.rebuild c.args.value _ _ _
+    c.args.aim.word c.args.base c.requires.at_slot c.requires.rebuild c.args.update.value _ _ _
     c.in_err-help_rebuild.ensures.full)) in
     search rules
 
@@ -33,7 +33,7 @@ pub returns-clause-tried : goal.returns-clause-tried
 returns-clause-tried c =
     let h = c.help_rebuild.ensures in let on = h.helped.on in
     let was = c.in_ok-help_rebuild.was in
-    again_tried _ _ c.args.aim c.args.value _ (gone_all ServesRebuild Tries serves_tries _ _ on.gone)
+    again_tried _ _ c.args.aim c.args.update.value _ (gone_all ServesRebuild Tries serves_tries _ _ on.gone)
     (asked_served _ _ _ c.requires.asked on.gone on.quiet.resolved)
     (λ first aimed. target_further first _ _ _ _ _ aimed (after_went ServesRebuild _ _ on.gone.went)
     on.gone.went.sound c.args.base c.requires.rebuild c.in_ok-help_rebuild.field-0

@@ -11,24 +11,24 @@ use Rattle.ist_updates.proofs.trying.try_empty.Goals as goal
 -- the key has no value, but the update requires one
 pub returns-then-not-meets-clause-tried : goal.returns-then-not-meets-clause-tried
 returns-then-not-meets-clause-tried c =
-    unmet_tried _ c.args.aim c.args.value _ c.know.ensures.sound c.requires.asked
+    unmet_tried _ c.args.aim c.args.update.value _ c.know.ensures.sound c.requires.asked
 
 pub returns-then-not-meets-clause-missed : goal.returns-then-not-meets-clause-missed
 returns-then-not-meets-clause-missed c e =
-    none_missed _ _ (goes_on_same _ c.know.ensures.sound) c.args.aim c.requires.at_slot c.args.when
+    none_missed _ _ (goes_on_same _ c.know.ensures.sound) c.args.aim c.requires.at_slot c.args.update.when
     c.requires.empty (c.if-not-meets.ensures.missed refl)
 
 -- a put
 pub returns-in_err-taken-in-Some-clause-tried : goal.returns-in_err-taken-in-Some-clause-tried
 returns-in_err-taken-in-Some-clause-tried c =
-    let h = put_unchanged c.args.value c.in-Some.value c.in-Some.is
+    let h = put_unchanged c.args.update.value c.in-Some.value c.in-Some.is
     (ap (command_for c.args.aim.key) (sym c.in-Some.is)) c.in_err-taken-in-Some.ensures.changed
     (λ first began k. ⊎_elim (λ e. inl e) (λ e. inr (inr e)) k) in
     search rules
 
 pub returns-in_ok-taken-in-Some-clause-tried : goal.returns-in_ok-taken-in-Some-clause-tried
 returns-in_ok-taken-in-Some-clause-tried c =
-    changed_tried c.args.value c.answer.result None
+    changed_tried c.args.update.value c.answer.result None
     (ap (command_for c.args.aim.key) (sym c.in-Some.is)) c.in_ok-taken-in-Some.ensures.changed
     c.answer.ensures.took c.answer.ensures.again
     (ap (λ r. value_at (now c.args.who.now.token.view).pieces r c.args.aim.key) c.requires.empty)
@@ -36,5 +36,5 @@ returns-in_ok-taken-in-Some-clause-tried c =
 -- nothing is there to remove
 pub returns-in-None-clause-tried : goal.returns-in-None-clause-tried
 returns-in-None-clause-tried c =
-    nothing_tried _ c.args.aim c.args.value _ c.know.ensures.sound c.requires.asked c.in-None.is
+    nothing_tried _ c.args.aim c.args.update.value _ c.know.ensures.sound c.requires.asked c.in-None.is
     (found_nothing _ c.args.aim c.requires.at_slot c.requires.empty)

@@ -1,31 +1,57 @@
-use Rattle.ist_rule.specs.Faces.{word_count_of}
-use Rattle.ist_updates.proofs.FurtherLemmas.{slot_aimed}
-use Rattle.ist_updates.proofs.TriedLemmas.{told_took, told_nothing, told_again, told_unmet, told_full, told_still}
+use Rattle.std.proofs.Common.{rules}
+use Rattle.ist_rule.proofs.GoingOnLemmas.{goes_on_same}
+use Rattle.ist_updates.proofs.TriedWalkLemmas.{tried_walk, none_met, none_unmet}
 use Rattle.ist_updates.proofs.trying.try_slot.Goals as goal
 
--- each clause by what came of the try
-pub returns : goal.returns
-returns c =
-    let t = c.try_word.ensures.tried in
+-- the caller is at the slot
+pub try_leaf-requires-clause-at_slot : goal.try_leaf-requires-clause-at_slot
+try_leaf-requires-clause-at_slot c =
     record {
-      same_table = c.try_word.ensures.same_table;
-      on = t.on;
-      took = told_took c.args.who.now c.try_word.new.who c.args.key c.args.value c.args.node
-          c.try_word.result t.told;
-      nothing = λ e. (let it = told_nothing c.args.who.now c.try_word.new.who c.args.key c.args.value
-          c.args.node c.try_word.result t.told e in (it.0, it.1, it.2));
-      since = λ e. (told_nothing c.args.who.now c.try_word.new.who c.args.key c.args.value
-          c.args.node c.try_word.result t.told e).3;
-      again = told_again c.args.who.now c.try_word.new.who c.args.key c.args.value c.args.node
-          c.try_word.result t.told;
-      unmet = told_unmet c.args.who.now c.try_word.new.who c.args.key c.args.value c.args.node
-          c.try_word.result t.told;
-      met = c.try_word.ensures.met;
-      missed = c.try_word.ensures.missed;
-      full = told_full c.args.who.now c.try_word.new.who c.args.key c.args.value
-          (word_count_of c.args.table.now) c.try_word.result t.full;
-      still = told_still c.args.who.now c.try_word.new.who c.args.key c.args.value
-          (word_count_of c.args.table.now) c.try_word.result t.full;
-      further = λ is first fresh. t.further is first
-          (slot_aimed first _ c.args.key _ _ _ c.know.ensures.sound c.requires.at_slot fresh);
+      before = c.args.who.now.token.view;
+      at = c.requires.at_slot;
+      sound = c.know.ensures.sound;
+      seen = goes_on_same _ c.know.ensures.sound;
     }
+
+pub try_empty-requires-clause-at_slot : goal.try_empty-requires-clause-at_slot
+try_empty-requires-clause-at_slot c =
+    record {
+      before = c.args.who.now.token.view;
+      at = c.requires.at_slot;
+      sound = c.know.ensures.sound;
+      seen = goes_on_same _ c.know.ensures.sound;
+    }
+
+-- the try is the walk
+pub returns-in-Some-Leaf-clause-walk : goal.returns-in-Some-Leaf-clause-walk
+returns-in-Some-Leaf-clause-walk c =
+    let e = c.try_leaf.ensures in
+    tried_walk c.requires.asked c.know.ensures.sound c.requires.at_slot e.tried e.met e.missed
+
+pub returns-in-Some-Change-clause-walk : goal.returns-in-Some-Change-clause-walk
+returns-in-Some-Change-clause-walk c =
+    let e = c.help_change.ensures in
+    tried_walk c.requires.asked c.know.ensures.sound c.requires.at_slot e.tried
+    (none_met c.args.update.when c.help_change.result e.again)
+    (λ is. absurd (none_unmet c.help_change.result e.again is))
+
+pub returns-in-Some-Rebuild-clause-walk : goal.returns-in-Some-Rebuild-clause-walk
+returns-in-Some-Rebuild-clause-walk c =
+    let e = c.help_target.ensures in
+    tried_walk c.requires.asked c.know.ensures.sound c.requires.at_slot e.tried
+    (e.met c.args.update.when) (λ is. absurd (e.unmissed is))
+
+pub returns-in-Some-Empty-clause-walk : goal.returns-in-Some-Empty-clause-walk
+returns-in-Some-Empty-clause-walk c =
+    let e = c.try_empty.ensures in
+    tried_walk c.requires.asked c.know.ensures.sound c.requires.at_slot e.tried e.met e.missed
+
+-- the word names a leaf, a change, a rebuild or nothing
+pub returns-in-Some-Inner-clause-walk : goal.returns-in-Some-Inner-clause-walk
+returns-in-Some-Inner-clause-walk c = absurd (search rules)
+
+pub returns-in-Some-Unset-clause-walk : goal.returns-in-Some-Unset-clause-walk
+returns-in-Some-Unset-clause-walk c = absurd (search rules)
+
+pub returns-in-None-clause-walk : goal.returns-in-None-clause-walk
+returns-in-None-clause-walk c = absurd (search rules)

@@ -1,17 +1,18 @@
 use borrow.Author.Gap.{counting}
 use borrow.Author.Rules.{rules}
-use Rattle.std.proofs.Common.{ℕ, subst, ◌∙◌}
+use Rattle.std.proofs.Common.{ℕ, Some, ap, subst, ◌∙◌}
 use Rattle.ist_rule.proofs.WentOnLemmas.{goes_on_went}
 use Rattle.ist_find.specs.Searches.{Names}
 use Rattle.ist_find.proofs.RowLemmas.{not_anchor}
 use Rattle.ist_updates.proofs.AskedStillLemmas.{NoEvent, asked_went}
 use Rattle.ist_updates.proofs.DescentLemmas.{IsDown, at_slot, below_walk, come_back, here_walk, refused_walk}
+use Rattle.ist_updates.proofs.ResultLemmas.{none_took, not_took}
 use Rattle.ist_updates.proofs.walking.+descend.Goals as goal
 use Rattle.ist_updates.proofs.walking.+descend.Goals.{After-step_down-child}
 
 -- the step down
 down : (t : ℕ) (c : After-step_down-child t) → IsDown c.args.who.now c.step_down-child.new.token
-    c.args.key c.args.value c.args.node c.step_down-child.result.index c.step_down-child.result.word
+    c.args.update.key c.args.update.value c.args.node c.step_down-child.result.index c.step_down-child.result.word
 down t c =
     let e = c.step_down-child.ensures in
     record {
@@ -29,18 +30,18 @@ down t c =
 
 -- ---- if the walk ends here
 
-pub try_at-requires-clause-asked : goal.try_at-requires-clause-asked
-try_at-requires-clause-asked t c =
-    (down t (goal.at.try_at-requires-clause-asked t c).After-step_down-child).asked
+pub try_slot-requires-clause-asked : goal.try_slot-requires-clause-asked
+try_slot-requires-clause-asked t c =
+    (down t (goal.at.try_slot-requires-clause-asked t c).After-step_down-child).asked
 
-pub try_at-requires-clause-at_slot : goal.try_at-requires-clause-at_slot
-try_at-requires-clause-at_slot t c =
-    at_slot (down t (goal.at.try_at-requires-clause-at_slot t c).After-step_down-child)
+pub try_slot-requires-clause-at_slot : goal.try_slot-requires-clause-at_slot
+try_slot-requires-clause-at_slot t c =
+    at_slot (down t (goal.at.try_slot-requires-clause-at_slot t c).After-step_down-child)
     (c.inner_in.ensures.no_inner c.in_default.is)
 
 pub returns-in_default-clause-walk : goal.returns-in_default-clause-walk
 returns-in_default-clause-walk t c =
-    let e = c.try_at.ensures in
+    let e = c.try_slot.ensures.walk in
     here_walk (down t (goal.at.returns-in_default-clause-walk t c).After-step_down-child)
     e.on e.walked e.further e.met e.missed
 
@@ -67,32 +68,38 @@ descend-requires t c =
       ),
     )
 
-pub returns-in_err-other-clause-walk : goal.returns-in_err-other-clause-walk
-returns-in_err-other-clause-walk t c =
-    refused_walk (down t (goal.at.returns-in_err-other-clause-walk t c).After-step_down-child)
+pub returns-in_err-outcome-clause-walk : goal.returns-in_err-outcome-clause-walk
+returns-in_err-outcome-clause-walk t c =
+    refused_walk (down t (goal.at.returns-in_err-outcome-clause-walk t c).After-step_down-child)
     (c.inner_in.ensures.inner _ c.in-Some.is) c.from_residual.result c.from_residual.ensures.1
-    c.in_err-other.ensures.walk
+    c.in_err-outcome.ensures.walk
 
 -- if the walk from there took effect
 pub count_update-done-requires-clause-can : goal.count_update-done-requires-clause-can
 count_update-done-requires-clause-can t c =
     (come_back (down t (goal.at.count_update-done-requires-clause-can t c).After-step_down-child)
-    (c.inner_in.ensures.inner _ c.in-Some.is) c.in-Took.is c.in_ok-other.ensures.walk).can
+    (c.inner_in.ensures.inner _ c.in-Some.is) (c.in-Some-2.is ∙ ap Some c.in-Took.is) c.in_ok-outcome.ensures.walk).can
 
 pub count_update-done-requires-clause-stood : goal.count_update-done-requires-clause-stood
 count_update-done-requires-clause-stood t c =
     (come_back (down t (goal.at.count_update-done-requires-clause-stood t c).After-step_down-child)
-    (c.inner_in.ensures.inner _ c.in-Some.is) c.in-Took.is c.in_ok-other.ensures.walk).stood
+    (c.inner_in.ensures.inner _ c.in-Some.is) (c.in-Some-2.is ∙ ap Some c.in-Took.is) c.in_ok-outcome.ensures.walk).stood
 
 pub returns-in-Took-clause-walk : goal.returns-in-Took-clause-walk
 returns-in-Took-clause-walk t c =
     let e = c.count_update-done.ensures in
     (come_back (down t (goal.at.returns-in-Took-clause-walk t c).After-step_down-child)
-    (c.inner_in.ensures.inner _ c.in-Some.is) c.in-Took.is c.in_ok-other.ensures.walk).walk
+    (c.inner_in.ensures.inner _ c.in-Some.is) (c.in-Some-2.is ∙ ap Some c.in-Took.is) c.in_ok-outcome.ensures.walk).walk
     c.count_update-done.result c.count_update-done.new.who e.on e.counted e.reply
 
 -- and if it took none
-pub returns-in_default-2-clause-walk : goal.returns-in_default-2-clause-walk
-returns-in_default-2-clause-walk t c =
-    below_walk (down t (goal.at.returns-in_default-2-clause-walk t c).After-step_down-child)
-    (c.inner_in.ensures.inner _ c.in-Some.is) c.in_default-2.not-Took c.in_ok-other.ensures.walk
+pub returns-in_default-outcome-clause-walk : goal.returns-in_default-outcome-clause-walk
+returns-in_default-outcome-clause-walk t c =
+    below_walk (down t (goal.at.returns-in_default-outcome-clause-walk t c).After-step_down-child)
+    (c.inner_in.ensures.inner _ c.in-Some.is) c.in-Some-2.is
+    (not_took c.in-Some-2.outcome c.in_default-outcome.not-Took) c.in_ok-outcome.ensures.walk
+
+pub returns-in-None-clause-walk : goal.returns-in-None-clause-walk
+returns-in-None-clause-walk t c =
+    below_walk (down t (goal.at.returns-in-None-clause-walk t c).After-step_down-child)
+    (c.inner_in.ensures.inner _ c.in-Some.is) c.in-None.is none_took c.in_ok-outcome.ensures.walk

@@ -1,4 +1,5 @@
-use Rattle.ist_updates.specs.Asking.{command_for}
+use Rattle.std.proofs.Common.{subst, sym}
+use Rattle.ist_updates.specs.Asking.{MayEnd, command_for}
 use Rattle.test_rebuilds.proofs.UpdateLemmas.{ended_pass, may_end}
 use Rattle.test_rebuilds.proofs.updates.update.Goals as goal
 
@@ -9,11 +10,13 @@ end_call-requires c =
       done.same_table,
       may_end c.args.who.now c.ask.new.who c.apply.new.who (command_for c.args.key c.args.value)
           c.ask.ensures.sound c.requires.pass c.ask.ensures.begun c.ask.ensures.number done.went
-          done.number done.caller c.in-Ok.done.reply done.answered,
+          done.number done.caller c.reply.result
+          (subst (MayEnd c.apply.new.who (command_for c.args.key c.args.value))
+          (sym c.reply.ensures.value) (done.answered c.in_default.not-Unmet)),
     )
 
 -- and its caller is in none then
-pub returns-in-Ok-clause-pass : goal.returns-in-Ok-clause-pass
-returns-in-Ok-clause-pass c _ =
+pub returns-in_default-clause-pass : goal.returns-in_default-clause-pass
+returns-in_default-clause-pass c _ =
     ended_pass c.apply.new.who c.end_call.new.token _ c.in-Ok.ensures.caller c.in-Ok.ensures.refused
     c.end_call.ensures.ended

@@ -1,3 +1,5 @@
+use Rattle.std.proofs.Common.{subst, sym}
+use Rattle.ist_updates.specs.Counting.{LeavesDue}
 use Rattle.test_rebuilds.proofs.UpdateLemmas.{made_due}
 use Rattle.test_rebuilds.proofs.updates.update_due.Goals as goal
 
@@ -5,4 +7,6 @@ use Rattle.test_rebuilds.proofs.updates.update_due.Goals as goal
 pub returns-in-Ok-clause-due : goal.returns-in-Ok-clause-due
 returns-in-Ok-clause-due c =
     let done = c.in-Ok.ensures in
-    made_due c.ask.new.who c.apply.new.who _ done.caller done.refused done.quiet done.due
+    made_due c.ask.new.who c.apply.new.who c.due.result done.caller done.refused done.quiet
+    (subst (LeavesDue c.ask.new.who.token.view c.apply.new.who.token.view c.ask.new.who.number)
+    (sym c.due.ensures.value) done.due)

@@ -1,5 +1,5 @@
 use Rattle.ist_tree.proofs.EndingLemmas.{ended_call}
-use Rattle.ist_tree.proofs.updating.update_when.Given as goal
+use Rattle.ist_tree.proofs.updating.apply_in_call.Given as goal
 
 -- the call ends at its entry, or at the first position with its reply
 abbrev pub ghost-end_call : goal.ghost-end_call
