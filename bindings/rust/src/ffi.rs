@@ -285,6 +285,11 @@ pub(crate) struct PassHandle {
 }
 
 impl PassHandle {
+    /// The number of its tree.
+    pub(crate) fn tree(&self) -> TreeNumber {
+        self.tree
+    }
+
     pub(crate) fn find(&mut self, key: u64) -> Option<u64> {
         // SAFETY: the handle is the call's alone.
         let called = unsafe { ist_find(&mut self.handle, key) };

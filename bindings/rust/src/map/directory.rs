@@ -1,6 +1,7 @@
 //! The directory: which part has a key.
 
-use super::parts::{Part, Parts, room_for};
+use super::parts::{Part, Parts, Place, room_for};
+use super::starts::Starts;
 use crate::Error;
 use crate::shared::Shared;
 
@@ -13,19 +14,18 @@ pub(super) struct Directory {
     pub(super) version: u64,
     /// How many parts there are.
     pub(super) count: usize,
-    firsts: Vec<u64>,
-    blocks: Vec<Shared<Parts>>,
+    blocks: Starts<Shared<Parts>>,
 }
 
 // Blocks of these parts, about equally large.
-fn blocks_of(parts: &[Shared<Part>]) -> Result<Vec<Shared<Parts>>, Error> {
+fn blocks_of(parts: &[Shared<Part>]) -> Result<Vec<(u64, Shared<Parts>)>, Error> {
     let count = if parts.len() > BLOCK { parts.len().div_ceil(BLOCK / 2) } else { 1 };
     let mut blocks = room_for(count)?;
     for number in 0..count {
         let (from, to) = (number * parts.len() / count, (number + 1) * parts.len() / count);
         let mut block = room_for(to - from)?;
         block.extend_from_slice(&parts[from..to]);
-        blocks.push(Parts::of(block)?);
+        blocks.push((parts[from].first, Parts::of(block)?));
     }
     Ok(blocks)
 }
@@ -33,28 +33,23 @@ fn blocks_of(parts: &[Shared<Part>]) -> Result<Vec<Shared<Parts>>, Error> {
 impl Directory {
     /// A directory of these parts, which have all keys.
     pub(super) fn of(version: u64, parts: &[Shared<Part>]) -> Result<Shared<Directory>, Error> {
-        Directory::of_blocks(version, parts.len(), blocks_of(parts)?)
+        Shared::new(Directory { version, count: parts.len(), blocks: Starts::of(blocks_of(parts)?) })
     }
 
-    fn of_blocks(version: u64, count: usize, blocks: Vec<Shared<Parts>>) -> Result<Shared<Directory>, Error> {
-        let mut firsts = room_for(blocks.len())?;
-        firsts.extend(blocks.iter().map(|block| block.all()[0].first));
-        Shared::new(Directory { version, count, firsts, blocks })
-    }
-
-    fn block_at(&self, key: u64) -> usize {
-        self.firsts.partition_point(|first| *first <= key).saturating_sub(1)
+    /// The part that has this key, with its place.
+    #[inline]
+    pub(super) fn place(&self, key: u64) -> (Place, &Shared<Part>) {
+        self.blocks.all()[self.blocks.at(key)].1.place(key)
     }
 
     /// The part that has this key.
     pub(super) fn part(&self, key: u64) -> &Shared<Part> {
-        let block = &self.blocks[self.block_at(key)];
-        &block.all()[block.at(key)]
+        self.place(key).1
     }
 
     /// Whether the part is one of it.
     pub(super) fn has(&self, part: &Part) -> bool {
-        self.part(part.first).tree == part.tree
+        self.place(part.first).0.tree == part.place.tree
     }
 
     /// The parts that have keys from the first to the last one.
@@ -69,24 +64,26 @@ impl Directory {
 
     /// The next directory, which has other parts in place of these neighbours of it.
     pub(super) fn with(&self, next: &Parts, run: &[Shared<Part>]) -> Result<Shared<Directory>, Error> {
-        let (from, mut to) = (self.block_at(run[0].first), self.block_at(run[run.len() - 1].first) + 1);
-        let count_in = |blocks: &[Shared<Parts>]| blocks.iter().map(|block| block.all().len()).sum::<usize>();
+        let all = self.blocks.all();
+        let (from, mut to) = (self.blocks.at(run[0].first), self.blocks.at(run[run.len() - 1].first) + 1);
+        let count_in = |blocks: &[(u64, Shared<Parts>)]| blocks.iter().map(|(_, block)| block.all().len()).sum::<usize>();
         // a small block is joined with the next one
-        if count_in(&self.blocks[from..to]) < BLOCK / 4 && to < self.blocks.len() {
+        if count_in(&all[from..to]) < BLOCK / 4 && to < all.len() {
             to += 1;
         }
-        let mut parts = room_for(count_in(&self.blocks[from..to]) + next.all().len())?;
+        let mut parts = room_for(count_in(&all[from..to]) + next.all().len())?;
         let is_before = |part: &&Shared<Part>| part.first < run[0].first;
         let is_after = |part: &&Shared<Part>| part.first > run[run.len() - 1].first;
-        let old = || self.blocks[from..to].iter().flat_map(|block| block.all());
+        let old = || all[from..to].iter().flat_map(|(_, block)| block.all());
         parts.extend(old().filter(is_before).cloned());
         parts.extend_from_slice(next.all());
         parts.extend(old().filter(is_after).cloned());
         let joined = blocks_of(&parts)?;
-        let mut blocks = room_for(self.blocks.len() + joined.len())?;
-        blocks.extend_from_slice(&self.blocks[..from]);
+        let mut blocks = room_for(all.len() + joined.len())?;
+        blocks.extend_from_slice(&all[..from]);
         blocks.extend(joined);
-        blocks.extend_from_slice(&self.blocks[to..]);
-        Directory::of_blocks(self.version + 1, self.count + next.all().len() - run.len(), blocks)
+        blocks.extend_from_slice(&all[to..]);
+        let count = self.count + next.all().len() - run.len();
+        Shared::new(Directory { version: self.version + 1, count, blocks: Starts::of(blocks) })
     }
 }

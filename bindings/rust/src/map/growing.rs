@@ -3,7 +3,8 @@
 use super::directory::Directory;
 use super::hooks::Step;
 use super::inner::{Inner, Wait};
-use super::parts::{Aim, Lent, Part, Parts, Phase, Plan, opened, room_for};
+use super::parts::{Lent, Part, Parts, Phase, opened, room_for};
+use super::plans::{Aim, Plan};
 use super::slots::copy;
 use crate::shared::Shared;
 use crate::{Error, Pair};
@@ -128,9 +129,9 @@ impl Inner {
         self.reached(if is_last { Step::Stopped } else { Step::Begun });
         let mut pairs = Vec::new();
         left.iter_mut().try_for_each(|one| one.append_pairs(&mut pairs))?;
-        let Plan { count, words } = Plan::after(&run[0].served(), aim, pairs.len(), self.directory().count, &self.sizes);
+        let plan = Plan::after(&run[0].served(), aim, pairs.len(), self.directory().count, &self.sizes);
         let keys = (run[0].first, run[run.len() - 1].last);
-        let next = Parts::of(opened(&self.numbers, keys, pairs, count, words << attempt)?)?;
+        let next = Parts::of(opened(&self.numbers, keys, pairs, Plan { count: plan.count, words: plan.words << attempt })?)?;
         self.reached(Step::Opened);
         let is_made = is_last || self.catch_up(run, &mut left, &next)?;
         Ok(if is_made && self.switch(run, &next)? { Some(next) } else { None })

@@ -2,7 +2,8 @@
 
 use super::growing::claim;
 use super::inner::Inner;
-use super::parts::{Aim, Part, Parts};
+use super::parts::{Part, Parts};
+use super::plans::Aim;
 use super::sizes::SHARE;
 use crate::Pair;
 use crate::ffi::words_for;

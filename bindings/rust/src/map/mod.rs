@@ -85,9 +85,11 @@ mod merging;
 mod numbers;
 mod ordered;
 mod parts;
+mod plans;
 mod reads;
 mod sizes;
 mod slots;
+mod starts;
 mod traits;
 mod update;
 mod watch;
@@ -211,7 +213,7 @@ impl Map {
 
     fn of(words: u32, sizes: Sizes) -> Result<Map, Error> {
         let numbers = Numbers::new()?;
-        let part = Part::open(&numbers, 0, u64::MAX, words, Vec::new())?;
+        let part = Part::open(&numbers, (0, u64::MAX), words, Vec::new())?;
         Ok(Map { inner: Inner::of(numbers, words, from_ref(&part), sizes)? })
     }
 

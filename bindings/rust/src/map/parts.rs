@@ -2,7 +2,9 @@
 
 use super::locked;
 use super::numbers::{Number, Numbers};
-use super::sizes::{SHARE, Sizes};
+use super::plans::{Plan, Served};
+use super::sizes::SHARE;
+use super::starts::Starts;
 use crate::ffi::{self, Owner, PassHandle, TreeNumber};
 use crate::shared::Shared;
 use crate::{Error, Pair};
@@ -10,7 +12,7 @@ use std::ops::{Deref, DerefMut};
 use std::sync::Mutex;
 use std::sync::atomic::Ordering::{Relaxed, SeqCst};
 use std::sync::atomic::{AtomicBool, AtomicU8, AtomicUsize};
-use std::time::{Duration, Instant};
+use std::time::Instant;
 
 /// What updates of a part do besides changing its tree.
 #[derive(Clone, Copy, Debug, PartialEq, Eq)]
@@ -25,20 +27,20 @@ pub(super) enum Phase {
     Replaced,
 }
 
-/// What parts that follow others are made for.
-#[derive(Clone, Copy, PartialEq, Eq)]
-pub(super) enum Aim {
-    /// There are more words for updates.
-    Room,
-    /// The pairs lie in as few parts and words as there may be.
-    Fit,
+/// Where slots have their seats at a tree.
+#[derive(Clone, Copy)]
+pub(super) struct Place {
+    /// The number that no other part of the map has. A part that is gone may have had it.
+    pub(super) number: usize,
+    pub(super) tree: TreeNumber,
 }
 
 pub(super) struct Part {
     pub(super) first: u64,
     pub(super) last: u64,
-    pub(super) tree: TreeNumber,
-    number: Number,
+    pub(super) place: Place,
+    // Kept for as long as the place is taken.
+    _number: Number,
     pub(super) words: u32,
     /// What it was opened with.
     pub(super) pairs: Vec<Pair>,
@@ -65,14 +67,15 @@ pub(super) struct Part {
 }
 
 impl Part {
-    pub(super) fn open(numbers: &Shared<Numbers>, first: u64, last: u64, words: u32, pairs: Vec<Pair>) -> Result<Shared<Part>, Error> {
+    pub(super) fn open(numbers: &Shared<Numbers>, (first, last): (u64, u64), words: u32, pairs: Vec<Pair>) -> Result<Shared<Part>, Error> {
         let owner = Owner::open(words, &pairs)?;
+        let number = Number::of(numbers)?;
         let free = u64::from(words) - ffi::words_for(pairs.len() as u64);
         Shared::new(Part {
             first,
             last,
-            tree: owner.tree(),
-            number: Number::of(numbers)?,
+            place: Place { number: number.at(), tree: owner.tree() },
+            _number: number,
             words,
             begin: u64::from(words) - free / 4,
             look: (free / (60 * 64)).clamp(1, 16),
@@ -87,11 +90,6 @@ impl Part {
             owner: Mutex::new(owner),
             next: Mutex::new(None),
         })
-    }
-
-    /// The number at which slots keep their seats at its tree.
-    pub(super) fn number(&self) -> usize {
-        self.number.at()
     }
 
     /// A pass for a slot, for as long as it has a seat.
@@ -218,39 +216,47 @@ pub(super) fn room_for<T>(elements: usize) -> Result<Vec<T>, Error> {
 
 /// Parts side by side, at least one.
 pub(super) struct Parts {
-    firsts: Vec<u64>,
+    // The places of the parts: a read that has a seat doesn't touch its part.
+    places: Starts<Place>,
     all: Vec<Shared<Part>>,
 }
 
 impl Parts {
     pub(super) fn of(all: Vec<Shared<Part>>) -> Result<Shared<Parts>, Error> {
-        let mut firsts = room_for(all.len())?;
-        firsts.extend(all.iter().map(|part| part.first));
-        Shared::new(Parts { firsts, all })
+        let mut places = room_for(all.len())?;
+        places.extend(all.iter().map(|part| (part.first, part.place)));
+        Shared::new(Parts { places: Starts::of(places), all })
     }
 
     pub(super) fn all(&self) -> &[Shared<Part>] {
         &self.all
     }
 
-    /// The number of the part that has this key.
+    /// Which of them has this key.
+    #[inline]
     pub(super) fn at(&self, key: u64) -> usize {
-        self.firsts.partition_point(|first| *first <= key).saturating_sub(1)
+        self.places.at(key)
+    }
+
+    /// The place of the part that has this key, and the part.
+    #[inline]
+    pub(super) fn place(&self, key: u64) -> (Place, &Shared<Part>) {
+        let at = self.at(key);
+        (self.places.all()[at].1, &self.all[at])
     }
 }
 
-/// Opens this many parts of these pairs side by side, with the keys from the first to the last one, each with at least `least` words.
+/// Opens parts of these pairs side by side, with the keys from the first to the last one.
 pub(super) fn opened(
     numbers: &Shared<Numbers>,
     (first, last): (u64, u64),
     pairs: Vec<Pair>,
-    count: usize,
-    least: u32,
+    Plan { count, words }: Plan,
 ) -> Result<Vec<Shared<Part>>, Error> {
     let mut parts = room_for(count)?;
     let open = |first, last, pairs: Vec<Pair>| {
-        let words = (SHARE * ffi::words_for(pairs.len() as u64)).max(u64::from(least)).min(u64::from(ffi::MOST_WORDS));
-        Part::open(numbers, first, last, words as u32, pairs)
+        let words = (SHARE * ffi::words_for(pairs.len() as u64)).max(u64::from(words)).min(u64::from(ffi::MOST_WORDS));
+        Part::open(numbers, (first, last), words as u32, pairs)
     };
     if count == 1 {
         parts.push(open(first, last, pairs)?);
@@ -266,41 +272,4 @@ pub(super) fn opened(
         parts.push(open(first, last, own)?);
     }
     Ok(parts)
-}
-
-/// How a part has served that is followed by others.
-pub(super) struct Served {
-    pub(super) words: u32,
-    pub(super) time: Duration,
-    /// Several slots have called it.
-    pub(super) is_shared: bool,
-}
-
-/// What follows some parts: how many parts, and the words that each has at least.
-#[derive(Debug, PartialEq, Eq)]
-pub(super) struct Plan {
-    pub(super) count: usize,
-    pub(super) words: u32,
-}
-
-impl Plan {
-    /// What follows a part that has served so and has this many keys, in a map of this many parts.
-    pub(super) fn after(old: &Served, aim: Aim, keys: usize, parts: usize, sizes: &Sizes) -> Plan {
-        let plan = |count, words: u32| Plan { count, words: words.max(sizes.least_words) };
-        if keys > sizes.most_keys {
-            return plan(keys.div_ceil(sizes.most_keys / 2), 0);
-        }
-        match aim {
-            Aim::Fit => plan(1, 0),
-            Aim::Room if old.time > sizes.long_life => plan(1, (old.words / 2).min(sizes.hot_words)),
-            Aim::Room if old.time >= sizes.short_life => plan(1, old.words.min(sizes.hot_words)),
-            // it is changed much: several threads are served by two parts better than by one, and one thread isn't
-            Aim::Room if old.is_shared && keys >= sizes.hot_keys => match parts < sizes.hot_parts {
-                true => plan(2, old.words.min(sizes.hot_words)),
-                false => plan(1, old.words.saturating_mul(2).min(sizes.hot_words)),
-            },
-            // no split helps
-            Aim::Room => plan(1, old.words.saturating_mul(2).min(sizes.lone_words)),
-        }
-    }
 }

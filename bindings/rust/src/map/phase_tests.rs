@@ -305,10 +305,10 @@ fn a_snapshot_has_no_slot_while_it_lists() {
     let change = |_: &Sender<()>| {
         map.inner.sweep(|_| {});
         // the first part, which was listed, and the last one grow
-        let parts = [0, 9_999].map(|key| map.inner.directory().part(key).tree);
+        let parts = [0, 9_999].map(|key| map.inner.directory().part(key).place.tree);
         (0..5_000).for_each(|number| _ = map.insert(number % 100, number));
         (0..5_000).for_each(|number| _ = map.insert(9_999 - number % 100, number));
-        assert!([0, 9_999].map(|key| map.inner.directory().part(key).tree) != parts);
+        assert!([0, 9_999].map(|key| map.inner.directory().part(key).place.tree) != parts);
     };
     let pairs = while_held(&map, Step::Listing, || map.snapshot(..).unwrap(), change);
     assert!(pairs.into_iter().eq((0..10_000).map(|key| (key, key))));

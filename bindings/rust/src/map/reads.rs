@@ -8,7 +8,8 @@ impl Inner {
     pub(super) fn find(&self, key: u64) -> Result<Option<u64>, Error> {
         let (_, mut passes) = self.slot();
         let (directory, seats, _) = passes.parts();
-        Ok(seats.seat(directory.part(key))?.pass.find(key))
+        let (place, part) = directory.place(key);
+        Ok(seats.pass(place, part)?.find(key))
     }
 
     /// The pair with the least key that is at least this one: by one directory from part to part.
@@ -16,7 +17,7 @@ impl Inner {
         let (_, mut passes) = self.slot();
         let (directory, seats, _) = passes.parts();
         for part in directory.parts(key, u64::MAX) {
-            let found = seats.seat(part)?.pass.at_least(key);
+            let found = seats.pass(part.place, part)?.at_least(key);
             if found.is_some() {
                 return Ok(found);
             }
@@ -30,7 +31,7 @@ impl Inner {
         let (directory, seats, _) = passes.parts();
         let mut next = Some(key);
         while let Some(part) = next.map(|key| directory.part(key)) {
-            let found = seats.seat(part)?.pass.at_most(key);
+            let found = seats.pass(part.place, part)?.at_most(key);
             if found.is_some() {
                 return Ok(found);
             }

@@ -1,7 +1,7 @@
 //! How many parts a map has, and how many words their trees.
 
 use super::Map;
-use super::parts::{Aim, Plan, Served};
+use super::plans::{Aim, Plan, Served};
 use super::sizes::{FIRST_WORDS, Sizes, USUAL};
 use std::thread::scope;
 use std::time::Duration;

@@ -1,9 +1,9 @@
 //! Slots: what a call has while it holds its slot's lock.
 
 use super::directory::Directory;
-use super::parts::Part;
+use super::parts::{Part, Place};
 use super::update::Update;
-use crate::ffi::{PassHandle, TreeNumber};
+use crate::ffi::PassHandle;
 use crate::shared::Shared;
 use crate::{Error, Full};
 use std::sync::atomic::Ordering::{Relaxed, SeqCst};
@@ -96,16 +96,14 @@ pub(super) struct Passes {
     pub(super) unseen: u64,
 }
 
-/// What a slot has of one tree, on a line of memory.
-#[repr(align(64))]
-pub(super) struct Seat {
-    tree: TreeNumber,
-    pub(super) pass: PassHandle,
+/// What a slot has of one tree.
+pub(super) struct Seat<'s> {
+    pub(super) pass: &'s mut PassHandle,
     // The keys that the calls of this slot changed.
-    changed: Vec<u64>,
+    changed: &'s mut Vec<u64>,
 }
 
-impl Seat {
+impl Seat<'_> {
     /// Makes room for one more changed key, before the key is changed.
     pub(super) fn reserve(&mut self) -> Result<(), Error> {
         self.changed.try_reserve(1).map_err(|_| Error::Memory)
@@ -125,46 +123,79 @@ impl Passes {
     }
 }
 
+// How many seats lie together: their passes fill whole lines of memory.
+const ROW: usize = 8;
+
+// Seats at neighbouring numbers, on lines that no other slot writes. The passes are close together, since a read needs nothing else.
+#[derive(Default)]
+#[repr(C, align(64))]
+struct Row {
+    passes: [Option<PassHandle>; ROW],
+    changed: [Vec<u64>; ROW],
+}
+
 /// A seat at each tree that the slot has called, at the number of the tree's part.
 #[derive(Default)]
 pub(super) struct Seats {
-    seats: Vec<Option<Seat>>,
+    rows: Vec<Row>,
 }
 
 impl Seats {
-    // Whether the slot has a seat at the part's tree. What another part with its number left isn't one.
+    // The pass that the slot has at this place. What another part with its number left isn't one.
     #[inline]
-    fn has(&self, part: &Part) -> bool {
-        matches!(self.seats.get(part.number()), Some(Some(seat)) if seat.tree == part.tree)
+    fn pass_at(&mut self, place: Place) -> Option<&mut PassHandle> {
+        let pass = self.rows.get_mut(place.number / ROW)?.passes[place.number % ROW].as_mut();
+        pass.filter(|pass| pass.tree() == place.tree)
+    }
+
+    // The seat that the slot has at this part's tree.
+    fn seat_at(&mut self, part: &Part) -> Option<Seat<'_>> {
+        let Place { number, tree } = part.place;
+        let row = self.rows.get_mut(number / ROW)?;
+        let pass = row.passes[number % ROW].as_mut().filter(|pass| pass.tree() == tree)?;
+        Some(Seat { pass, changed: &mut row.changed[number % ROW] })
+    }
+
+    /// The pass of the seat at this part's tree, which has this place.
+    #[inline]
+    pub(super) fn pass(&mut self, place: Place, part: &Part) -> Result<&mut PassHandle, Error> {
+        if self.pass_at(place).is_none() {
+            self.sit(part)?;
+        }
+        Ok(self.pass_at(place).expect("the slot has a seat"))
     }
 
     /// The seat at this part's tree.
     #[inline]
-    pub(super) fn seat(&mut self, part: &Part) -> Result<&mut Seat, Error> {
-        if !self.has(part) {
+    pub(super) fn seat(&mut self, part: &Part) -> Result<Seat<'_>, Error> {
+        if self.pass_at(part.place).is_none() {
             self.sit(part)?;
         }
-        Ok(self.seats[part.number()].as_mut().expect("the slot has a seat"))
+        Ok(self.seat_at(part).expect("the slot has a seat"))
     }
 
     #[cold]
     fn sit(&mut self, part: &Part) -> Result<(), Error> {
-        let (number, seats) = (part.number(), self.seats.len());
-        if number >= seats {
-            self.seats.try_reserve(number + 1 - seats).map_err(|_| Error::Memory)?;
-            self.seats.resize_with(number + 1, || None);
+        let (at, rows) = (part.place.number / ROW, self.rows.len());
+        if at >= rows {
+            self.rows.try_reserve(at + 1 - rows).map_err(|_| Error::Memory)?;
+            self.rows.resize_with(at + 1, Row::default);
         }
-        self.seats[number] = Some(Seat { tree: part.tree, pass: part.pass()?, changed: Vec::new() });
+        self.put(part, Some(part.pass()?), Vec::new());
         part.users.fetch_add(1, Relaxed);
         Ok(())
     }
 
+    // Puts a seat at the part's place, for which there is a row, or none.
+    fn put(&mut self, part: &Part, pass: Option<PassHandle>, changed: Vec<u64>) {
+        let row = &mut self.rows[part.place.number / ROW];
+        row.passes[part.place.number % ROW] = pass;
+        row.changed[part.place.number % ROW] = changed;
+    }
+
     /// Takes out which keys the calls of this slot changed, and appends them to those of the part. Without memory for that they stay.
     pub(super) fn take_changed(&mut self, part: &Part) -> Result<(), Error> {
-        match self.has(part) {
-            true => part.add_changed(&mut self.seat(part)?.changed),
-            false => Ok(()),
-        }
+        self.seat_at(part).map_or(Ok(()), |seat| part.add_changed(seat.changed))
     }
 
     /// Copies the key of an update, which was just made, to the parts that follow. If there is no room or memory for that, the growth is
@@ -178,19 +209,21 @@ impl Seats {
     fn try_mirror(&mut self, part: &Part, update: &Update) -> Option<()> {
         let next = part.next()?;
         let to = &next.all()[next.at(update.key)];
-        self.seat(to).ok()?.reserve().ok()?;
-        // taken out, since the other pass is used beside it
-        let mut seat = self.seats[to.number()].take()?;
+        let mut seat = self.seat(to).ok()?;
+        seat.reserve().ok()?;
         seat.record(update.key);
-        let copied = self.seat(part).map(|now| copy(&mut now.pass, &mut seat.pass, update.key, update.new));
-        self.seats[to.number()] = Some(seat);
+        // taken out, since the other pass is used beside it
+        let (row, at) = (to.place.number / ROW, to.place.number % ROW);
+        let mut pass = self.rows[row].passes[at].take()?;
+        let copied = self.seat(part).map(|now| copy(now.pass, &mut pass, update.key, update.new));
+        self.rows[row].passes[at] = Some(pass);
         copied.ok()?.ok()
     }
 
     /// Gives the pass up of a part that isn't the map's any more, or won't be.
     pub(super) fn leave(&mut self, part: &Part) {
-        if self.has(part) {
-            self.seats[part.number()] = None;
+        if self.pass_at(part.place).is_some() {
+            self.put(part, None, Vec::new());
         }
     }
 }

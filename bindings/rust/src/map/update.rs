@@ -80,11 +80,11 @@ impl Inner {
         if matches!(phase, Phase::Stopped | Phase::Replaced) || mode == Mode::Held {
             return Ok(Tried::Stopped);
         }
-        let seat = seats.seat(part)?;
+        let mut seat = seats.seat(part)?;
         seat.reserve()?;
         let called = match mode {
-            Mode::Watched => self.watch.update(&mut seat.pass, update),
-            _ => update.call(&mut seat.pass),
+            Mode::Watched => self.watch.update(seat.pass, update),
+            _ => update.call(seat.pass),
         };
         let Ok(had) = called else { return Ok(Tried::Full(part.clone())) };
         slot.count(update.added(had));

@@ -4,6 +4,7 @@ use super::directory::Directory;
 use super::inner::Inner;
 use super::numbers::Numbers;
 use super::parts::{Part, opened, room_for};
+use super::plans::Plan;
 use super::sizes::{FIRST_WORDS, USUAL};
 use crate::shared::Shared;
 use crate::tree::append_listed;
@@ -14,15 +15,15 @@ impl Inner {
     /// The map of these pairs, whose keys are strictly increasing.
     pub(super) fn with_pairs(pairs: Vec<Pair>) -> Result<Shared<Inner>, Error> {
         let count = pairs.len().div_ceil(USUAL.most_keys / 2).max(1);
-        let least = if count == 1 { FIRST_WORDS } else { USUAL.least_words };
+        let words = if count == 1 { FIRST_WORDS } else { USUAL.least_words };
         let numbers = Numbers::new()?;
-        let parts = opened(&numbers, (0, u64::MAX), pairs, count, least)?;
+        let parts = opened(&numbers, (0, u64::MAX), pairs, Plan { count, words })?;
         Inner::of(numbers, FIRST_WORDS, &parts, USUAL)
     }
 
     /// Removes all pairs at one moment, while no update is under way. A growth under way finds at its end that its parts are gone.
     pub(super) fn clear(&self) -> Result<(), Error> {
-        let part = Part::open(&self.numbers, 0, u64::MAX, self.first_words, Vec::new())?;
+        let part = Part::open(&self.numbers, (0, u64::MAX), self.first_words, Vec::new())?;
         let old = self.hold(|| {
             let next = |directory: &Directory| Directory::of(directory.version + 1, from_ref(&part)).map(Some);
             let old = self.replace(next)?;
