@@ -40,17 +40,18 @@ same() {
 made="$all/the library" include=$here/crates/ist_c/include
 
 # The functions with the types of their parameters, the structs and the statuses: as the crate exports them (ist_handles has its
-# structs and statuses), and as C and Rust declare them. `ist_version` isn't an export: bindings/c/version.c has it.
+# structs and statuses), and as C and Rust declare them. bindings/c/library.c has `ist_version`, and calls two exports under other names.
 exports() {
     python3 "$here/tests/exports.py" "$@"
 }
 lists() {
     exports rattle "$here"/crates/ist_c/src/*.rt "$here"/crates/ist_handles/src/*.rt >"$all/rattle"
+    exports c "$include/ist.h" "$here/bindings/c/library.c" | grep -v -e '^ist_version(' -e '^ist_open(' -e '^ist_reopen(' >"$all/inner"
     exports c "$include/ist.h" | grep -v '^ist_version() -> u32$' >"$all/c"
     exports rust "$here/bindings/rust/src/ffi.rs" >"$all/rust"
     well 'there are exports' grep -q '^ist_find(' "$all/rattle"
-    same 'ist.h declares the exports' "$all/rattle" "$all/c"
-    same 'ffi.rs declares the exports' "$all/rattle" "$all/rust"
+    same 'ist.h and library.c declare the exports' "$all/rattle" "$all/inner"
+    same 'ffi.rs declares what ist.h does' "$all/c" "$all/rust"
     well 'only ffi.rs and shared.rs have unsafe blocks' sh -c "! grep -rl 'unsafe [{i]' '$here/bindings/rust/src' | grep -v -e /ffi.rs -e /shared.rs"
 }
 
@@ -66,8 +67,8 @@ archive() {
     ! is_unproved || echo 'the library is an unproved build'
     there 'the names in the library' nm || return
     nm --defined-only -g "$made/libluskadorv.a" 2>/dev/null | awk 'NF == 3 { print $3 }' | grep -v '^ist_unproved$' | sort >"$all/defined"
-    { sed -n 's/^\(ist_[a-z_]*\)(.*/\1/p' "$all/rattle" && echo ist_version; } | sort >"$all/names"
-    same 'the library defines the exports and no other name' "$all/names" "$all/defined"
+    { sed -n 's/^\(ist_[a-z_]*\)(.*/\1/p' "$all/c" && echo ist_version; } | sort >"$all/names"
+    same 'the library defines what ist.h declares and no other name' "$all/names" "$all/defined"
     nm "$made/libluskadorv.a" 2>/dev/null | grep -c ' R ist_unproved$' >"$all/marks"
     is_unproved && echo 1 >"$all/wanted" || echo 0 >"$all/wanted"
     same 'an unproved library has its symbol' "$all/wanted" "$all/marks"

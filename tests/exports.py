@@ -2,7 +2,7 @@
 """Prints the functions and structs of the tree's library, in words that are the same for each language.
 
     python3 tests/exports.py rattle FILE..     as a crate exports them; an allocator is no parameter in C, and a slice is two
-    python3 tests/exports.py c FILE..          as a header declares them
+    python3 tests/exports.py c FILE..          as C declares them
     python3 tests/exports.py rust FILE..       as a package in Rust declares them
 
 One line is a function with the types of its parameters and its result, a struct with the names and types of its fields, or a status.
@@ -63,7 +63,7 @@ def word(said, kind):
 def functions(text, kind):
     head = {
         "rattle": r'pub extern "C" fn (\w+)\(([^)]*)\)(?: -> (\w+))?',
-        "c": r"(?m)^(\w+) (ist_\w+)\(([^)]*)\);",
+        "c": r"(?m)^(\w+) (\w+)\(([^)]*)\);",
         "rust": r"\n    fn (ist_\w+)\(([^)]*)\)(?: -> (\w+))?;",
     }[kind]
     for it in re.findall(head, text):

@@ -40,7 +40,7 @@ lib)
     while [ -n "${STUB_HELD:-}" ] && [ ! -e "$STUB_HELD" ]; do sleep 0.1; done
     [ -z "${STUB_LIB_FAILS:-}" ] || { echo "src/lib.rt:1:1: error[no-proof]: nothing proves this"; exit 1; }
     mkdir -p out
-    printf 'extern void rattle_alloc(void);\nint ist_one(void) { rattle_alloc(); return 1; }\n' | cc -fPIC -x c -c - -o out/one.o
+    printf 'extern void rattle_alloc(void);\nint ist_one(void) { rattle_alloc(); return 1; }\nvoid open_numbered(void) {} void reopen_numbered(void) {}\n' | cc -fPIC -x c -c - -o out/one.o
     ar rcsD out/libist_c.a out/one.o ;;
 esac
 STUB
@@ -52,7 +52,7 @@ case " $* " in
 *) grep -q '^define i32 @ist_one(ptr noundef %a0, i64 noundef %a1) #0 {$' "$text" || exit 1
    case " $* " in *" -march=this "*" -fPIC -O3 "*) ;; *) exit 1 ;; esac
    while [ "$1" != -o ]; do shift; done
-   echo 'int ist_one(void) { return 2; }' | cc -fPIC -x c -c - -o "$2" ;;
+   echo 'int ist_one(void) { return 2; } void open_numbered(void) {} void reopen_numbered(void) {}' | cc -fPIC -x c -c - -o "$2" ;;
 esac
 STUB
 chmod +x "$kit/bin/rt" "$kit/toolchain/bin/clang"
@@ -102,7 +102,7 @@ expect "it makes an unproved build" "$(kind "$archive")" "unproved 2"
 has "and says so" "$err" "is an unproved build"
 has "and that the proof goes on" "$err" "the proof goes on in the background"
 expect "a program with it says so" "$("$all/one" 2>&1)" "$(strings "$archive" | grep '^luskadorv: ')"
-expect "only its own names are global" "$(nm -g --defined-only "$archive" | awk 'NF == 3 { print $3 }' | sort | xargs)" "ist_one ist_unproved ist_version"
+expect "only its own names are global" "$(nm -g --defined-only "$archive" | awk 'NF == 3 { print $3 }' | sort | xargs)" "ist_one ist_open ist_reopen ist_unproved ist_version"
 inode=$(stat -c %i "$top/out/libluskadorv-unproved.a")
 STUB_HELD=$all/go run "$top/out"
 expect "the next call compiles nothing again" "$(calls try)" 1

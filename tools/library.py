@@ -1,6 +1,6 @@
 #!/usr/bin/env python3
 """Makes libluskadorv.a, for programs in C, C++ and Rust: the library of crates/ist_c, the heap's three functions over malloc, realloc
-and free that the kit brings, and bindings/c/version.c. All names in it are local except `ist_*`.
+and free that the kit brings, and bindings/c/library.c. All names in it are local except `ist_*`.
 
     python3 tools/library.py [--wait | --no-proof] [FOLDER]
 
@@ -116,8 +116,8 @@ class Library:
         heap = Path(self.kit.real).parent.parent / "c" / "liblibc_c.a"
         more = ["-DLUSKADORV_UNPROVED"] if is_unproved else []
         include = self.top / "crates" / unproved.CRATE / "include"
-        run(os.environ.get("CC", "cc"), "-O2", "-fPIC", *more, f"-I{include}", "-c", self.top / "bindings/c/version.c", "-o", part / "version.o")
-        run("ld", "-r", "-o", part / "luskadorv.o", "--whole-archive", made, heap, part / "version.o")
+        run(os.environ.get("CC", "cc"), "-O2", "-fPIC", *more, f"-I{include}", "-c", self.top / "bindings/c/library.c", "-o", part / "library.o")
+        run("ld", "-r", "-o", part / "luskadorv.o", "--whole-archive", made, heap, part / "library.o")
         run("objcopy", "--wildcard", "--keep-global-symbol=ist_*", part / "luskadorv.o")
         run("ar", "rcsD", part / ARCHIVE, part / "luskadorv.o")
 

@@ -303,6 +303,18 @@ static void misuse(void) {
     check(ist_drop_shot(&one) == IST_DONE && ist_find(&one, 5).some, 145);
     ist_owner none = {0};
     check(ist_give_back(&none, &one) == IST_MISUSE && one.full && ist_meet((ist_pass *)&none, &note) == IST_MISUSE && note.full, 146);
+    /* and so is one of another tree, of the same pairs, also if it was opened by ist_reopen */
+    ist_owner other = {0};
+    ist_pass stranger = {0};
+    check(ist_open(1000, entries, 1, &other) == IST_DONE, 147);
+    for (int turn = 0; turn < 2; turn++) {
+        check(ist_new_pass(&other, &stranger) == IST_DONE && ist_meet(&stranger, &note) == IST_MISUSE && note.full, 148);
+        check(ist_give_back(&owner, &stranger) == IST_MISUSE && stranger.full && ist_find(&stranger, 5).value == 50, 149);
+        check(ist_give_back(&other, &one) == IST_MISUSE && one.full && ist_find(&one, 5).value == 50, 150);
+        check(ist_give_back(&other, &stranger) == IST_DONE && ist_reopen(&other, 2000) == IST_DONE, 151);
+    }
+    check(ist_close(&other) == IST_DONE && ist_give_back(&other, &one) == IST_MISUSE && one.full, 152);
+    ist_free(&other);
     check(ist_meet(&two, &note) == IST_DONE && !note.full, 50);
     check(ist_meet(&two, &note) == IST_MISUSE, 51);
     check(ist_give_back(&owner, &one) == IST_DONE && !one.full, 52);

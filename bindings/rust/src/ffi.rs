@@ -1,8 +1,7 @@
 //! The calls of the static library, as `crates/ist_c/include/ist.h` declares them, behind types of Rust. Each `unsafe`
 //! call has its reason here, and what this module gives to others is safe to use in any way.
 //!
-//! Each handle has the number of its tree. A call on two handles compares these numbers: that is what the header's `same
-//! tree` asks for.
+//! The library finds out by itself whether two handles are of one tree. The number of a tree here is for the maps over it.
 
 use crate::{Error, Full};
 use std::ffi::c_void;
@@ -224,8 +223,7 @@ impl Owner {
     // Gives the library back what was given back, as it wants before it closes the tree.
     fn give_back_all(&mut self) {
         for mut pass in self.spare.drain(..) {
-            // SAFETY: both handles are the call's alone, and of one tree: `give_back` compared the numbers, and the owner's changes
-            // only when all passes are back.
+            // SAFETY: both handles are the call's alone.
             let status = unsafe { ist_give_back(&mut self.handle, &mut pass) };
             assert_eq!(status, DONE);
         }
@@ -386,7 +384,7 @@ impl PassHandle {
         let mut handle = Handle::new();
         // SAFETY: both handles are the call's alone.
         checked(unsafe { ist_write_note(&mut self.handle, &mut handle) })?;
-        Ok(NoteHandle { handle, tree: self.tree })
+        Ok(NoteHandle { handle })
     }
 
     /// Lets the pass learn what the note holds.
@@ -395,9 +393,9 @@ impl PassHandle {
     ///
     /// If the note is of another tree.
     pub(crate) fn meet(&mut self, mut note: NoteHandle) {
-        assert_eq!(self.tree, note.tree, "the note is of another tree");
-        // SAFETY: both handles are the call's alone, and of the tree with one number.
+        // SAFETY: both handles are the call's alone.
         let status = unsafe { ist_meet(&mut self.handle, &mut note.handle) };
+        assert_ne!(status, MISUSE, "the note is of another tree");
         assert_eq!(status, DONE);
     }
 }
@@ -443,7 +441,6 @@ impl ShotHandle {
 /// What a pass had seen.
 pub(crate) struct NoteHandle {
     handle: Handle,
-    tree: TreeNumber,
 }
 
 #[cfg(test)]

@@ -12,8 +12,9 @@
  * and in which a call that returned before another began comes first. That is proved of the tree, also over ist_reopen. A pair
  * that a call on several keys reports was in the map at a moment of that call; only a shot has one moment for all.
  *
- * Each call finds out what its handles hold. If that isn't what it asks for, it returns IST_MISUSE, every handle is as it was, and
- * nothing is written. A call whose comment says `same tree` doesn't test that both handles are of one tree: the caller sees to it.
+ * Each call finds out what its handles hold, and whether two handles are of one tree. If they aren't what it asks for, it returns
+ * IST_MISUSE, every handle is as it was, and nothing is written. (Trees are numbered as they are opened. If a process has several
+ * copies of the library, each counts for itself, and takes only handles of its own.)
  *
  * Pointers are never null, except that of a list or a room with 0 elements. No call may be made in a signal handler, or in a
  * process forked by one that has threads. */
@@ -43,7 +44,8 @@ enum ist_status {
     IST_MEMORY = 1, /* out of memory */
     IST_SMALL = 2,  /* the tree of the pairs takes more words */
     IST_BUSY = 3,   /* a pass or a note is out */
-    IST_MISUSE = 4, /* a handle holds something else or nothing, `out` is full, or a number is too large or a room empty */
+    IST_MISUSE = 4, /* a handle holds something else or nothing, or is of another tree; `out` is full; a number is too large; or a
+                       room is empty */
     IST_FULL = 5,   /* too few words of the tree are left: the call didn't happen */
     IST_NO_KEY = 6  /* no such key has a value */
 };
@@ -128,12 +130,12 @@ uint32_t ist_list_shot(ist_pass *shot, uint64_t first, uint64_t last, ist_entry 
  * drop the shot first. */
 uint32_t ist_drop_shot(ist_pass *shot);
 
-/* Makes a note of what the pass has seen (ist_write_note), and lets a pass learn it, which uses the note up (ist_meet,
- * same tree). The calls of the second pass then come after those that the first had made. */
+/* Makes a note of what the pass has seen (ist_write_note), and lets a pass of the same tree learn it, which uses the note up
+ * (ist_meet). The calls of the second pass then come after those that the first had made. */
 uint32_t ist_write_note(ist_pass *pass, ist_note *out);
 uint32_t ist_meet(ist_pass *pass, ist_note *note);
 
-/* Gives the pass back, which uses it up (same tree). */
+/* Gives the pass back to the owner that made it, which uses the pass up. */
 uint32_t ist_give_back(ist_owner *owner, ist_pass *pass);
 
 /* Closes the tree, once all passes are back and all notes are used up or freed, and opens one with this many words, at most

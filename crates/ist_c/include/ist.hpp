@@ -117,8 +117,6 @@ public:
         ist_drop_shot(&handle); /* IST_MISUSE of a pass without a shot, which stays as it is */
         owner_->spare.push_back(handle);
     }
-    bool same_tree(const std::shared_ptr<owner> &other) const noexcept { return owner_ && owner_ == other; }
-    const std::shared_ptr<owner> &of() const noexcept { return owner_; }
 
     ist_pass handle = {};
 
@@ -200,19 +198,17 @@ private:
 /* What a pass had seen, for another pass of the tree to meet. */
 class note {
 public:
-    note(note &&other) noexcept : handle_(std::exchange(other.handle_, {})), owner_(std::move(other.owner_)) {}
+    note(note &&other) noexcept : handle_(std::exchange(other.handle_, {})) {}
     note &operator=(note &&other) noexcept {
         std::swap(handle_, other.handle_);
-        std::swap(owner_, other.owner_);
         return *this;
     }
     ~note() { ist_free(&handle_); }
 
 private:
     friend class pass;
-    explicit note(std::shared_ptr<detail::owner> of) : owner_(std::move(of)) {}
+    note() = default;
     ist_note handle_ = {};
-    std::shared_ptr<detail::owner> owner_;
 };
 
 /* What one thread calls a tree by. No call on keys blocks. */
@@ -261,7 +257,7 @@ public:
 
     /* Makes a note of what the pass has seen; nothing if there is no memory. */
     std::optional<note> write_note() noexcept {
-        note made(lent_.of());
+        note made;
         if (ist_write_note(&lent_.handle, &made.handle_) != IST_DONE) return std::nullopt;
         return std::optional<note>(std::move(made));
     }
@@ -269,7 +265,7 @@ public:
     /* Learns the note: later calls come after those that the note's pass had made. Returns whether the note is of this tree; if
      * it isn't, nothing happens but that the note is freed. */
     bool meet(note learnt) noexcept {
-        return lent_.same_tree(learnt.owner_) && ist_meet(&lent_.handle, &learnt.handle_) == IST_DONE;
+        return ist_meet(&lent_.handle, &learnt.handle_) == IST_DONE;
     }
 
 private:

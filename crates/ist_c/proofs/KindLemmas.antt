@@ -1,7 +1,8 @@
 -- A handle is as it was. Serves `ist_give_back` and `ist_meet`.
-use Rattle.std.proofs.Common.{◌≡◌, ◌≢◌, Bool, true, false, Option, Some, None, IsSome, refl, sym, ◌∙◌}
+use Rattle.std.proofs.Common.{◌≡◌, ◌≢◌, ℕ, Bool, true, false, Option, Some, None, IsSome, refl, sym, ◌∙◌}
 use Rattle.ist_handles.specs.declared.handles.Handle.{Handle}
 use Rattle.ist_handles.specs.declared.held.Held.{Held}
+use Rattle.ist_handles.specs.declared.trees.NumberedTree.{NumberedTree}
 use Rattle.ist_c.specs.Kinds.{IsAsBefore}
 
 not_full : (full : Bool) → (full ≡ true → ⊥) → full ≡ false
@@ -23,3 +24,7 @@ put_back held before after was is full value = (full ∙ sym was, λ f. value �
 pub no_some : {X : Type 0} (o : Option X) → ((x : X) → o ≢ Some x) → IsSome o → ⊥
 no_some (Some x) differs some = differs x refl
 no_some None differs some = cc
+
+-- the number of a tree
+abbrev pub number : NumberedTree → ℕ
+number tree = tree.number

@@ -1,5 +1,5 @@
--- What a handle holds after a tree was opened. Serves `ist_open`.
-use Rattle.std.proofs.Common.{ℕ, ◌<◌, List, subst}
+-- What a handle holds after a tree was opened. Serves `open_numbered`.
+use Rattle.std.proofs.Common.{◌≡◌, ℕ, ◌<◌, List, subst}
 use Rattle.std.specs.Arc.{arc_value}
 use Rattle.ist_core.specs.declared.pairs.Pair.{Pair}
 use Rattle.ist_tree.specs.Opening.{IsNewTree, IsFaultOf}
@@ -14,16 +14,16 @@ use Rattle.ist_handles.specs.declared.held.Held.TheVariants as of
 use Rattle.ist_handles.specs.declared.owners.TreeOwner.{TreeOwner}
 
 -- a handle that keeps the owner of a new tree holds it, or is as before
-pub opened_one : (words : ℕ) (pairs : List Pair) (owner : TreeOwner) (before after : Handle) (status : ℕ)
-    → IsNewTree words pairs (arc_value owner.tree) owner.maker
-    → KeepsInHandle (of.Owner owner) before after status → OpensNew words pairs before after status
-opened_one words pairs owner _ _ _ new (keeps_it before after full value) =
-    opens_new owner before after new full value
-opened_one words pairs owner _ _ _ new (keeps_none out) = opens_memory out
+pub opened_one : (words number : ℕ) (pairs : List Pair) (owner : TreeOwner) (before after : Handle) (status : ℕ)
+    → IsNewTree words pairs (arc_value owner.tree).tree owner.maker → (arc_value owner.tree).number ≡ number
+    → KeepsInHandle (of.Owner owner) before after status → OpensNew words pairs number before after status
+opened_one words number pairs owner _ _ _ new numbered (keeps_it before after full value) =
+    opens_new owner before after new numbered full value
+opened_one words number pairs owner _ _ _ new numbered (keeps_none out) = opens_memory out
 
 -- it is as before if no tree was opened
-pub opened_none : (words : ℕ) (pairs : List Pair) (out : Handle) (fault : OpenFault)
-    → IsFaultOf words pairs fault → OpensNew words pairs out out (fault_status (as_reopen fault))
-opened_none words pairs out (Small needed given) is =
+pub opened_none : (words number : ℕ) (pairs : List Pair) (out : Handle) (fault : OpenFault)
+    → IsFaultOf words pairs fault → OpensNew words pairs number out out (fault_status (as_reopen fault))
+opened_none words number pairs out (Small needed given) is =
     opens_small out (subst (λ n. words < n) is.0 is.2)
-opened_none words pairs out Memory is = opens_memory out
+opened_none words number pairs out Memory is = opens_memory out

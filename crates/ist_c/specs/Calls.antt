@@ -14,6 +14,7 @@ use Rattle.ist_handles.specs.declared.held.Held.TheVariants as of
 use Rattle.ist_handles.specs.declared.owners.TreeOwner.{TreeOwner}
 use Rattle.ist_handles.specs.declared.passes.TreePass.{TreePass}
 use Rattle.ist_handles.specs.declared.passes.TreeNote.{TreeNote}
+use Rattle.ist_handles.specs.declared.trees.NumberedTree.{NumberedTree}
 use Rattle.ist_handles.specs.Results.{done, full, misuse, value_if, full_of}
 use Rattle.ist_c.specs.Kinds.{IsNoPass}
 
@@ -59,14 +60,18 @@ pub data UpdatesBy : Held → Held → ℕ → Option ℕ → CallResult → Sho
 
 -- ---- two handles of one tree
 
--- if the one is an owner and the other a pass, it is of the owner's tree
-abbrev pub MayGiveBack : Held → Held → Type 0
-MayGiveBack owner pass =
-    (o : TreeOwner) (p : TreePass) → owner ≡ of.Owner o → pass ≡ of.Pass p
-    → arc_value p.tree ≡ arc_value o.tree
+-- if these two trees have one number, they are one tree
+abbrev pub AreNumbered : NumberedTree → NumberedTree → Type 0
+AreNumbered s t = s.number ≡ t.number → s ≡ t
 
--- if the one is a pass and the other a note, both are of one tree
-abbrev pub MayMeet : Held → Held → Type 0
-MayMeet pass note =
+-- so it is of an owner's tree and a pass's
+abbrev pub NumbersOwner : Held → Held → Type 0
+NumbersOwner owner pass =
+    (o : TreeOwner) (p : TreePass) → owner ≡ of.Owner o → pass ≡ of.Pass p
+    → AreNumbered (arc_value p.tree) (arc_value o.tree)
+
+-- so it is of a pass's tree and a note's
+abbrev pub NumbersPass : Held → Held → Type 0
+NumbersPass pass note =
     (p : TreePass) (n : TreeNote) → pass ≡ of.Pass p → note ≡ of.Note n
-    → arc_value n.tree ≡ arc_value p.tree
+    → AreNumbered (arc_value n.tree) (arc_value p.tree)

@@ -13,7 +13,7 @@ use Rattle.ist_handles.specs.declared.held.Held.TheVariants as of
 use Rattle.ist_handles.specs.declared.owners.TreeOwner.{TreeOwner}
 use Rattle.ist_handles.specs.Leaving.{IsLeft}
 use Rattle.ist_handles.specs.Results.{done, memory, small, busy, misuse}
-use Rattle.ist_c.specs.Kinds.{IsNoOwner, IsNotClosed}
+use Rattle.ist_c.specs.Kinds.{IsNoOwner, IsNotClosed, IsSameOwner}
 
 -- ---- closing
 
@@ -33,7 +33,7 @@ pub data Closes : Held → Held → ℕ → Type 0 where
       → Closes (of.Owner owner) after status
   closed_leaves : (closed : ClosedTree) (after : Held) (status : ℕ)
       → Leaves closed.closed after status → Closes (of.Closed closed) after status
-  is_busy : (owner kept : TreeOwner) → kept.maker ≡ owner.maker
+  is_busy : (owner kept : TreeOwner) → IsSameOwner owner kept
       → Closes (of.Owner owner) (of.Owner kept) busy
   no_owner : (held : Held) → IsNoOwner held → IsNotClosed held → Closes held held misuse
 
@@ -45,36 +45,39 @@ fault_status (Beyond words) = misuse
 fault_status (Small needed words) = small
 fault_status Memory = memory
 
--- the handle holds the owner of a tree of the pairs that the closed words hold, or the closed tree still
--- if none was opened, though no more words were asked for than a tree may have
-pub data OpensInHandle (closed : ClosedTree) (words : ℕ) : Held → ℕ → Type 0 where
+-- the handle holds the owner of a tree with this number, of the pairs that the closed words hold, or the
+-- closed tree still if none was opened, though no more words were asked for than a tree may have
+pub data OpensInHandle (closed : ClosedTree) (words number : ℕ) : Held → ℕ → Type 0 where
   opens_owner : (new : TreeOwner)
-      → OpensAfter closed.closed words (arc_value new.tree) new.maker
-      → OpensInHandle closed words (of.Owner new) done
+      → OpensAfter closed.closed words (arc_value new.tree).tree new.maker
+      → (arc_value new.tree).number ≡ number
+      → OpensInHandle closed words number (of.Owner new) done
   opens_none : (fault : ReopenFault) → words ≤ place_limit
       → IsReopenFaultOf closed.closed words fault
-      → OpensInHandle closed words (of.Closed closed) (fault_status fault)
+      → OpensInHandle closed words number (of.Closed closed) (fault_status fault)
 
--- a handle of an owner holds the owner of a new tree, which begins with exactly the pairs that all calls
--- of the old tree's passes left; or the closed tree if none was opened, though no more words were asked
--- for than a tree may have; or the owner still if a pass or a note is out. A handle of a closed tree holds
--- the owner of a tree of its pairs, or is as before. Only a handle of something else, and a number of words
--- that no tree has, is misuse, and the handle is as before
-pub data Reopens : Held → Held → ℕ → ℕ → Type 0 where
+-- a handle of an owner holds the owner of a new tree with this number, which begins with exactly the pairs
+-- that all calls of the old tree's passes left; or the closed tree if none was opened, though no more words
+-- were asked for than a tree may have; or the owner still if a pass or a note is out. A handle of a closed
+-- tree holds the owner of a tree of its pairs with this number, or is as before. Only a handle of something
+-- else, and a number of words that no tree has, is misuse, and the handle is as before
+pub data Reopens (number : ℕ) : Held → Held → ℕ → ℕ → Type 0 where
   owner_reopens : (old new : TreeOwner) (words : ℕ)
-      → BeginsAfter old.maker words (arc_value new.tree) new.maker
-      → Reopens (of.Owner old) (of.Owner new) words done
+      → BeginsAfter old.maker words (arc_value new.tree).tree new.maker
+      → (arc_value new.tree).number ≡ number
+      → Reopens number (of.Owner old) (of.Owner new) words done
   owner_closed : (old : TreeOwner) (closed : ClosedTree) (words : ℕ) (fault : ReopenFault)
       → ClosesWith old.maker closed.closed → words ≤ place_limit
       → IsReopenFaultOf closed.closed words fault
-      → Reopens (of.Owner old) (of.Closed closed) words (fault_status fault)
-  owner_busy : (owner kept : TreeOwner) (words : ℕ) → kept.maker ≡ owner.maker
-      → Reopens (of.Owner owner) (of.Owner kept) words busy
+      → Reopens number (of.Owner old) (of.Closed closed) words (fault_status fault)
+  owner_busy : (owner kept : TreeOwner) (words : ℕ) → IsSameOwner owner kept
+      → Reopens number (of.Owner owner) (of.Owner kept) words busy
   closed_opens : (closed : ClosedTree) (new : TreeOwner) (words : ℕ)
-      → OpensAfter closed.closed words (arc_value new.tree) new.maker
-      → Reopens (of.Closed closed) (of.Owner new) words done
+      → OpensAfter closed.closed words (arc_value new.tree).tree new.maker
+      → (arc_value new.tree).number ≡ number
+      → Reopens number (of.Closed closed) (of.Owner new) words done
   closed_stays : (closed : ClosedTree) (words : ℕ) (fault : ReopenFault)
       → words ≤ place_limit → IsReopenFaultOf closed.closed words fault
-      → Reopens (of.Closed closed) (of.Closed closed) words (fault_status fault)
+      → Reopens number (of.Closed closed) (of.Closed closed) words (fault_status fault)
   none_reopens : (held : Held) (words : ℕ)
-      → (place_limit < words) ⊎ (IsNoOwner held × IsNotClosed held) → Reopens held held words misuse
+      → (place_limit < words) ⊎ (IsNoOwner held × IsNotClosed held) → Reopens number held held words misuse

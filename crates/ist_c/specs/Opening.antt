@@ -13,14 +13,15 @@ use Rattle.ist_handles.specs.Results.{done, memory, small, misuse}
 abbrev pub AreWordsFor : ℕ → ℕ → Type 0
 AreWordsFor count words = (pairs : List Pair) → length pairs ≡ count → words ≡ words_for pairs
 
--- the handle holds the owner of a new tree, which begins with exactly these pairs and has this many
--- words, and whose maker has made no pass. Or it is as before: if the pairs take more words, if there was
+-- the handle holds the owner of a new tree with this number, which begins with exactly these pairs and has
+-- this many words, and whose maker has made no pass. Or it is as before: if the pairs take more words, if there was
 -- no memory, or if there are too many words or pairs for any tree
-pub data OpensNew (words : ℕ) (pairs : List Pair) : Handle → Handle → ℕ → Type 0 where
+pub data OpensNew (words : ℕ) (pairs : List Pair) (number : ℕ) : Handle → Handle → ℕ → Type 0 where
   opens_new : (owner : TreeOwner) (before after : Handle)
-      → IsNewTree words pairs (arc_value owner.tree) owner.maker → after.full ≡ true
-      → after.opaque.value ≡ of.Owner owner → OpensNew words pairs before after done
-  opens_small : (out : Handle) → words < words_for pairs → OpensNew words pairs out out small
-  opens_memory : (out : Handle) → OpensNew words pairs out out memory
+      → IsNewTree words pairs (arc_value owner.tree).tree owner.maker
+      → (arc_value owner.tree).number ≡ number → after.full ≡ true
+      → after.opaque.value ≡ of.Owner owner → OpensNew words pairs number before after done
+  opens_small : (out : Handle) → words < words_for pairs → OpensNew words pairs number out out small
+  opens_memory : (out : Handle) → OpensNew words pairs number out out memory
   opens_misuse : (out : Handle) → (place_limit < words) ⊎ (2 ^ 32 ≤ length pairs)
-      → OpensNew words pairs out out misuse
+      → OpensNew words pairs number out out misuse

@@ -66,11 +66,11 @@ pub extern "C" fn ist_close(alloc: Global, owner: &mut Handle) -> u32
 }
 
 // Opens a tree over the closed one, which is kept if none is opened.
-fn open_next(alloc: Global, closed: ClosedTree, words: u32, held: &mut Held) -> u32
+fn open_next(alloc: Global, closed: ClosedTree, words: u32, number: u64, held: &mut Held) -> u32
     requires within { words ≤ place_limit }
-    ensures opens { OpensInHandle closed words held.new result }
+    ensures opens { OpensInHandle closed words number held.new result }
 {
-    match closed.open(alloc, words) {
+    match closed.open(alloc, words, number) {
         Ok(owner) => {
             *held = Held::Owner(owner);
             DONE
@@ -83,21 +83,21 @@ fn open_next(alloc: Global, closed: ClosedTree, words: u32, held: &mut Held) -> 
 }
 
 // Closes the owner's tree, and opens the next one.
-fn reopen_in(alloc: Global, held: &mut Held, words: u32) -> u32
-    ensures reopens { Reopens held.old held.new words result }
+fn reopen_in(alloc: Global, held: &mut Held, words: u32, number: u64) -> u32
+    ensures reopens { Reopens number held.old held.new words result }
 {
     if words > MOST_WORDS {
         return MISUSE;
     }
     match mem::replace(held, Held::Nothing) {
         Held::Owner(owner) => match owner.close() {
-            Ok(closed) => open_next(alloc, closed, words, held),
+            Ok(closed) => open_next(alloc, closed, words, number, held),
             Err(owner) => {
                 *held = Held::Owner(owner);
                 BUSY
             }
         },
-        Held::Closed(closed) => open_next(alloc, closed, words, held),
+        Held::Closed(closed) => open_next(alloc, closed, words, number, held),
         other => {
             *held = other;
             MISUSE
@@ -105,18 +105,19 @@ fn reopen_in(alloc: Global, held: &mut Held, words: u32) -> u32
     }
 }
 
-/// Makes the owner that of a new tree with this many words, which begins with the pairs that all calls
-/// left. If no tree is opened, the handle holds the closed one, and the call may be made again.
+/// Makes the owner that of a new tree with this many words and this number, which begins with the pairs that
+/// all calls left. If no tree is opened, the handle holds the closed one, and the call may be made again.
+/// `ist_reopen` of C gives each tree the next number.
 #[unsafe(no_mangle)]
-pub extern "C" fn ist_reopen(alloc: Global, owner: &mut Handle, words: u32) -> u32
+pub extern "C" fn reopen_numbered(alloc: Global, owner: &mut Handle, words: u32, number: u64) -> u32
     ensures full { owner.new.full ≡ owner.old.full }
     ensures empty { owner.old.full ≡ false → result ≡ misuse }
     ensures reopens { owner.old.full ≡ true
-        → Reopens owner.old.opaque.value owner.new.opaque.value words result }
+        → Reopens number owner.old.opaque.value owner.new.opaque.value words result }
 {
     match owner.open(alloc) {
         Some(mut held) => {
-            let status = reopen_in(alloc, &mut held, words);
+            let status = reopen_in(alloc, &mut held, words, number);
             *owner = Handle::of(held);
             status
         }

@@ -1,6 +1,6 @@
 //! The exports by which one pass learns what another has seen.
 ghost use Rattle.std.specs.Prelude.{◌≡◌, true, false};
-ghost use Rattle.ist_c.specs.Calls.{MayMeet};
+ghost use Rattle.ist_c.specs.Calls.{NumbersPass};
 ghost use Rattle.ist_c.specs.Kinds.{IsAsBefore};
 ghost use Rattle.ist_c.specs.Notes.{Notes, Meets};
 ghost use Rattle.ist_handles.specs.Results.{misuse};
@@ -44,9 +44,10 @@ pub extern "C" fn ist_write_note(alloc: Global, pass: &mut Handle, out: &mut Han
     }
 }
 
-// Lets the pass learn what the handle's note holds, which is empty then. What isn't a note is put back.
+// Lets the pass learn what the handle's note holds, which is empty then. What isn't a note of the
+// pass's tree is put back.
 fn meet_in(alloc: Global, held: &mut Held, note: &mut Handle) -> u32
-    requires same_tree { MayMeet held.old note.old.opaque.value }
+    requires numbered { NumbersPass held.old note.old.opaque.value }
     ensures meets { Meets held.old held.new note.old note.new result }
 {
     let Held::Pass(pass) = held else {
@@ -57,6 +58,11 @@ fn meet_in(alloc: Global, held: &mut Held, note: &mut Handle) -> u32
     };
     match mem::replace(&mut *told, Held::Nothing) {
         Held::Note(met) => {
+            if met.tree.number != pass.tree.number {
+                *told = Held::Note(met);
+                *note = Handle::of(told);
+                return MISUSE;
+            }
             pass.meet(met);
             DONE
         }
@@ -68,11 +74,11 @@ fn meet_in(alloc: Global, held: &mut Held, note: &mut Handle) -> u32
     }
 }
 
-/// Lets the pass learn what the note holds, which is of its tree. The note is used up; if the call is misuse,
-/// both are as they were.
+/// Lets the pass learn what the note holds. The note is used up; if it is of another tree, or the call is
+/// misuse otherwise, both are as they were.
 #[unsafe(no_mangle)]
 pub extern "C" fn ist_meet(alloc: Global, pass: &mut Handle, note: &mut Handle) -> u32
-    requires same_tree { MayMeet pass.old.opaque.value note.old.opaque.value }
+    requires numbered { NumbersPass pass.old.opaque.value note.old.opaque.value }
     ensures full { pass.new.full ≡ pass.old.full }
     ensures empty { pass.old.full ≡ false → (result ≡ misuse) × IsAsBefore note.old note.new }
     ensures meets { pass.old.full ≡ true

@@ -1,7 +1,7 @@
 //! The exports that open a tree, make its passes and take them back, and free what a handle holds.
 ghost use Rattle.std.specs.Prelude.{◌≡◌, ◌<◌, ◌≤◌, ◌^◌, true, false};
 ghost use Rattle.plain_map.specs.Rising.{IsRising};
-ghost use Rattle.ist_c.specs.Calls.{MayGiveBack};
+ghost use Rattle.ist_c.specs.Calls.{NumbersOwner};
 ghost use Rattle.ist_c.specs.Closing.{fault_status};
 ghost use Rattle.ist_handles.specs.Entries.{pairs_given};
 ghost use Rattle.ist_c.specs.Keeping.{KeepsInHandle};
@@ -59,31 +59,38 @@ pub(crate) fn status_for(fault: ReopenFault) -> u32
 }
 
 // Makes `out` the owner of a new tree.
-fn open_owner(alloc: Global, words: u32, pairs: &[Pair], out: &mut Handle) -> u32
+fn open_owner(alloc: Global, words: u32, pairs: &[Pair], number: u64, out: &mut Handle) -> u32
     requires rising { IsRising pairs.now }
-    ensures opens { OpensNew words pairs.now out.old out.new result }
+    ensures opens { OpensNew words pairs.now number out.old out.new result }
 {
     if words > MOST_WORDS || pairs.len() as u64 > PAIRS_LIMIT {
         return MISUSE;
     }
-    match TreeOwner::open(alloc, words, pairs) {
+    match TreeOwner::open(alloc, words, pairs, number) {
         Ok(owner) => keep(alloc, Held::Owner(owner), out),
         Err(fault) => status_for(ReopenFault::from(fault)),
     }
 }
 
-/// Opens a tree of these pairs, with this many words, and makes `out` its owner.
+/// Opens a tree of these pairs, with this many words and this number, and makes `out` its owner. `ist_open`
+/// of C gives each tree the next number.
 #[unsafe(no_mangle)]
-pub extern "C" fn ist_open(alloc: Global, words: u32, entries: &[Entry], out: &mut Handle) -> u32
+pub extern "C" fn open_numbered(
+    alloc: Global,
+    words: u32,
+    entries: &[Entry],
+    number: u64,
+    out: &mut Handle,
+) -> u32
     ensures filled { out.old.full ≡ true → (result ≡ misuse) × (out.new ≡ out.old) }
     ensures opens { out.old.full ≡ false
-        → OpensNew words (pairs_given entries.now) out.old out.new result }
+        → OpensNew words (pairs_given entries.now) number out.old out.new result }
 {
     if out.full {
         return MISUSE;
     }
     match pairs_of_entries(alloc, entries) {
-        Ok(pairs) => open_owner(alloc, words, pairs.as_slice(), out),
+        Ok(pairs) => open_owner(alloc, words, pairs.as_slice(), number, out),
         Err(_) => MEMORY,
     }
 }
@@ -129,9 +136,10 @@ pub extern "C" fn ist_new_pass(alloc: Global, owner: &mut Handle, out: &mut Hand
     }
 }
 
-// Takes the pass back that the handle holds, which is empty then. What isn't a pass is put back.
+// Takes the pass back that the handle holds, which is empty then. What isn't a pass of the owner's tree is
+// put back.
 fn take_in(alloc: Global, held: &mut Held, pass: &mut Handle) -> u32
-    requires same_tree { MayGiveBack held.old pass.old.opaque.value }
+    requires numbered { NumbersOwner held.old pass.old.opaque.value }
     ensures takes { TakesBack held.old held.new pass.old pass.new result }
 {
     let Held::Owner(owner) = held else {
@@ -142,6 +150,11 @@ fn take_in(alloc: Global, held: &mut Held, pass: &mut Handle) -> u32
     };
     match mem::replace(&mut *given, Held::Nothing) {
         Held::Pass(taken) => {
+            if taken.tree.number != owner.tree.number {
+                *given = Held::Pass(taken);
+                *pass = Handle::of(given);
+                return MISUSE;
+            }
             owner.take_back(taken);
             DONE
         }
@@ -153,11 +166,11 @@ fn take_in(alloc: Global, held: &mut Held, pass: &mut Handle) -> u32
     }
 }
 
-/// Gives the pass back to the owner of its tree. The pass is used up; if the call is misuse, both are as
-/// they were.
+/// Gives the pass back to the owner of its tree. The pass is used up; if it is of another tree, or the call
+/// is misuse otherwise, both are as they were.
 #[unsafe(no_mangle)]
 pub extern "C" fn ist_give_back(alloc: Global, owner: &mut Handle, pass: &mut Handle) -> u32
-    requires same_tree { MayGiveBack owner.old.opaque.value pass.old.opaque.value }
+    requires numbered { NumbersOwner owner.old.opaque.value pass.old.opaque.value }
     ensures full { owner.new.full ≡ owner.old.full }
     ensures empty { owner.old.full ≡ false → (result ≡ misuse) × IsAsBefore pass.old pass.new }
     ensures takes { owner.old.full ≡ true

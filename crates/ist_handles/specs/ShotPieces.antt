@@ -3,13 +3,14 @@ use Rattle.std.specs.Prelude.{◌≡◌, ℕ, ◌<◌, ◌≤◌, List, Option, 
 use Rattle.ist_core.specs.declared.pairs.Pair.{Pair}
 use Rattle.ist_core.specs.Map.{listed, pairs_between}
 use Rattle.ist_tree.specs.declared.freezing.Frozen.{Frozen}
-use Rattle.ist_tree.specs.Faces.{TreeFace, PassFace}
+use Rattle.ist_tree.specs.Faces.{PassFace}
 use Rattle.ist_live.specs.Pieces.{end_of}
 use Rattle.ist_scan.specs.Shots.{ArePairsOf, IsOf, map_seen}
+use Rattle.ist_handles.specs.declared.trees.NumberedTree.{NumberedTree}
 
 -- a pass that took a shot: their tree, the pass, and the shot
 pub record ShotFace : Type 0 where
-  pub tree : TreeFace
+  pub tree : NumberedTree
   pub pass : PassFace
   pub shot : Frozen
 

@@ -17,6 +17,7 @@ mod raw_boxes;
 mod results;
 mod shot_pieces;
 mod shots;
+mod trees;
 
 pub use crate::closed_trees::{ClosedTree, LeftPairs};
 pub use crate::entries::{Entry, pairs_of_entries, write_entries, write_pair};
@@ -31,3 +32,4 @@ pub use crate::results::{
     replied,
 };
 pub use crate::shots::TreeShot;
+pub use crate::trees::NumberedTree;

@@ -9,6 +9,7 @@ ghost use Rattle.ist_tree.specs.Opening.{IsNewTree, IsFaultOf};
 
 use crate::closed_trees::ClosedTree;
 use crate::passes::TreePass;
+use crate::trees::NumberedTree;
 use ist_core::Pair;
 use ist_tree::{Maker, OpenFault, Tree};
 use std::alloc::{AllocError, Global};
@@ -23,23 +24,29 @@ const PASSES_LIMIT: u64 = 0xffff_ffff;
 /// A tree with its maker.
 #[derive(Drop)]
 pub struct TreeOwner {
-    pub tree: Arc<Tree, Global>,
+    pub tree: Arc<NumberedTree, Global>,
     pub maker: Maker,
-    pub ghost same_tree: { maker.tree ≡ arc_value tree },
+    pub ghost same_tree: { maker.tree ≡ (arc_value tree).tree },
 }
 
 impl TreeOwner {
-    /// Opens a tree of the pairs, with this many words, and returns its owner.
-    pub fn open(alloc: Global, words: u32, pairs: &[Pair]) -> Result<TreeOwner, OpenFault>
+    /// Opens a tree of the pairs, with this many words and this number, and returns its owner.
+    pub fn open(
+        alloc: Global,
+        words: u32,
+        pairs: &[Pair],
+        number: u64,
+    ) -> Result<TreeOwner, OpenFault>
         requires rising { IsStrictlyIncreasing (map (λ pair. pair.key) pairs.now) }
         requires few { length pairs.now < 2 ^ 32 }
         requires within { words ≤ place_limit }
         ensures new { IfOk result (λ owner.
-            IsNewTree words pairs.now (arc_value owner.tree) owner.maker) }
+            IsNewTree words pairs.now (arc_value owner.tree).tree owner.maker) }
+        ensures number { IfOk result (λ owner. (arc_value owner.tree).number ≡ number) }
         ensures fault { IfErr result (IsFaultOf words pairs.now) }
     {
         let (tree, maker) = Tree::open(alloc, words, pairs)?;
-        match Arc::new(alloc, tree) {
+        match Arc::new(alloc, NumberedTree { tree, number }) {
             Ok(tree) => Ok(TreeOwner { tree, maker }),
             Err(_) => Err(OpenFault::Memory),
         }
@@ -59,7 +66,7 @@ impl TreeOwner {
             return Err(AllocError);
         }
         let tree = Arc::try_clone(&self.tree)?;
-        let pass = self.tree.pass(&mut self.maker);
+        let pass = self.tree.tree.pass(&mut self.maker);
         Ok(TreePass { tree, pass })
     }
 
@@ -71,7 +78,7 @@ impl TreeOwner {
         ensures made { self.new.maker.made ≡ self.old.maker.made }
     {
         let TreePass { tree: _, pass } = given;
-        self.tree.take_back(&mut self.maker, pass);
+        self.tree.tree.take_back(&mut self.maker, pass);
     }
 
     /// Closes the tree and returns its words after the last call. If a pass or a note is out it returns the
@@ -79,14 +86,15 @@ impl TreeOwner {
     pub fn close(self) -> Result<ClosedTree, TreeOwner>
         ensures closes { IfOk result (λ c. ClosesWith self.maker c.closed) }
         ensures size { IfOk result (λ c. length c.closed ≡ self.maker.tree.words) }
-        ensures same { IfErr result (λ owner. owner.maker ≡ self.maker) }
+        ensures same { IfErr result (λ owner. (arc_value owner.tree ≡ arc_value self.tree)
+            × (owner.maker ≡ self.maker)) }
     {
         if self.maker.made() != self.maker.taken_back() {
             return Err(self);
         }
         let TreeOwner { tree, maker } = self;
         match Arc::try_unwrap(tree) {
-            Ok(tree) => Ok(ClosedTree {
+            Ok(NumberedTree { tree, number: _ }) => Ok(ClosedTree {
                 closed: tree.close(maker),
             }),
             Err(tree) => Err(TreeOwner { tree, maker }),

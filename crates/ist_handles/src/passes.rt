@@ -16,27 +16,28 @@ ghost use Rattle.ist_handles.specs.Entries.{next_key, pairs_in};
 
 use crate::entries::Entry;
 use crate::pieces::{Piece, read_piece};
+use crate::trees::NumberedTree;
 use ist_core::{Full, Pair, Reply};
 use ist_live::{at_least, at_most};
 use ist_scan::Shot;
-use ist_tree::{Note, Pass, Tree};
+use ist_tree::{Note, Pass};
 use std::alloc::{AllocError, Global};
 use std::sync::Arc;
 
 /// A pass, and its tree, which it keeps alive.
 #[derive(Drop)]
 pub struct TreePass {
-    pub tree: Arc<Tree, Global>,
+    pub tree: Arc<NumberedTree, Global>,
     pub pass: Pass,
-    pub ghost same_tree: { pass.tree ≡ arc_value tree },
+    pub ghost same_tree: { pass.tree ≡ (arc_value tree).tree },
 }
 
 /// A note of a pass, and its tree.
 #[derive(Drop)]
 pub struct TreeNote {
-    pub tree: Arc<Tree, Global>,
+    pub tree: Arc<NumberedTree, Global>,
     pub note: Note,
-    pub ghost same_tree: { note.tree ≡ arc_value tree },
+    pub ghost same_tree: { note.tree ≡ (arc_value tree).tree },
 }
 
 impl TreePass {
@@ -46,7 +47,7 @@ impl TreePass {
         ensures seen { HasSeenMore self.old.pass self.new.pass }
         ensures added { AddsCall self.old.pass self.new.pass (Get key) result }
     {
-        self.tree.find(&mut self.pass, key)
+        self.tree.tree.find(&mut self.pass, key)
     }
 
     /// Puts the value at the key, or removes the key if there is no value, and returns the value that the
@@ -60,8 +61,8 @@ impl TreePass {
         ensures calls { OnErr result (self.new.pass.calls ≡ self.old.pass.calls) }
     {
         match value {
-            Some(value) => self.tree.put(&mut self.pass, key, value),
-            None => self.tree.remove(&mut self.pass, key),
+            Some(value) => self.tree.tree.put(&mut self.pass, key, value),
+            None => self.tree.tree.remove(&mut self.pass, key),
         }
     }
 
@@ -78,7 +79,7 @@ impl TreePass {
             IsRefused self.old.pass self.new.pass key (Some value) full) }
         ensures calls { OnErr result (self.new.pass.calls ≡ self.old.pass.calls) }
     {
-        self.tree.put_if(&mut self.pass, key, expected, value)
+        self.tree.tree.put_if(&mut self.pass, key, expected, value)
     }
 
     /// Removes the key if it has the value that is expected, and returns the value that it had.
@@ -93,7 +94,7 @@ impl TreePass {
             IsRefused self.old.pass self.new.pass key None full) }
         ensures calls { OnErr result (self.new.pass.calls ≡ self.old.pass.calls) }
     {
-        self.tree.remove_if(&mut self.pass, key, expected)
+        self.tree.tree.remove_if(&mut self.pass, key, expected)
     }
 
     /// Returns the pair with the least key that is at least `key`, if there is one.
@@ -102,7 +103,7 @@ impl TreePass {
         ensures read { HasOnlyRead self.old.pass self.new.pass }
         ensures next { IsNextUp self.old.pass self.new.pass key result }
     {
-        at_least(&self.tree, &mut self.pass, key)
+        at_least(&self.tree.tree, &mut self.pass, key)
     }
 
     /// Returns the pair with the greatest key that is at most `key`, if there is one.
@@ -111,7 +112,7 @@ impl TreePass {
         ensures read { HasOnlyRead self.old.pass self.new.pass }
         ensures next { IsNextDown self.old.pass self.new.pass (key + 1) result }
     {
-        at_most(&self.tree, &mut self.pass, key)
+        at_most(&self.tree.tree, &mut self.pass, key)
     }
 
     /// Writes the pairs from `first` to `last`, as many as there is room for.
@@ -124,7 +125,7 @@ impl TreePass {
         ensures within { result.count ≤ length room.new }
         ensures room { length room.new ≡ length room.old }
     {
-        read_piece(&self.tree, &mut self.pass, first, last, room)
+        read_piece(&self.tree.tree, &mut self.pass, first, last, room)
     }
 
     /// Takes a shot of the map, if at least this many words are left at one moment of the call.
@@ -138,17 +139,18 @@ impl TreePass {
         ensures full { IfErr result (IsShotRefused self.old.pass self.new.pass words) }
         ensures unstarted { OnErr result (HasStartedNone self.old.pass self.new.pass) }
     {
-        Shot::take_if_room(&self.tree, &mut self.pass, words)
+        Shot::take_if_room(&self.tree.tree, &mut self.pass, words)
     }
 
     /// Makes a note of what the pass has seen, for another pass of its tree. Fails only if memory runs out.
     pub fn note(&mut self) -> Result<TreeNote, AllocError>
         ensures noted { IfOk result (λ told. told.note ≡ noted self.old.pass) }
+        ensures its_tree { IfOk result (λ told. arc_value told.tree ≡ arc_value self.old.tree) }
         ensures unchanged { self.new.pass ≡ self.old.pass }
         ensures tree { arc_value self.new.tree ≡ arc_value self.old.tree }
     {
         let tree = Arc::try_clone(&self.tree)?;
-        let note = self.tree.note(&mut self.pass);
+        let note = self.tree.tree.note(&mut self.pass);
         Ok(TreeNote { tree, note })
     }
 
@@ -162,6 +164,6 @@ impl TreePass {
         ensures woven { WeavesWith self.new.pass told.note }
     {
         let TreeNote { tree: _, note } = told;
-        self.tree.meet(&mut self.pass, note);
+        self.tree.tree.meet(&mut self.pass, note);
     }
 }

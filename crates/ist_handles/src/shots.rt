@@ -10,8 +10,9 @@ use crate::entries::Entry;
 use crate::passes::TreePass;
 use crate::pieces::Piece;
 use crate::shot_pieces::read_shot;
+use crate::trees::NumberedTree;
 use ist_scan::Shot;
-use ist_tree::{Pass, Tree};
+use ist_tree::Pass;
 use std::alloc::Global;
 use std::marker::Model;
 use std::sync::Arc;
@@ -21,7 +22,7 @@ use std::sync::Arc;
 /// Contracts see what the tree, the pass and the shot are.
 #[derive(Drop)]
 pub struct TreeShot {
-    tree: Arc<Tree, Global>,
+    tree: Arc<NumberedTree, Global>,
     pass: Pass,
     shot: Shot,
 }
@@ -36,7 +37,7 @@ impl Model for TreeShot {
 
     ghost view = { λ s. record { tree = arc_value s.tree; pass = s.pass; shot = s.shot } };
 
-    ghost invariant = { λ s. (s.pass.tree ≡ arc_value s.tree) × IsFrozenFor s.pass s.shot };
+    ghost invariant = { λ s. (s.pass.tree ≡ (arc_value s.tree).tree) × IsFrozenFor s.pass s.shot };
 }
 
 impl TreeShot {
@@ -82,6 +83,13 @@ impl TreeShot {
         ensures within { result.count ≤ length room.new }
         ensures room { length room.new ≡ length room.old }
     {
-        read_shot(&self.tree, &mut self.pass, &self.shot, first, last, room)
+        read_shot(
+            &self.tree.tree,
+            &mut self.pass,
+            &self.shot,
+            first,
+            last,
+            room,
+        )
     }
 }

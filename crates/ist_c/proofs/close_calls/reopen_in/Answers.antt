@@ -12,27 +12,27 @@ pub returns-in-Ok : goal.returns-in-Ok
 returns-in-Ok c =
     record {
       reopens = reopened_owner c.args.held.now c.open_next.new.held c.in-Owner.owner c.close.result
-          c.in-Ok.closed c.args.words c.open_next.result (sym c.replace.ensures.value ∙ c.in-Owner.is)
+          c.in-Ok.closed c.args.words c.args.number c.open_next.result (sym c.replace.ensures.value ∙ c.in-Owner.is)
           c.in-Ok.is c.close.ensures.size c.close.ensures.closes c.open_next.ensures.opens;
     }
 
 pub returns-in-Err : goal.returns-in-Err
 returns-in-Err c =
     record {
-      reopens = reopened_busy c.args.held.now c.in-Owner.owner c.in-Err.owner c.close.result c.args.words
+      reopens = reopened_busy c.args.held.now c.in-Owner.owner c.in-Err.owner c.close.result c.args.words c.args.number
           (sym c.replace.ensures.value ∙ c.in-Owner.is) c.in-Err.is c.close.ensures.same;
     }
 
 pub returns-in-Closed : goal.returns-in-Closed
 returns-in-Closed c =
     record {
-      reopens = reopened_closed c.args.held.now c.open_next-in-Closed.new.held c.in-Closed.closed c.args.words
+      reopens = reopened_closed c.args.held.now c.open_next-in-Closed.new.held c.in-Closed.closed c.args.words c.args.number
           c.open_next-in-Closed.result (sym c.replace.ensures.value ∙ c.in-Closed.is) c.open_next-in-Closed.ensures.opens;
     }
 
 pub returns-in_default : goal.returns-in_default
 returns-in_default c =
     record {
-      reopens = reopened_other c.args.held.now c.replace.result c.args.words c.replace.ensures.value
+      reopens = reopened_other c.args.held.now c.replace.result c.args.words c.args.number c.replace.ensures.value
           c.in_default.not-Owner c.in_default.not-Closed;
     }

@@ -10,7 +10,8 @@ returns-in-Ok c =
     record {
       notes = noted_one c.args.held.now c.in-Pass.pass c.note.new.self c.in-Ok.note c.args.out.now
           c.keep.new.out c.keep.result c.in-Pass.is (record { same_tree = e.tree; unchanged = e.unchanged })
-          c.if-out.false c.in-Ok.ensures.noted c.keep.ensures.keeps;
+          c.if-out.false (record { its_tree = c.in-Ok.ensures.its_tree; holds = c.in-Ok.ensures.noted })
+          c.keep.ensures.keeps;
     }
 
 pub returns-in-Err : goal.returns-in-Err

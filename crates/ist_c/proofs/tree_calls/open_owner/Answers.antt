@@ -22,14 +22,14 @@ returns-then-words-gt-MOST_WORDS c =
 pub returns-in-Ok : goal.returns-in-Ok
 returns-in-Ok c =
     record {
-      opens = opened_one c.args.words c.args.pairs.now c.in-Ok.owner c.args.out.now c.keep.new.out c.keep.result
-          c.in-Ok.ensures.new c.keep.ensures.keeps;
+      opens = opened_one c.args.words c.args.number c.args.pairs.now c.in-Ok.owner c.args.out.now c.keep.new.out
+          c.keep.result c.in-Ok.ensures.new c.in-Ok.ensures.number c.keep.ensures.keeps;
     }
 
 pub returns-in-Err : goal.returns-in-Err
 returns-in-Err c =
     record {
-      opens = subst (OpensNew c.args.words c.args.pairs.now c.args.out.now c.args.out.now)
+      opens = subst (OpensNew c.args.words c.args.pairs.now c.args.number c.args.out.now c.args.out.now)
           (sym (c.status_for.ensures.value ∙ ap fault_status c.from.ensures))
-          (opened_none c.args.words c.args.pairs.now c.args.out.now c.in-Err.fault c.in-Err.ensures.fault);
+          (opened_none c.args.words c.args.number c.args.pairs.now c.args.out.now c.in-Err.fault c.in-Err.ensures.fault);
     }

@@ -24,14 +24,14 @@ returns-in-Ok c =
     let e = c.in-Err-pass.ensures in
     record {
       makes = made_none c.args.held.now c.in-Owner.owner c.pass.new.self c.args.out.now c.in-Owner.is
-          e.tree e.unmade c.if-out.false;
+          (e.tree, e.unmade) c.if-out.false;
     }
 
 pub returns-in-Owner : goal.returns-in-Owner
 returns-in-Owner c =
     record {
       makes = made_none c.args.held.now c.in-Owner.owner c.in-Owner.owner c.args.out.now c.in-Owner.is
-          refl refl c.if-out.false;
+          (refl, refl) c.if-out.false;
     }
 
 pub returns : goal.returns
