@@ -1,5 +1,6 @@
 //! New trees that are closed at once: their words, one by one, and their lists.
 
+use crate::judging::same;
 use crate::openings::{FIVE, NINE, two_pairs};
 use ist_rest::{Closed, WordList};
 use ist_tree::{OpenFault, Tree};
@@ -32,9 +33,11 @@ fn a_closed_table_has_the_words_that_were_laid_out(rt: HostRuntime) -> Result<()
     let one = one_closed(rt.alloc())?;
     let two = two_closed(rt.alloc())?;
     let sizes = (one.used(), one.word_count(), two.used(), two.word_count());
-    assert_eq!(rt;
-        (sizes, one.settled(), two.settled()),
-        ((6, 16, 15, 20), true, true)
+    same(
+        &rt,
+        &(sizes, one.settled(), two.settled()),
+        &((6, 16, 15, 20), true, true),
+        "their sizes, and whether they are settled",
     );
     // the place, the word of each table there
     let cases = [
@@ -57,11 +60,13 @@ fn a_closed_table_has_the_words_that_were_laid_out(rt: HostRuntime) -> Result<()
     ];
     for (place, first, second) in cases {
         let words = (word_at(&one, place), word_at(&two, place));
-        assert_eq!(rt; words, (Some(first), Some(second)), "word {place}");
+        same(&rt, &words, &(Some(first), Some(second)), place);
     }
-    assert_eq!(rt;
-        (word_at(&one, 16), word_at(&two, 19), word_at(&two, 20)),
-        (None, Some(0), None)
+    same(
+        &rt,
+        &(word_at(&one, 16), word_at(&two, 19), word_at(&two, 20)),
+        &(None, Some(0), None),
+        "words at the end",
     );
     Ok(())
 }
@@ -80,9 +85,19 @@ fn count_between(
 #[test]
 fn a_closed_table_lists_its_pairs(rt: HostRuntime) -> Result<(), Fail> {
     let one = one_closed(rt.alloc())?;
-    assert_eq!(rt; one.pairs(rt.alloc())?.as_slice(), [FIVE].as_slice());
+    same(
+        &rt,
+        &one.pairs(rt.alloc())?.as_slice(),
+        &[FIVE].as_slice(),
+        "one pair",
+    );
     let two = two_closed(rt.alloc())?;
-    assert_eq!(rt; two.pairs(rt.alloc())?.as_slice(), [FIVE, NINE].as_slice());
+    same(
+        &rt,
+        &two.pairs(rt.alloc())?.as_slice(),
+        &[FIVE, NINE].as_slice(),
+        "two pairs",
+    );
     // the first key, the last key, how many pairs each table has between
     let cases = [
         (0, u64::MAX, 1, 2),
@@ -98,7 +113,7 @@ fn a_closed_table_lists_its_pairs(rt: HostRuntime) -> Result<(), Fail> {
             count_between(rt.alloc(), &one, first, last)?,
             count_between(rt.alloc(), &two, first, last)?,
         );
-        assert_eq!(rt; found, (in_one, in_two), "{first} to {last}");
+        same(&rt, &found, &(in_one, in_two), (first, last));
     }
     Ok(())
 }

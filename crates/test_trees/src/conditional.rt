@@ -2,6 +2,7 @@
 //! threads raise.
 ghost use Rattle.std.specs.Prelude.{◌≡◌, ◌≤◌};
 
+use crate::judging::same;
 use crate::openings::two_pairs;
 use Asked::{PutIf, RemoveIf};
 use ist_core::{Command, Full, Reply};
@@ -83,7 +84,12 @@ fn an_update_takes_effect_at_the_expected_value_only(rt: HostRuntime) -> Result<
         (PutIf(9, Some(1), 2), Ok(None), None),
         (PutIf(9, None, 2), Ok(None), Some(2)),
     ];
-    assert_eq!(rt; first_wrong(rt.alloc(), 1000, &rows)?, None);
+    same(
+        &rt,
+        &first_wrong(rt.alloc(), 1000, &rows)?,
+        &None,
+        "1000 words",
+    );
     Ok(())
 }
 
@@ -99,7 +105,7 @@ fn an_update_that_misses_its_value_needs_no_words(rt: HostRuntime) -> Result<(),
         (RemoveIf(6, 10), Ok(None), None),
         (PutIf(5, Some(7), 10), Err(full), Some(7)),
     ];
-    assert_eq!(rt; first_wrong(rt.alloc(), 15, &rows)?, None);
+    same(&rt, &first_wrong(rt.alloc(), 15, &rows)?, &None, "15 words");
     Ok(())
 }
 
@@ -142,7 +148,12 @@ fn unlike_plain(alloc: Global, updates: u64) -> Result<u64, OpenFault> {
 fn updates_that_chain_pairs_and_rebuild_rows_are_those_of_a_plain_map(
     rt: HostRuntime,
 ) -> Result<(), Fail> {
-    assert_eq!(rt; unlike_plain(rt.alloc(), 3000)?, 0);
+    same(
+        &rt,
+        &unlike_plain(rt.alloc(), 3000)?,
+        &0,
+        "replies unlike those of a plain map",
+    );
     Ok(())
 }
 
@@ -203,6 +214,11 @@ fn raised_by_two<R: Threads + Sync>(
 #[test]
 fn a_counter_has_the_number_of_its_raises(rt: HostRuntime) -> Result<(), Fail> {
     let (raises, number) = raised_by_two(&rt, rt.alloc(), 50_000)?;
-    assert_eq!(rt; (number, raises >= 50_000), (Some(raises), true));
+    same(
+        &rt,
+        &(number, raises >= 50_000),
+        &(Some(raises), true),
+        "the counter",
+    );
     Ok(())
 }

@@ -1,10 +1,12 @@
 //! Two threads that find in one large tree.
 ghost use Rattle.std.specs.Prelude.{◌≡◌};
 
+use crate::judging::same;
 use crate::openings::{numbered, open_with};
-use ist_tree::{Pass, Tree};
+use ist_tree::{OpenFault, Pass, Tree};
+use std::alloc::Global;
 use std::test::Fail;
-use std::thread::join;
+use std::thread::{Threads, join};
 
 // What the opening values are above their keys.
 const MORE: u64 = 1 << 40;
@@ -23,21 +25,34 @@ fn found_right(tree: &Tree, pass: Pass, first: u64, end: u64) -> u64
     right
 }
 
-#[test]
-fn two_threads_find_each_of_a_hundred_thousand_opening_values(rt: HostRuntime) -> Result<(), Fail> {
-    let plain = numbered(rt.alloc(), 0, 100_000, MORE)?;
-    let (tree, mut maker) = open_with(rt.alloc(), 1_000_000, &plain)?;
+// How many keys each of two threads finds right, of which one also asks for a key that isn't there.
+fn found_by_two<R: Threads + Sync>(rt: &R, tree: &Tree, one: Pass, two: Pass) -> (u64, u64)
+    requires one_tree { one.tree ≡ tree.now }
+    requires two_tree { two.tree ≡ tree.now }
+{
+    join(
+        rt,
+        ||
+            requires same_tree { one.tree ≡ tree.now }
+        { found_right(tree, one, 0, 100_000) },
+        ||
+            requires same_tree { two.tree ≡ tree.now }
+        { found_right(tree, two, 0, 100_001) },
+    )
+}
+
+// The same in a new tree.
+fn found_in_new_tree<R: Threads + Sync>(rt: &R, alloc: Global) -> Result<(u64, u64), OpenFault> {
+    let plain = numbered(alloc, 0, 100_000, MORE)?;
+    let (tree, mut maker) = open_with(alloc, 1_000_000, &plain)?;
     let one = tree.pass(&mut maker);
     let two = tree.pass(&mut maker);
-    let (left, right) = join(
-        &rt,
-        ||
-            requires same_tree { one.tree ≡ tree }
-        { found_right(&tree, one, 0, 100_000) },
-        ||
-            requires same_tree { two.tree ≡ tree }
-        { found_right(&tree, two, 0, 100_001) },
-    );
-    assert_eq!(rt; (left, right), (100_000, 100_000));
+    Ok(found_by_two(rt, &tree, one, two))
+}
+
+#[test]
+fn two_threads_find_each_of_a_hundred_thousand_opening_values(rt: HostRuntime) -> Result<(), Fail> {
+    let found = found_in_new_tree(&rt, rt.alloc())?;
+    same(&rt, &found, &(100_000, 100_000), "each thread");
     Ok(())
 }

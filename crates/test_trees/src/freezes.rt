@@ -1,10 +1,11 @@
 //! Trees that are frozen whole, while their words suffice and where they don't.
-ghost use Rattle.std.specs.Prelude.{◌≡◌, ◌≤◌};
+ghost use Rattle.std.specs.Prelude.{◌≡◌, ◌≤◌, []};
 
+use crate::judging::same;
 use crate::openings::{FIVE, NINE, two_pairs};
 use ist_core::{Full, Pair};
 use ist_rest::WordList;
-use ist_tree::{OpenFault, Pass, Tree};
+use ist_tree::{Maker, OpenFault, Pass, Tree};
 use std::alloc::Global;
 use std::test::Fail;
 
@@ -22,18 +23,40 @@ fn frozen_ends(tree: &Tree, pass: &mut Pass) -> Result<Option<(u64, Pair, Pair)>
     Ok(Some((frozen.keys, first, last)))
 }
 
-#[test]
-fn a_frozen_tree_has_its_pairs_and_the_tree_goes_on_settled(rt: HostRuntime) -> Result<(), Fail> {
-    let (tree, mut maker) = two_pairs(rt.alloc(), 100)?;
+// What a frozen tree has, as `frozen_ends` says it, and a refused rebuild; then its words that are used at the
+// close, and whether it is settled.
+type Frozen = (
+    Result<Option<(u64, Pair, Pair)>, Full>,
+    Option<Full>,
+    u64,
+    bool,
+);
+
+// Freezes the tree by its first pass, and closes it.
+fn frozen_and_closed(tree: Tree, maker: Maker) -> Frozen
+    requires same_tree { maker.tree ≡ tree }
+    requires none_made { maker.made ≡ 0 }
+    requires none_taken { maker.taken ≡ [] }
+{
+    let mut maker = maker;
     let mut pass = tree.pass(&mut maker);
     let ends = frozen_ends(&tree, &mut pass);
     let refused = pass.rebuild_refused();
     tree.take_back(&mut maker, pass);
     let closed = tree.close(maker);
-    assert_eq!(rt;
-        (ends, refused, closed.used(), closed.settled()),
-        (Ok(Some((2, FIVE, NINE))), None, 45, true)
-    );
+    (ends, refused, closed.used(), closed.settled())
+}
+
+// The same of a tree of both pairs.
+fn two_frozen(alloc: Global) -> Result<Frozen, OpenFault> {
+    let (tree, maker) = two_pairs(alloc, 100)?;
+    Ok(frozen_and_closed(tree, maker))
+}
+
+#[test]
+fn a_frozen_tree_has_its_pairs_and_the_tree_goes_on_settled(rt: HostRuntime) -> Result<(), Fail> {
+    let wanted = (Ok(Some((2, FIVE, NINE))), None, 45, true);
+    same(&rt, &two_frozen(rt.alloc())?, &wanted, "two pairs");
     Ok(())
 }
 
@@ -58,46 +81,77 @@ fn a_refused_building_is_kept_and_a_refused_start_is_answered(rt: HostRuntime) -
         asked: 7,
         words: 29,
     };
-    assert_eq!(rt; frozen_in(rt.alloc(), 29)?, (Ok(2), Some(building)));
+    let built = frozen_in(rt.alloc(), 29)?;
+    same(&rt, &built, &(Ok(2), Some(building)), "29 words");
     let start = Full {
         next: 20,
         asked: 9,
         words: 28,
     };
-    assert_eq!(rt; frozen_in(rt.alloc(), 28)?, (Err(start), None));
+    let begun = frozen_in(rt.alloc(), 28)?;
+    same(&rt, &begun, &(Err(start), None), "28 words");
     Ok(())
+}
+
+// What a tree has that a second pass freezes after the first, whether both met the same refusal, and what is found at
+// 9.
+type Twice = (
+    bool,
+    Result<Option<(u64, Pair, Pair)>, Full>,
+    bool,
+    Option<u64>,
+);
+
+// Freezes the tree by one pass, and then by another. Whether the first freeze was done comes first.
+fn freeze_twice(tree: &Tree, first: &mut Pass, second: &mut Pass) -> Twice
+    requires first_tree { first.old.tree ≡ tree.now }
+    requires second_tree { second.old.tree ≡ tree.now }
+    ensures first_tree { first.new.tree ≡ tree.now }
+    ensures second_tree { second.new.tree ≡ tree.now }
+{
+    let begun = tree.freeze(first).is_ok();
+    let ends = frozen_ends(tree, second);
+    let alike = second.rebuild_refused() == first.rebuild_refused();
+    (begun, ends, alike, tree.find(second, 9))
+}
+
+// The same in a tree of both pairs where the start takes the last words, so that the first pass leaves the rebuild
+// without a root; then the word in the anchor's slot, and whether the tree is settled.
+fn frozen_twice(alloc: Global) -> Result<(Twice, u64, bool), OpenFault> {
+    let (tree, mut maker) = two_pairs(alloc, 29)?;
+    let mut first = tree.pass(&mut maker);
+    let mut second = tree.pass(&mut maker);
+    let seen = freeze_twice(&tree, &mut first, &mut second);
+    tree.take_back(&mut maker, first);
+    tree.take_back(&mut maker, second);
+    let closed = tree.close(maker);
+    Ok((seen, closed.word(3), closed.settled()))
 }
 
 #[test]
 fn a_tree_is_frozen_while_the_rebuild_of_another_stands_still(rt: HostRuntime) -> Result<(), Fail> {
-    let (tree, mut maker) = two_pairs(rt.alloc(), 29)?;
-    let mut first = tree.pass(&mut maker);
-    let mut second = tree.pass(&mut maker);
-    // the start takes the last words, so that the first pass leaves the rebuild without a root
-    let begun = tree.freeze(&mut first).is_ok();
-    let ends = frozen_ends(&tree, &mut second);
-    let alike = second.rebuild_refused() == first.rebuild_refused();
-    let found = tree.find(&mut second, 9);
-    tree.take_back(&mut maker, first);
-    tree.take_back(&mut maker, second);
-    let closed = tree.close(maker);
-    assert_eq!(rt;
-        (begun, ends, alike, found),
-        (true, Ok(Some((2, FIVE, NINE))), true, Some(1))
-    );
+    let seen = (true, Ok(Some((2, FIVE, NINE))), true, Some(1));
     // the word of the rebuild at 15
-    assert!(rt; closed.word(3) == 124 && !closed.settled());
+    let wanted = (seen, 124, false);
+    same(
+        &rt,
+        &frozen_twice(rt.alloc())?,
+        &wanted,
+        "the second freeze",
+    );
     Ok(())
+}
+
+// Freezes a tree of one pair.
+fn one_frozen(alloc: Global) -> Result<Frozen, OpenFault> {
+    let pairs = [FIVE];
+    let (tree, maker) = Tree::open(alloc, 6, &pairs)?;
+    Ok(frozen_and_closed(tree, maker))
 }
 
 #[test]
 fn a_leaf_is_frozen_as_it_is(rt: HostRuntime) -> Result<(), Fail> {
-    let pairs = [FIVE];
-    let (tree, mut maker) = Tree::open(rt.alloc(), 6, &pairs)?;
-    let mut pass = tree.pass(&mut maker);
-    let ends = frozen_ends(&tree, &mut pass);
-    tree.take_back(&mut maker, pass);
-    let used = tree.close(maker).used();
-    assert_eq!(rt; (ends, used), (Ok(Some((1, FIVE, FIVE))), 6));
+    let wanted = (Ok(Some((1, FIVE, FIVE))), None, 6, true);
+    same(&rt, &one_frozen(rt.alloc())?, &wanted, "one leaf");
     Ok(())
 }

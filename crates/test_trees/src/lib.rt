@@ -17,6 +17,8 @@ mod finds;
 #[cfg(test)]
 mod freezes;
 #[cfg(test)]
+mod judging;
+#[cfg(test)]
 mod lives;
 #[cfg(test)]
 mod new_trees;

@@ -1,6 +1,7 @@
 //! Ordered reads of small trees: the pairs on both sides of a key, lists, cursors and spans.
 ghost use Rattle.std.specs.Prelude.{◌≡◌, ◌≤◌};
 
+use crate::judging::same;
 use crate::openings::{numbered, open_with};
 use crate::shots::{new_tree, part_of, put_all};
 use ist_core::Pair;
@@ -67,8 +68,13 @@ fn each_key_has_the_next_pair_on_both_sides(rt: HostRuntime) -> Result<(), Fail>
     ];
     for (key, above, below) in cases {
         let found = sides_of(rt.alloc(), &SIX, key)?;
-        assert_eq!(rt; found, (rising(above), rising(below)), "key {key}");
-        assert_eq!(rt; sides_of(rt.alloc(), &[], key)?, (None, None), "key {key}");
+        same(&rt, &found, &(rising(above), rising(below)), key);
+        same(
+            &rt,
+            &sides_of(rt.alloc(), &[], key)?,
+            &(None, None),
+            (key, "in an empty tree"),
+        );
     }
     Ok(())
 }
@@ -99,9 +105,9 @@ fn a_list_has_the_pairs_of_its_interval(rt: HostRuntime) -> Result<(), Fail> {
     for (first, last, low, high) in cases {
         let found = list_of(rt.alloc(), &SIX, first, last)?;
         let part = part_of(rt.alloc(), &RISING, low, high)?;
-        assert_eq!(rt; found, part, "from {first} to {last}");
+        same(&rt, &found, &part, (first, last));
         let none = list_of(rt.alloc(), &[], first, last)?;
-        assert_eq!(rt; none.len(), 0, "from {first} to {last}");
+        same(&rt, &none.len(), &0, (first, last, "in an empty tree"));
     }
     Ok(())
 }
@@ -153,7 +159,7 @@ fn a_cursor_goes_up_and_back_over_the_same_pairs(rt: HostRuntime) -> Result<(), 
         (MAX, [MAX, 0, 0, 0], [MAX, 50, 40, 30]),
     ];
     for (from, up, down) in cases {
-        assert_eq!(rt; turn_of(rt.alloc(), from)?, (up, down), "from {from}");
+        same(&rt, &turn_of(rt.alloc(), from)?, &(up, down), from);
     }
     Ok(())
 }
@@ -177,7 +183,7 @@ fn a_cursor_above_a_key_has_it_below(rt: HostRuntime) -> Result<(), Fail> {
         (u64::MAX, 0, u64::MAX),
     ];
     for (key, up, down) in cases {
-        assert_eq!(rt; above_of(rt.alloc(), key)?, (up, down), "above {key}");
+        same(&rt, &above_of(rt.alloc(), key)?, &(up, down), key);
     }
     Ok(())
 }
@@ -219,8 +225,8 @@ fn a_list_at_rest_is_that_of_the_closed_tree(rt: HostRuntime) -> Result<(), Fail
     let cases = [(0, 0), (1, 1), (20, 20), (400, 399)];
     for (keys, count) in cases {
         let (list, closed) = list_and_closed(rt.alloc(), keys)?;
-        assert_eq!(rt; list, closed, "{keys} keys");
-        assert_eq!(rt; list.len() as u64, count, "{keys} keys");
+        same(&rt, &list, &closed, keys);
+        same(&rt, &(list.len() as u64), &count, keys);
     }
     Ok(())
 }
@@ -248,10 +254,11 @@ fn a_span_has_one_pair_and_the_keys_up_to_the_next(rt: HostRuntime) -> Result<()
             key: number,
             value: number,
         });
-        assert_eq!(rt;
-            span_of(rt.alloc(), asked)?,
-            Span { first, last, pair },
-            "key {asked}"
+        same(
+            &rt,
+            &span_of(rt.alloc(), asked)?,
+            &Span { first, last, pair },
+            asked,
         );
     }
     Ok(())

@@ -1,12 +1,13 @@
 //! New trees, which are searched by passes that tell each other what they know, and closed.
-ghost use Rattle.std.specs.Prelude.{◌≤◌, length, map};
+ghost use Rattle.std.specs.Prelude.{◌≡◌, ◌≤◌, length, map};
 ghost use Rattle.std.specs.List.Sorted.{IsStrictlyIncreasing};
 
+use crate::judging::same;
 use crate::openings::{FIVE, NINE, two_pairs};
 use ist_core::Pair;
 use ist_image::Image;
 use ist_rest::{Closed, WordList};
-use ist_tree::{OpenFault, Tree};
+use ist_tree::{OpenFault, Pass, Tree};
 use std::alloc::Global;
 use std::test::Fail;
 
@@ -28,7 +29,7 @@ fn each_key_is_found_with_its_opening_value(rt: HostRuntime) -> Result<(), Fail>
         (u64::MAX, None),
     ];
     for (key, value) in cases {
-        assert_eq!(rt; found_at(rt.alloc(), key)?, value, "key {key}");
+        same(&rt, &found_at(rt.alloc(), key)?, &value, key);
     }
     Ok(())
 }
@@ -63,7 +64,7 @@ fn a_tree_is_opened_exactly_where_its_pairs_have_room(rt: HostRuntime) -> Result
         (7, None),
     ];
     for (words, fault) in cases {
-        assert_eq!(rt; fault_in(rt.alloc(), words), fault, "{words} words");
+        same(&rt, &fault_in(rt.alloc(), words), &fault, words);
     }
     Ok(())
 }
@@ -97,7 +98,24 @@ fn found_over_one_image(alloc: Global) -> [Result<(Option<u64>, Option<u64>), Op
 #[test]
 fn one_image_serves_for_two_openings(rt: HostRuntime) {
     let found = found_over_one_image(rt.alloc());
-    assert_eq!(rt; found, [Ok((Some(1), Some(7))), Ok((None, Some(7)))]);
+    same(
+        &rt,
+        &found,
+        &[Ok((Some(1), Some(7))), Ok((None, Some(7)))],
+        "both trees",
+    );
+}
+
+// What a pass finds at a key, once another has told it what it knows.
+fn find_when_told(tree: &Tree, teller: &mut Pass, told: &mut Pass, key: u64) -> Option<u64>
+    requires teller_tree { teller.old.tree ≡ tree.now }
+    requires told_tree { told.old.tree ≡ tree.now }
+    ensures teller_tree { teller.new.tree ≡ tree.now }
+    ensures told_tree { told.new.tree ≡ tree.now }
+{
+    let note = tree.note(teller);
+    tree.meet(told, note);
+    tree.find(told, key)
 }
 
 // What each of three passes of a tree finds, where each is told what the one before knows; the numbers of
@@ -107,16 +125,11 @@ fn found_in_turn(alloc: Global) -> Result<([Option<u64>; 3], (u64, u64), Closed,
     let mut first = tree.pass(&mut maker);
     let mut second = tree.pass(&mut maker);
     let in_first = tree.find(&mut first, 5);
-    let dropped = tree.note(&mut first);
-    drop(dropped);
-    let told = tree.note(&mut first);
-    tree.meet(&mut second, told);
-    let in_second = tree.find(&mut second, 9);
+    drop(tree.note(&mut first));
+    let in_second = find_when_told(&tree, &mut first, &mut second, 9);
     tree.take_back(&mut maker, first);
     let mut third = tree.pass(&mut maker);
-    let told = tree.note(&mut second);
-    tree.meet(&mut third, told);
-    let in_third = tree.find(&mut third, 6);
+    let in_third = find_when_told(&tree, &mut second, &mut third, 6);
     let numbers = (second.number(), third.number());
     tree.take_back(&mut maker, third);
     tree.take_back(&mut maker, second);
@@ -129,15 +142,17 @@ fn found_in_turn(alloc: Global) -> Result<([Option<u64>; 3], (u64, u64), Closed,
 fn notes_go_from_pass_to_pass_until_the_tree_is_closed(rt: HostRuntime) -> Result<(), Fail> {
     let (found, numbers, closed, word) = found_in_turn(rt.alloc())?;
     let pairs = closed.pairs(rt.alloc())?;
-    assert_eq!(rt;
-        (found, numbers, pairs.as_slice(), closed.used(), word),
-        (
+    same(
+        &rt,
+        &(found, numbers, pairs.as_slice(), closed.used(), word),
+        &(
             [Some(7), Some(1), None],
             (1, 2),
             [FIVE, NINE].as_slice(),
             15,
-            3
-        )
+            3,
+        ),
+        "three passes",
     );
     Ok(())
 }

@@ -2,10 +2,13 @@
 ghost use Rattle.std.specs.Prelude.{◌≡◌, ◌≤◌};
 
 use crate::asking::ask;
+use crate::judging::same;
 use crate::openings::{numbered, open_with};
 use crate::shapes::is_ideal;
 use ist_core::{Command, Pair};
+use ist_rest::Closed;
 use ist_tree::{OpenFault, Pass, Tree};
+use plain_map::Plain;
 use std::alloc::Global;
 use std::test::Fail;
 use test_tools::Asked;
@@ -37,27 +40,50 @@ struct Found {
     right: bool,
 }
 
+// A tree of these pairs, closed after so many puts of one key. Whether each put was answered right, without a refused
+// rebuild.
+fn closed_after(
+    alloc: Global,
+    plain: &Plain,
+    key: u64,
+    puts: u64,
+) -> Result<(Closed, bool), OpenFault>
+    requires few { puts ≤ 100000 }
+{
+    let (tree, mut maker) = open_with(alloc, 10_000, plain)?;
+    let mut pass = tree.pass(&mut maker);
+    let agrees = put_again(&tree, &mut pass, key, key, puts);
+    let ample = pass.rebuild_refused().is_none();
+    tree.take_back(&mut maker, pass);
+    Ok((tree.close(maker), agrees && ample))
+}
+
+// What the closed tree is like, which is to have these pairs.
+fn found_in(
+    alloc: Global,
+    closed: &Closed,
+    plain: &Plain,
+    answered: bool,
+) -> Result<Found, OpenFault> {
+    let pairs = closed.pairs(alloc)?;
+    let ideal = is_ideal(alloc, closed, plain)?;
+    Ok(Found {
+        used: closed.used(),
+        pairs: pairs.len() as u64,
+        first: pairs.first().copied(),
+        ideal,
+        right: closed.settled() && answered,
+    })
+}
+
 // What a tree of so many keys is like where so many puts of one key were made in it.
 fn used_by(alloc: Global, keys: u64, key: u64, puts: u64) -> Result<Found, OpenFault>
     requires few { (keys ≤ 100000) × (puts ≤ 100000) }
 {
     let mut plain = numbered(alloc, 1, keys + 1, 0)?;
-    let (tree, mut maker) = open_with(alloc, 10_000, &plain)?;
-    let mut pass = tree.pass(&mut maker);
-    let agrees = put_again(&tree, &mut pass, key, key, puts);
-    let ample = pass.rebuild_refused().is_none();
-    tree.take_back(&mut maker, pass);
-    let closed = tree.close(maker);
-    let right = closed.settled() && agrees && ample;
-    let pairs = closed.pairs(alloc)?;
+    let (closed, answered) = closed_after(alloc, &plain, key, puts)?;
     plain.apply(Command::Put { key, value: puts })?;
-    Ok(Found {
-        used: closed.used(),
-        pairs: pairs.len() as u64,
-        first: pairs.first().copied(),
-        ideal: is_ideal(alloc, &closed, &plain)?,
-        right,
-    })
+    found_in(alloc, &closed, &plain, answered)
 }
 
 #[test]
@@ -80,7 +106,7 @@ fn rows_that_come_due_are_rebuilt_from_the_top_one_down(rt: HostRuntime) -> Resu
             ideal,
             right: true,
         };
-        assert_eq!(rt; found, wanted, "{keys} keys, {puts} puts");
+        same(&rt, &found, &wanted, (keys, puts));
     }
     Ok(())
 }

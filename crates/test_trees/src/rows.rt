@@ -2,6 +2,7 @@
 ghost use Rattle.std.specs.Prelude.{◌≡◌, ◌≤◌};
 
 use crate::asking::{ask, ask_each};
+use crate::judging::same;
 use crate::openings::numbered;
 use crate::shapes::is_ideal;
 use Asked::{Find, Put, Remove};
@@ -37,10 +38,10 @@ fn a_put_needs_eleven_words(rt: HostRuntime) -> Result<(), Fail> {
     };
     let refused = [(Put(1, 1), Err(full)), (Find(1), Ok(None))];
     let (closed, wrong) = closed_after(rt.alloc(), 14, &refused)?;
-    assert_eq!(rt; (wrong, closed.used()), (None, 6));
+    same(&rt, &(wrong, closed.used()), &(None, 6), "14 words");
     let answered = [(Put(1, 1), Ok(None)), (Find(1), Ok(Some(1)))];
     let (closed, wrong) = closed_after(rt.alloc(), 15, &answered)?;
-    assert_eq!(rt; (wrong, closed.used()), (None, 15));
+    same(&rt, &(wrong, closed.used()), &(None, 15), "15 words");
     Ok(())
 }
 
@@ -58,10 +59,17 @@ fn removed_keys_leave_their_slots(rt: HostRuntime) -> Result<(), Fail> {
     let pairs = closed.pairs(rt.alloc())?;
     let last = closed.list(rt.alloc(), 2, 9)?;
     let none = closed.list(rt.alloc(), 3, 1)?;
-    assert_eq!(rt; (wrong, closed.used(), none.len()), (None, 53, 0));
-    assert_eq!(rt;
-        (pairs.as_slice(), last.as_slice()),
-        (both.as_slice(), &both[1..])
+    same(
+        &rt,
+        &(wrong, closed.used(), none.len()),
+        &(None, 53, 0),
+        "five updates",
+    );
+    same(
+        &rt,
+        &(pairs.as_slice(), last.as_slice()),
+        &(both.as_slice(), &both[1..]),
+        "their pairs",
     );
     Ok(())
 }
@@ -81,26 +89,29 @@ fn closed_after_ten(alloc: Global) -> Result<(Closed, Option<usize>), OpenFault>
     closed_after(alloc, 1000, &cases)
 }
 
-// Whether the pairs of a closed tree are 1 to 10, each with its own number as the value, those from 3 to 5 are
-// listed so, and the tree over all of them is ideal, with counts of 0.
-fn has_ten(alloc: Global, closed: &Closed) -> Result<[bool; 3], OpenFault> {
+// Whether the pairs of a closed tree are 1 to 10, each with its own number as the value, and the tree over all of them
+// is ideal, with counts of 0.
+fn has_ten(alloc: Global, closed: &Closed) -> Result<(bool, bool), OpenFault> {
     let ten = numbered(alloc, 1, 11, 0)?;
     let all = closed.pairs(alloc)?.as_slice() == ten.pairs();
-    let ideal = is_ideal(alloc, closed, &ten)?;
-    drop(ten);
+    Ok((all, is_ideal(alloc, closed, &ten)?))
+}
+
+// Whether those from 3 to 5 are listed so.
+fn has_three(alloc: Global, closed: &Closed) -> Result<bool, AllocError> {
     let three = numbered(alloc, 3, 6, 0)?;
-    let some = closed.list(alloc, 3, 5)?.as_slice() == three.pairs();
-    Ok([all, some, ideal])
+    Ok(closed.list(alloc, 3, 5)?.as_slice() == three.pairs())
 }
 
 #[test]
 fn the_tenth_put_rebuilds_the_first_pair_row(rt: HostRuntime) -> Result<(), Fail> {
     let (closed, wrong) = closed_after_ten(rt.alloc())?;
-    let listed = has_ten(rt.alloc(), &closed)?;
-    assert_eq!(rt;
-        (wrong, closed.used(), closed.settled(), listed),
-        (None, 258, true, [true; 3])
-    );
+    let left = (wrong, closed.used(), closed.settled());
+    same(&rt, &left, &(None, 258, true), "ten puts");
+    let ten = has_ten(rt.alloc(), &closed)?;
+    same(&rt, &ten, &(true, true), "the ten pairs");
+    let three = has_three(rt.alloc(), &closed)?;
+    same(&rt, &three, &true, "three of them");
     Ok(())
 }
 
@@ -123,6 +134,6 @@ fn told_in_turn(alloc: Global) -> Result<[Result<Reply, Full>; 4], OpenFault> {
 #[test]
 fn passes_that_meet_see_what_each_has_done(rt: HostRuntime) -> Result<(), Fail> {
     let answers = [Ok(None), Ok(Some(1)), Ok(Some(1)), Ok(None)];
-    assert_eq!(rt; told_in_turn(rt.alloc())?, answers);
+    same(&rt, &told_in_turn(rt.alloc())?, &answers, "two passes");
     Ok(())
 }

@@ -1,6 +1,7 @@
 //! Intervals and bins at both ends of all keys.
 ghost use Rattle.std.specs.Prelude.{◌≤◌};
 
+use crate::judging::same;
 use crate::shots::{shot_of, sum_and_first_wrong};
 use ist_core::Pair;
 use ist_scan::Total;
@@ -36,7 +37,12 @@ fn intervals_reach_the_least_and_the_greatest_key(rt: HostRuntime) -> Result<(),
         (6, u64::MAX - 2, 2, 2),
     ];
     let found = sum_and_first_wrong(rt.alloc(), &FOUR, &cases)?;
-    assert_eq!(rt; found, (2 * u128::from(u64::MAX) + 10, Ok(None)));
+    same(
+        &rt,
+        &found,
+        &(2 * u128::from(u64::MAX) + 10, Ok(None)),
+        "the four pairs",
+    );
     Ok(())
 }
 
@@ -63,7 +69,7 @@ fn the_last_bins_may_end_beyond_all_keys(rt: HostRuntime) -> Result<(), Fail> {
     ];
     for (first, width, keys) in cases {
         let found = keys_in_bins(rt.alloc(), first, width)?;
-        assert_eq!(rt; found, keys, "{width} keys from {first} on");
+        same(&rt, &found, &keys, (width, first));
     }
     Ok(())
 }

@@ -2,6 +2,7 @@
 ghost use Rattle.std.specs.Prelude.{◌≡◌, ◌≤◌};
 
 use crate::asking::ask;
+use crate::judging::same;
 use crate::shots::list_alike;
 use ist_core::Pair;
 use ist_scan::Shot;
@@ -149,8 +150,13 @@ fn each_shot_beside_threads_that_put_and_remove_is_one_moment_of_theirs(
     for _ in 0..4 {
         let (answered, one, two) = write_and_scan(&rt, rt.alloc())?;
         assert!(rt; answered);
-        assert_eq!(rt; (one.taken, one.others), (40, 0));
-        assert_eq!(rt; (two.taken, two.others), (40, 0));
+        same(&rt, &(one.taken, one.others), &(40, 0), "the first scanner");
+        same(
+            &rt,
+            &(two.taken, two.others),
+            &(40, 0),
+            "the second scanner",
+        );
     }
     Ok(())
 }

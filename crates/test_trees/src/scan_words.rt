@@ -2,6 +2,7 @@
 ghost use Rattle.std.specs.Prelude.{◌≡◌, ◌≤◌};
 
 use crate::asking::ask;
+use crate::judging::same;
 use crate::openings::{numbered, open_with, two_pairs};
 use ist_core::{Full, Reply};
 use ist_image::needed_words;
@@ -11,27 +12,37 @@ use std::alloc::Global;
 use std::test::Fail;
 use test_tools::Asked::{Find, Put, Remove};
 
-// How many words a shot of a new tree of so many keys takes: by the words left before and after it, and
-// by the words of the closed tree.
+// How many words a shot takes, by the words left before and after it, if one is taken.
+fn room_taken(tree: &Tree, pass: &mut Pass) -> Option<u64>
+    requires same_tree { pass.old.tree ≡ tree.now }
+    ensures same_tree { pass.new.tree ≡ tree.now }
+{
+    let before = tree.room(pass);
+    let taken = Shot::take(tree, pass).is_ok();
+    let after = tree.room(pass);
+    if taken {
+        Some(before.wrapping_sub(after))
+    } else {
+        None
+    }
+}
+
+// The same of a new tree of so many keys, and by the words of the closed tree.
 fn words_taken(alloc: Global, keys: u64) -> Result<(u64, u64), OpenFault>
     requires few { keys ≤ 100000 }
 {
     let plain = numbered(alloc, 1, keys + 1, 0)?;
     let (tree, mut maker) = open_with(alloc, 2_000_000, &plain)?;
     let mut pass = tree.pass(&mut maker);
-    let before = tree.room(&mut pass);
-    let taken = Shot::take(&tree, &mut pass).is_ok();
-    let after = tree.room(&mut pass);
+    let taken = room_taken(&tree, &mut pass);
     tree.take_back(&mut maker, pass);
     let closed = tree.close(maker);
-    if !taken || !closed.settled() {
-        return Ok((0, 0));
+    match taken {
+        Some(words) if closed.settled() => {
+            Ok((words, closed.used().wrapping_sub(needed_words(keys))))
+        }
+        _ => Ok((0, 0)),
     }
-    let used = closed.used();
-    Ok((
-        before.wrapping_sub(after),
-        used.wrapping_sub(needed_words(keys)),
-    ))
 }
 
 #[test]
@@ -39,12 +50,8 @@ fn a_shot_takes_the_words_that_are_said(rt: HostRuntime) -> Result<(), Fail> {
     // the keys, and 23 words more than those of the inner rows
     let cases = [(2, 30), (3, 37), (10, 81), (16, 118), (400, 2526)];
     for (keys, words) in cases {
-        let taken = words_taken(rt.alloc(), keys)?;
-        assert_eq!(rt;
-            (taken, shot_words(keys)),
-            ((words, words), words),
-            "{keys} keys"
-        );
+        let taken = (words_taken(rt.alloc(), keys)?, shot_words(keys));
+        same(&rt, &taken, &((words, words), words), keys);
     }
     Ok(())
 }
@@ -53,11 +60,7 @@ fn a_shot_takes_the_words_that_are_said(rt: HostRuntime) -> Result<(), Fail> {
 fn so_does_a_shot_of_many_keys(rt: HostRuntime) -> Result<(), Fail> {
     for keys in [100, 255, 256, 257, 1_000, 95_023] {
         let words = shot_words(keys);
-        assert_eq!(rt;
-            words_taken(rt.alloc(), keys)?,
-            (words, words),
-            "{keys} keys"
-        );
+        same(&rt, &words_taken(rt.alloc(), keys)?, &(words, words), keys);
     }
     Ok(())
 }
@@ -65,20 +68,34 @@ fn so_does_a_shot_of_many_keys(rt: HostRuntime) -> Result<(), Fail> {
 #[test]
 fn an_empty_tree_and_a_leaf_are_shot_without_words(rt: HostRuntime) -> Result<(), Fail> {
     for keys in [0, 1] {
-        assert_eq!(rt; words_taken(rt.alloc(), keys)?, (0, 0), "{keys} keys");
+        same(&rt, &words_taken(rt.alloc(), keys)?, &(0, 0), keys);
     }
     Ok(())
 }
 
+// What a remove of 9 is told, how many keys a shot then has, and how many words it takes.
+fn remove_and_shoot(tree: &Tree, pass: &mut Pass) -> (Result<Reply, Full>, Result<u64, Full>, u64)
+    requires same_tree { pass.old.tree ≡ tree.now }
+{
+    let removed = ask(tree, pass, Remove(9));
+    let before = tree.room(pass);
+    let keys = keys_taken(tree, pass, true, 1);
+    (removed, keys, before.wrapping_sub(tree.room(pass)))
+}
+
+// The same in a tree of two pairs.
+fn shot_of_one_left(
+    alloc: Global,
+) -> Result<(Result<Reply, Full>, Result<u64, Full>, u64), OpenFault> {
+    let (tree, mut maker) = two_pairs(alloc, 100)?;
+    let mut pass = tree.pass(&mut maker);
+    Ok(remove_and_shoot(&tree, &mut pass))
+}
+
 #[test]
 fn one_key_left_below_a_row_costs_the_start_and_the_finish(rt: HostRuntime) -> Result<(), Fail> {
-    let (tree, mut maker) = two_pairs(rt.alloc(), 100)?;
-    let mut pass = tree.pass(&mut maker);
-    let removed = ask(&tree, &mut pass, Remove(9));
-    let before = tree.room(&mut pass);
-    let keys = keys_taken(&tree, &mut pass, true, 1);
-    let words = before.wrapping_sub(tree.room(&mut pass));
-    assert_eq!(rt; (removed, keys, words), (Ok(Some(1)), Ok(1), shot_words(1)));
+    let wanted = (Ok(Some(1)), Ok(1), shot_words(1));
+    same(&rt, &shot_of_one_left(rt.alloc())?, &wanted, "one key left");
     Ok(())
 }
 
@@ -106,23 +123,30 @@ struct Told {
     find: Result<Reply, Full>,
 }
 
-// What a tree of two pairs and 100 words is told of a third shot, and of a put and a find after it.
-fn third_shot(alloc: Global, looks: bool) -> Result<Told, OpenFault> {
-    let (tree, mut maker) = two_pairs(alloc, 100)?;
-    let mut pass = tree.pass(&mut maker);
-    let first = keys_taken(&tree, &mut pass, looks, 2);
-    let second = keys_taken(&tree, &mut pass, looks, 2);
-    let third = keys_taken(&tree, &mut pass, looks, 2);
+// What a tree is told of three shots, and of a put and a find after them.
+fn shoot_three(tree: &Tree, pass: &mut Pass, looks: bool) -> Told
+    requires same_tree { pass.old.tree ≡ tree.now }
+{
+    let first = keys_taken(tree, pass, looks, 2);
+    let second = keys_taken(tree, pass, looks, 2);
+    let third = keys_taken(tree, pass, looks, 2);
     let kept = pass.rebuild_refused();
-    let put = ask(&tree, &mut pass, Put(7, 3));
-    let find = ask(&tree, &mut pass, Find(9));
-    Ok(Told {
+    let put = ask(tree, pass, Put(7, 3));
+    let find = ask(tree, pass, Find(9));
+    Told {
         two: (first, second),
         third,
         kept,
         put,
         find,
-    })
+    }
+}
+
+// The same of a tree of two pairs and 100 words.
+fn third_shot(alloc: Global, looks: bool) -> Result<Told, OpenFault> {
+    let (tree, mut maker) = two_pairs(alloc, 100)?;
+    let mut pass = tree.pass(&mut maker);
+    Ok(shoot_three(&tree, &mut pass, looks))
 }
 
 #[test]
@@ -139,7 +163,7 @@ fn a_shot_without_room_is_refused_and_puts_go_on(rt: HostRuntime) -> Result<(), 
         put: Ok(None),
         find: Ok(Some(1)),
     };
-    assert_eq!(rt; third_shot(rt.alloc(), true)?, wanted);
+    same(&rt, &third_shot(rt.alloc(), true)?, &wanted, "with a look");
     Ok(())
 }
 
@@ -157,6 +181,11 @@ fn without_the_look_it_is_taken_and_no_put_is(rt: HostRuntime) -> Result<(), Fai
         put: Err(full),
         find: Ok(Some(1)),
     };
-    assert_eq!(rt; third_shot(rt.alloc(), false)?, wanted);
+    same(
+        &rt,
+        &third_shot(rt.alloc(), false)?,
+        &wanted,
+        "without a look",
+    );
     Ok(())
 }

@@ -2,6 +2,7 @@
 ghost use Rattle.std.specs.Prelude.{◌≡◌};
 ghost use Rattle.ist_tree.specs.Freezing.{IsFrozenFor};
 
+use crate::judging::same;
 use crate::shots::{
     first_wrong, part_of, put_all, put_beside, rebuild_beside, remove_beside, shot_of,
     sum_and_first_wrong,
@@ -64,7 +65,12 @@ fn read_of_ten(alloc: Global) -> Result<(u64, [Total; 3], [Total; 3]), Fail> {
 fn ten_readings_are_added_up_between_keys_and_in_bins(rt: HostRuntime) -> Result<(), Fail> {
     let totals = [total(4, 14, 2, 5), Total::of_none(), total(10, 45, 0, 9)];
     let bins = [total(4, 6, 0, 3), total(4, 22, 4, 7), total(2, 17, 8, 9)];
-    assert_eq!(rt; read_of_ten(rt.alloc())?, (10, totals, bins));
+    same(
+        &rt,
+        &read_of_ten(rt.alloc())?,
+        &(10, totals, bins),
+        "the ten pairs",
+    );
     Ok(())
 }
 
@@ -85,7 +91,7 @@ fn a_list_a_walk_and_a_total_agree_on_each_interval(rt: HostRuntime) -> Result<(
         (u64::MAX, 0, 5, 5),
     ];
     let found = sum_and_first_wrong(rt.alloc(), &TEN, &cases)?;
-    assert_eq!(rt; found, (45, Ok(None)));
+    same(&rt, &found, &(45, Ok(None)), "the ten pairs");
     Ok(())
 }
 
@@ -123,7 +129,7 @@ fn a_shot_keeps_a_key_that_was_removed_since_and_a_new_one_has_none(
     rt: HostRuntime,
 ) -> Result<(), Fail> {
     let found = remove_from_one(rt.alloc())?;
-    assert_eq!(rt; found, (Ok(Some(1)), None, 0, None));
+    same(&rt, &found, &(Ok(Some(1)), None, 0, None), "the one pair");
     Ok(())
 }
 
@@ -171,7 +177,12 @@ fn rebuild_of_ten(alloc: Global) -> Result<(Result<u64, Full>, Wrong, Total), Fa
 #[test]
 fn a_shot_is_read_as_it_was_after_ten_further_rebuilds(rt: HostRuntime) -> Result<(), Fail> {
     let found = rebuild_of_ten(rt.alloc())?;
-    assert_eq!(rt; found, (Ok(10), None, total(1, 109, 109, 109)));
+    same(
+        &rt,
+        &found,
+        &(Ok(10), None, total(1, 109, 109, 109)),
+        "the ten pairs",
+    );
     Ok(())
 }
 
@@ -203,7 +214,7 @@ fn list_in_new_tree(alloc: Global) -> Result<(Vec<Pair>, Vec<Pair>), Fail> {
 fn two_passes_list_one_shot_alike(rt: HostRuntime) -> Result<(), Fail> {
     let (taken, learnt) = list_in_new_tree(rt.alloc())?;
     let part = part_of(rt.alloc(), &TEN, 2, 5)?;
-    assert_eq!(rt; taken, part);
-    assert_eq!(rt; learnt, part);
+    same(&rt, &taken, &part, "the pass that took it");
+    same(&rt, &learnt, &part, "the pass that learnt of it");
     Ok(())
 }

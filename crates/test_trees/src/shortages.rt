@@ -2,6 +2,7 @@
 ghost use Rattle.std.specs.Prelude.{◌≡◌, ◌≤◌};
 
 use crate::asking::ask;
+use crate::judging::same;
 use Asked::{Find, Put};
 use ist_core::{Full, Reply};
 use ist_tree::{OpenFault, Pass, Tree};
@@ -41,28 +42,56 @@ fn put_ten(tree: &Tree, pass: &mut Pass) -> (Result<Reply, Full>, u64, bool)
     (last, count, agrees)
 }
 
-// Ten puts in a tree of so many words, with an eleventh after them or not.
+// What was told of ten puts, and of an eleventh, if one was made.
+#[derive(Drop)]
+struct Told {
+    tenth: Result<Reply, Full>,
+    rebuild: Option<Full>,
+    eleventh: Result<Reply, Full>,
+    // how many pairs there are then
+    count: u64,
+    // whether each find is as the puts were answered
+    agrees: bool,
+}
+
+// Ten puts, with an eleventh after them or not.
+fn put_more(tree: &Tree, pass: &mut Pass, with_more: bool) -> Told
+    requires same_tree { pass.old.tree ≡ tree.now }
+    ensures same_tree { pass.new.tree ≡ tree.now }
+{
+    let (tenth, count, found) = put_ten(tree, pass);
+    let rebuild = pass.rebuild_refused();
+    let mut eleventh = Ok(None);
+    let mut more = 0;
+    if with_more {
+        eleventh = ask(tree, pass, Put(11, 11));
+        more = if eleventh.is_ok() { 1 } else { 0 };
+    }
+    let tenth_found = (ask(tree, pass, Find(10)) != Ok(None)) == tenth.is_ok();
+    Told {
+        tenth,
+        rebuild,
+        eleventh,
+        count: count + more,
+        agrees: found && tenth_found,
+    }
+}
+
+// The same in a tree of so many words.
 fn outcome_in(alloc: Global, words: u32, with_more: bool) -> Result<Outcome, OpenFault>
     requires least { 4 ≤ words }
     requires most { words ≤ 1000 }
 {
     let (tree, mut maker) = Tree::open(alloc, words, &[])?;
     let mut pass = tree.pass(&mut maker);
-    let (tenth, count, found) = put_ten(&tree, &mut pass);
-    let rebuild = pass.rebuild_refused();
-    let mut eleventh = Ok(None);
-    if with_more {
-        eleventh = ask(&tree, &mut pass, Put(11, 11));
-    }
-    let tenth_found = (ask(&tree, &mut pass, Find(10)) != Ok(None)) == tenth.is_ok();
+    let told = put_more(&tree, &mut pass, with_more);
     tree.take_back(&mut maker, pass);
     let closed = tree.close(maker);
-    let more = if with_more && eleventh.is_ok() { 1 } else { 0 };
-    let agrees = found && tenth_found && closed.pairs(alloc)?.len() as u64 == count + more;
+    let agrees = told.agrees && closed.pairs(alloc)?.len() as u64 == told.count;
     Ok(Outcome {
-        tenth,
-        rebuild,
-        eleventh,
+        tenth: told.tenth,
+        rebuild: told.rebuild,
+        eleventh: told.eleventh,
         used: closed.used(),
         settled: closed.settled(),
         agrees,
@@ -73,9 +102,37 @@ fn outcome_in(alloc: Global, words: u32, with_more: bool) -> Result<Outcome, Ope
 fn what_was_answered_stands_in_a_tree_of_any_size(rt: HostRuntime) -> Result<(), Fail> {
     for words in 4..259 {
         let outcome = outcome_in(rt.alloc(), words, true)?;
-        assert!(rt; outcome.agrees, "{words} words");
+        same(&rt, &outcome.agrees, &true, words);
     }
     Ok(())
+}
+
+// The last answer of ten puts, the refused rebuild, the words used, whether the tree is settled, and whether it agrees.
+type Ten = (Result<Reply, Full>, Option<Full>, u64, bool, bool);
+
+fn ten_in(alloc: Global, words: u32) -> Result<Ten, OpenFault>
+    requires least { 4 ≤ words }
+    requires most { words ≤ 1000 }
+{
+    let came = outcome_in(alloc, words, false)?;
+    Ok((
+        came.tenth,
+        came.rebuild,
+        came.used,
+        came.settled,
+        came.agrees,
+    ))
+}
+
+// The last two answers of eleven puts, and whether the tree agrees.
+type Eleven = (Result<Reply, Full>, Result<Reply, Full>, bool);
+
+fn eleven_in(alloc: Global, words: u32) -> Result<Eleven, OpenFault>
+    requires least { 4 ≤ words }
+    requires most { words ≤ 1000 }
+{
+    let came = outcome_in(alloc, words, true)?;
+    Ok((came.tenth, came.eleventh, came.agrees))
 }
 
 fn full(next: u64, asked: u64, words: u64) -> Full {
@@ -94,24 +151,10 @@ fn a_refused_rebuild_leaves_the_put_answered(rt: HostRuntime) -> Result<(), Fail
         (258, None, full(258, 2, 258), 258, true),
     ];
     for (words, rebuild, eleventh, used, settled) in cases {
-        let first = outcome_in(rt.alloc(), words, false)?;
-        let ten = (
-            first.tenth,
-            first.rebuild,
-            first.used,
-            first.settled,
-            first.agrees,
-        );
-        let more = outcome_in(rt.alloc(), words, true)?;
-        let eleven = (more.tenth, more.eleventh, more.agrees);
-        assert_eq!(rt;
-            (ten, eleven),
-            (
-                (Ok(None), rebuild, used, settled, true),
-                (Ok(None), Err(eleventh), true)
-            ),
-            "{words} words, and one put more"
-        );
+        let wanted = (Ok(None), rebuild, used, settled, true);
+        same(&rt, &ten_in(rt.alloc(), words)?, &wanted, words);
+        let wanted = (Ok(None), Err(eleventh), true);
+        same(&rt, &eleven_in(rt.alloc(), words)?, &wanted, words);
     }
     Ok(())
 }

@@ -1,5 +1,6 @@
 //! The judging of what threads were told, on small tales that have an order and on some that have none.
 
+use crate::judging::same;
 use Asked::{Find, Put, Remove};
 use ist_core::{Pair, Reply};
 use std::alloc::{AllocError, Global};
@@ -123,7 +124,7 @@ fn tales_that_have_no_order_are_refused(rt: HostRuntime) {
         Misfit::NotFound { key: 1 },
         Misfit::NeverThere { key: 2, value: 101 },
     ];
-    assert_eq!(rt; found, misfits.map(Err));
+    same(&rt, &found, &misfits.map(Err), "each tale");
 }
 
 #[test]
@@ -140,7 +141,12 @@ fn tales_that_go_around_are_refused(rt: HostRuntime) {
         (Remove(2), Some(202)),
     ];
     let kept = [Pair { key: 1, value: 100 }];
-    assert_eq!(rt; judged(rt.alloc(), &one, &two, &kept), Err(Misfit::Around));
+    same(
+        &rt,
+        &judged(rt.alloc(), &one, &two, &kept),
+        &Err(Misfit::Around),
+        "the two threads",
+    );
 }
 
 // Judges two frozen trees of a map that had 100 at key 1. One thread put 101 there, and then 201 at key 2;
@@ -186,7 +192,7 @@ fn frozen_trees_that_are_no_moments_are_refused(rt: HostRuntime) {
         Err(Misfit::Crossed),
         Err(Misfit::NeverThere { key: 3, value: 303 }),
     ];
-    assert_eq!(rt; found, misfits);
+    same(&rt, &found, &misfits, "each two frozen trees");
 }
 
 // A call with its reply, the time at which it began and the one at which it ended.
@@ -291,8 +297,8 @@ fn a_call_that_goes_back_in_time_is_refused(rt: HostRuntime) {
         // nothing, though the new life had begun
         timely(alloc, &[gone, anew], &[(Find(1), None, 10, 11)], &[AT_101]),
     ];
-    let keys = [1, 1, 1, 2, 1, 1, 1];
-    assert_eq!(rt; found, keys.map(|key| Err(Misfit::Stale { key })));
+    let stale = [1, 1, 1, 2, 1, 1, 1].map(|key| Err(Misfit::Stale { key }));
+    same(&rt, &found, &stale, "each tale");
 }
 
 #[test]
@@ -302,9 +308,7 @@ fn the_clock_orders_calls_as_they_are_made(rt: HostRuntime) {
     let first = clock.end(first);
     let after = clock.end(clock.begin());
     let beside = clock.end(beside);
-    assert_eq!(rt; first.ended < after.began, true);
-    assert_eq!(rt;
-        first.ended < beside.began || beside.ended < after.began,
-        false
-    );
+    let is_apart = first.ended < beside.began || beside.ended < after.began;
+    let found = (first.ended < after.began, is_apart);
+    same(&rt, &found, &(true, false), "before, and apart");
 }
