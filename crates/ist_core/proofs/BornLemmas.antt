@@ -1,6 +1,6 @@
 -- Where each row after an event comes from: it was there before and grew, or the event makes it.
 -- Serves the conjuncts that growing keeps.
-use Rattle.std.proofs.Common.{◌≡◌, ℕ, ◌⊎◌, List, ◌∷◌, Option, Some, refl, sym, ap, subst, inl, inr, ⊎_elim}
+use Rattle.std.proofs.Common.{◌≡◌, ℕ, ◌⊎◌, List, ◌∷◌, Some, refl, sym, ap, subst, inl, inr, ⊎_elim}
 use Rattle.ist_core.specs.declared.lists.Row.{Row}
 use Rattle.ist_core.specs.declared.events.Event.{Event}
 use Rattle.ist_core.specs.declared.events.Event.TheVariants.{Install, Decide, Resolve, Count, Mark, Finish, Root, Draw, Place}
@@ -20,6 +20,7 @@ use Rattle.ist_core.proofs.InstallLemmas.{with_installed}
 use Rattle.ist_core.proofs.AddingLemmas.{IsInstalledWith, adds_install, adds-with_inners}
 use Rattle.ist_core.proofs.GrowingLemmas.{grows_same, grows-with_slot, grows-with_root, all_grow-changed_at}
 use Rattle.ist_core.proofs.StepLemmas.{grow_step, rows_resolved, rows_placed, holds_installed, known}
+use Rattle.ist_core.proofs.OptionLemmas.{same_value}
 
 -- the row is published by the event
 pub data Born (first : Snapshot) (log : Log) (base : ℕ) (p : Piece) : Event → Type 0 where
@@ -39,10 +40,6 @@ pub data Comes (first : Snapshot) (log : Log) (event : Event) (base : ℕ) (q : 
       → Comes first log event base q
   from_born : (p : Piece) → Born first log base p event → Grows p q → Comes first log event base q
 
--- one base has one row
-same_piece : (o : Option Piece) (p q : Piece) → o ≡ Some p → o ≡ Some q → p ≡ q
-same_piece o p q e f = cc
-
 -- if one row is changed, each row after the event comes from one before it
 changed_comes : (first : Snapshot) (log : Log) (event : Event) (at : ℕ) (f : Piece → Piece)
     → AllGrow (state first log).pieces (state first (event ∷ log)).pieces
@@ -54,7 +51,7 @@ changed_comes first log event at f grows pieces base q e =
     (subst (λ ps. ps base ≡ Some q) pieces e) in
     let on = grows base it.0 it.1 in
     from_old it.0 it.1 (subst (λ x. Grows it.0 x)
-    (same_piece ((state first (event ∷ log)).pieces base) on.0 q on.1 e) on.2)
+    (same_value ((state first (event ∷ log)).pieces base) on.0 q on.1 e) on.2)
 
 same_comes : (first : Snapshot) (log : Log) (event : Event)
     → (state first (event ∷ log)).pieces ≡ (state first log).pieces → (base : ℕ) (q : Piece)
@@ -75,7 +72,7 @@ added_comes first log event qs at f grows pieces from base q e =
     let it = changed_at-some qs at base f q (subst (λ ps. ps base ≡ Some q) pieces e) in
     let on = grows base it.0 it.1 in
     let grew = subst (λ x. Grows it.0 x)
-    (same_piece ((state first (event ∷ log)).pieces base) on.0 q on.1 e) on.2 in
+    (same_value ((state first (event ∷ log)).pieces base) on.0 q on.1 e) on.2 in
     ⊎_elim (λ old. from_old it.0 old grew) (λ born. from_born it.0 born grew) (from base it.0 it.1)
 
 install_comes : (first : Snapshot) (log : Log) (caller change : ℕ) (rows : List Row)
@@ -95,7 +92,7 @@ install_comes first log caller change rows h s base q e =
     let on = all_grow-changed_at qs h.change.node f (λ p _. grows-with_slot h.change.index word p)
     base it.0 it.1 in
     let grew = subst (λ x. Grows it.0 x)
-    (same_piece (changed_at qs h.change.node f base) on.0 q on.1 there) on.2 in
+    (same_value (changed_at qs h.change.node f base) on.0 q on.1 there) on.2 in
     ⊎_elim (λ old. from_old it.0 old grew) (λ born. from_born it.0 (by_install h born) grew)
     (adds.from base it.0 it.1)
 

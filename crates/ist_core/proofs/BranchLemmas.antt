@@ -6,8 +6,8 @@ use Rattle.ist_core.specs.References.{Ref, InnerAt, ref_of}
 use Rattle.ist_core.specs.Elements.{Among, Distinct}
 use Rattle.ist_core.specs.Pieces.{Pieces, Inner}
 use Rattle.ist_core.proofs.ElementLemmas.{among-append, among_left, among_right}
-use Rattle.ist_core.proofs.SlotLemmas.{same_inner}
 use Rattle.ist_core.proofs.TreeLemmas.{IsTree, AreTrees, tree_none, tree_unset, tree_leaf, tree_row, no_tree, one_tree}
+use Rattle.ist_core.proofs.OptionLemmas.{same_inner}
 
 -- ---- lists without an element twice
 

@@ -5,7 +5,7 @@ use Rattle.ist_core.specs.Elements.{Among}
 use Rattle.ist_core.specs.Snapshots.{Snapshot}
 use Rattle.ist_core.specs.StartLayout.{start}
 use Rattle.ist_core.specs.Logs.{Log}
-use Rattle.ist_core.specs.Links.{IsChild, Chain, no_row, one_row, WasOnChain}
+use Rattle.ist_core.specs.Links.{IsChild, Chain, no_row, one_row, WasOnChain, Linked, at_anchor, below, Leads, from_anchor, down}
 use Rattle.ist_core.specs.Lawful.{EachEnabled, CanOpen, state_of}
 use Rattle.ist_core.proofs.ElementLemmas.{among-append}
 use Rattle.ist_core.proofs.SoundLemmas.{sound}
@@ -47,3 +47,14 @@ on_chain_inner pairs words opens (event ∷ log) h node row (inr before) =
     (grow_step (start pairs words) log event h.1
     (sound (start pairs words) log (sound_start pairs words) h.0)) row
     (on_chain_inner pairs words opens log h.0 node row before)
+
+-- a node with a chain is linked
+pub chain_linked : (t : Snapshot) (node : ℕ) (rows : List ℕ) → Chain t node rows → Linked t node
+chain_linked t _ _ no_row = at_anchor
+chain_linked t _ _ (one_row {node = node} {rows = rows} i chain is) =
+    below i (chain_linked t node rows chain) is
+
+-- a node that is led to is linked
+pub leads_linked : (t : Snapshot) (key node : ℕ) → Leads t key node → Linked t node
+leads_linked t key _ from_anchor = at_anchor
+leads_linked t key _ (down {node = node} i led index c) = below i (leads_linked t key node led) c

@@ -1,5 +1,5 @@
 -- Each caller draws past the last part once. Serves `laws.draws_are_low`.
-use Rattle.std.proofs.Common.{◌≡◌, ◌≢◌, ℕ, ◌+◌, ◌<◌, ◌≤◌, ◌⊎◌, ◌==◌, nat_le, if◌then◌else◌, true, false, List, [], ◌∷◌, Option, Some, refl, sym, ap, ◌∙◌, subst, inl, inr, ⊎_elim, arith}
+use Rattle.std.proofs.Common.{◌≡◌, ◌≢◌, ℕ, ◌+◌, ◌<◌, ◌≤◌, ◌⊎◌, ◌==◌, nat_le, if◌then◌else◌, true, false, List, [], ◌∷◌, Some, refl, sym, ap, ◌∙◌, subst, inl, inr, ⊎_elim, arith}
 use Rattle.std.proofs.lemmas.Bool.Decides.{eqb_tells, leb_tells}
 use Rattle.ist_core.specs.declared.pairs.Pair.{Pair}
 use Rattle.ist_core.specs.declared.states.RebuildRow.{RebuildRow}
@@ -8,7 +8,7 @@ use Rattle.ist_core.specs.declared.events.Event.TheVariants.{Enter, Reserve, Ins
 use Rattle.ist_core.specs.Arithmetic.{degree}
 use Rattle.ist_core.specs.Statuses.{finished_word}
 use Rattle.ist_core.specs.Elements.{Among, Each, Distinct}
-use Rattle.ist_core.specs.Pieces.{Piece, Rebuild, as_change}
+use Rattle.ist_core.specs.Pieces.{Rebuild, as_change}
 use Rattle.ist_core.specs.Snapshots.{Snapshot}
 use Rattle.ist_core.specs.StartLayout.{start}
 use Rattle.ist_core.specs.Logs.{Log, state, Happened, Draws}
@@ -22,9 +22,10 @@ use Rattle.ist_core.proofs.SoundLemmas.{sound}
 use Rattle.ist_core.proofs.StartLemmas.{sound_start}
 use Rattle.ist_core.proofs.GrowingLemmas.{inner_there, rebuild_there}
 use Rattle.ist_core.proofs.StepLemmas.{grow_step}
-use Rattle.ist_core.proofs.SlotLemmas.{same_inner}
 use Rattle.ist_core.proofs.YesLemmas.{distinct_below}
 use Rattle.ist_core.proofs.DrawnLemmas.{past, drawn_at_most}
+use Rattle.ist_core.proofs.OptionLemmas.{same_inner}
+pub use Rattle.ist_core.proofs.OptionLemmas.{same_rebuild}
 
 -- ---- callers
 
@@ -84,17 +85,12 @@ finished_grows t u node k g h =
     }
 
 -- a row is finished with one number
-finished_once : (t : Snapshot) (node j k : ℕ) → IsFinishedWith t node j → IsFinishedWith t node k
+pub finished_once : (t : Snapshot) (node j k : ℕ) → IsFinishedWith t node j → IsFinishedWith t node k
     → j ≡ k
 finished_once t node j k h l =
     let same = same_inner (t.pieces node) h.row l.row h.published l.published in
     let words : finished_word j ≡ finished_word k = sym h.status ∙ ap (λ r. r.status) same ∙ l.status in
     omega arith
-
--- one base has one rebuild
-pub same_rebuild : (o : Option Piece) (r s : RebuildRow) → o ≡ Some (Rebuild r) → o ≡ Some (Rebuild s)
-    → r ≡ s
-same_rebuild o r s e f = cc
 
 module _ (pairs : List Pair) (words rebuild last : ℕ) where
   -- whenever the rebuild's target is finished, the last part is the one for its number of keys

@@ -15,7 +15,7 @@ use Rattle.ist_core.proofs.RowNumberLemmas.{NumberAtMost, number_in, number_kept
 use Rattle.ist_core.proofs.FieldLemmas.{LeavesField}
 use Rattle.ist_core.proofs.RowFieldLemmas.{status_same, root_same, count_same}
 use Rattle.ist_core.specs.Statuses.{marked_word, finished_word}
-use Rattle.ist_core.proofs.PlaceLemmas.{one_piece}
+use Rattle.ist_core.proofs.OptionLemmas.{same_value}
 
 -- the draw word of a row, or 0 if it isn't a rebuild
 abbrev draw_in : Piece → ℕ
@@ -59,7 +59,7 @@ module _ (rebuild last : ℕ) where
           let at_rebuild = subst (λ b. ps b ≡ Some (Rebuild r)) k.1 there in
           let before = old (Rebuild r) at_rebuild in
           let now = changed_at-same ps at drawn ∙ ap (option_map drawn) there in
-          let same = ap draw_in (one_piece (changed_at ps at drawn at) q (drawn (Rebuild r))
+          let same = ap draw_in (same_value (changed_at ps at drawn at) q (drawn (Rebuild r))
           (subst (λ b. changed_at ps at drawn b ≡ Some q) (sym k.1) e) now) in
           subst (λ b. draw_in q ≤ last + length
           (if b then (if nat_le last part then caller ∷ others else others) else others))

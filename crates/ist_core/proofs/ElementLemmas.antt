@@ -1,5 +1,5 @@
 -- Elements of lists. Serves each law about held rows, logs or leaves.
-use Rattle.std.proofs.Common.{◌≡◌, ◌⊎◌, ℕ, suc, ◌<◌, Bool, true, false, if◌then◌else◌, List, [], ◌∷◌, ◌++◌, length, map, get_or, filter, refl, sym, subst, inl, inr, ⊎_elim, arith}
+use Rattle.std.proofs.Common.{◌≡◌, ◌⊎◌, ℕ, suc, ◌<◌, Bool, true, false, if◌then◌else◌, List, [], ◌∷◌, ◌++◌, length, map, get_or, filter, refl, sym, subst, inl, inr, ⊎_elim, arith, slice_get, zero, Some}
 use Rattle.ist_core.specs.Elements.{Among, Each}
 
 module _ {A : Type 0} where
@@ -78,3 +78,15 @@ map_same f (x ∷ xs) (y ∷ ys) long same =
     let rest : map f ys ≡ map f xs
     = map_same f xs ys (omega arith) (λ k d h. same (suc k) d (omega arith)) in
     cc
+
+module _ {A : Type 0} where
+  -- what is true of each element alone is true of all
+  pub each_of : (P : A → Type 0) (xs : List A) → ((x : A) → Among x xs → P x) → Each P xs
+  each_of P [] h = tt
+  each_of P (x ∷ xs) h = (h x (inl refl), each_of P xs (λ y i. h y (inr i)))
+
+  -- an element at an index is an element
+  pub get_among : (xs : List A) (i : ℕ) (x : A) → slice_get xs i ≡ Some x → Among x xs
+  get_among [] i x e = absurd (cc)
+  get_among (y ∷ xs) zero x e = inl (let same : y ≡ x = cc in sym same)
+  get_among (y ∷ xs) (suc i) x e = inr (get_among xs i x e)

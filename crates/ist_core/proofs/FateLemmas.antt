@@ -20,7 +20,8 @@ use Rattle.ist_core.proofs.SoundLemmas.{IsReserve, moves_or_reserves, sound}
 use Rattle.ist_core.proofs.StartLemmas.{sound_start}
 use Rattle.ist_core.proofs.GrowingLemmas.{all_grow_same, all_grow_on}
 use Rattle.ist_core.proofs.StepLemmas.{grow_step}
-use Rattle.ist_core.proofs.PlaceLemmas.{absent, no_piece}
+use Rattle.ist_core.proofs.PlaceLemmas.{absent}
+use Rattle.ist_core.proofs.OptionLemmas.{no_value}
 
 -- no row lies at the base, none is held there, and none will be reserved there
 record IsGoneForGood (t : Snapshot) (base : ℕ) : Type 0 where
@@ -68,7 +69,7 @@ gone_moves : (t u : Snapshot) (event : Event) (base : ℕ) → Moves t u event �
 gone_moves t u event base m g =
     record {
       unpublished = absent (u.pieces base) (λ p e.
-          ⊎_elim (λ q. no_piece (t.pieces base) q.0 g.unpublished q.1) (λ h. g.unheld h.0 h.1 h.2)
+          ⊎_elim (λ q. no_value (t.pieces base) q.0 g.unpublished q.1) (λ h. g.unheld h.0 h.1 h.2)
           (m.from base p e));
       unheld = λ h i. g.unheld h (m.kept h i);
       used = subst (λ n. base < n) (sym m.next) g.used;
@@ -136,3 +137,10 @@ grow_between pairs words earlier _ h (one_event {log = log} event g) =
     all_grow_on _ (state_of pairs words log).pieces _ (grow_between pairs words earlier log h.0 g)
     (grow_step (start pairs words) log event h.1
     (sound (start pairs words) log (sound_start pairs words) h.0))
+
+-- rows grow by an event
+pub grow_after : (pairs : List Pair) (words : ℕ) (log : Log) (event : Event)
+    → EachEnabled (start pairs words) (event ∷ log)
+    → AllGrow (state_of pairs words log).pieces (state_of pairs words (event ∷ log)).pieces
+grow_after pairs words log event h = grow_step (start pairs words) log event h.1
+    (sound (start pairs words) log (sound_start pairs words) h.0)

@@ -24,11 +24,11 @@ use Rattle.ist_core.proofs.MoveLemmas.{HeldLieApart}
 use Rattle.ist_core.proofs.SoundLemmas.{sound}
 use Rattle.ist_core.proofs.StartLemmas.{sound_start}
 use Rattle.ist_core.proofs.GrowingLemmas.{inner_there, rebuild_there, get_alike}
-use Rattle.ist_core.proofs.StepLemmas.{grow_step}
-use Rattle.ist_core.proofs.SlotLemmas.{same_inner}
 use Rattle.ist_core.proofs.FieldLemmas.{Has, LeavesField, has_step}
 use Rattle.ist_core.proofs.StatusFieldLemmas.{status_in, root_same, count_same, draw_same, status_rare, start_untouched, finished_has, has_finished}
 use Rattle.ist_core.proofs.DrawLemmas.{finished_grows}
+use Rattle.ist_core.proofs.OptionLemmas.{same_inner}
+use Rattle.ist_core.proofs.FateLemmas.{grow_after}
 
 -- ---- which event finishes a row
 
@@ -145,11 +145,6 @@ passed_grows t u event log node i g h = record {
 }
 
 module _ (pairs : List Pair) (words : ℕ) (opens : CanOpen pairs words) where
-  grows : (log : Log) (event : Event) → EachEnabled (start pairs words) (event ∷ log)
-      → AllGrow (state_of pairs words log).pieces (state_of pairs words (event ∷ log)).pieces
-  grows log event h = grow_step (start pairs words) log event h.1
-      (sound (start pairs words) log (sound_start pairs words) h.0)
-
   -- a slot of a finished row was passed
   pub finished_passed : (log : Log) → EachEnabled (start pairs words) log → (node k : ℕ)
       → IsFinishedWith (state_of pairs words log) node k → (r : InnerRow)
@@ -164,7 +159,7 @@ module _ (pairs : List Pair) (words : ℕ) (opens : CanOpen pairs words) where
   finished_passed (event ∷ log) h node k f r e i word at =
       let t = state_of pairs words log in
       let u = state_of pairs words (event ∷ log) in
-      let g = grows log event h in
+      let g = grow_after pairs words log event h in
       passed_grows t u event log node i g
       (⊎_elim
       (λ old. before old.row old.published
@@ -181,7 +176,7 @@ module _ (pairs : List Pair) (words : ℕ) (opens : CanOpen pairs words) where
           → WasPassed (state_of pairs words log) log node i
       before s there found =
           let it = inner_there (state_of pairs words log).pieces
-          (state_of pairs words (event ∷ log)).pieces (grows log event h) node s there in
+          (state_of pairs words (event ∷ log)).pieces (grow_after pairs words log event h) node s there in
           let same = same_inner ((state_of pairs words (event ∷ log)).pieces node) it.0 r it.1 e in
           let long : length r.slots ≡ length s.slots = ap (λ x. length x.slots) (sym same) ∙
           it.2.slots in

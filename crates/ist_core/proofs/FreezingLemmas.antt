@@ -1,5 +1,5 @@
 -- A slot that was passed keeps its word at each event. Serves the frozen-slot law.
-use Rattle.std.proofs.Common.{◌≡◌, ◌≢◌, ℕ, ◌+◌, ◌*◌, Bool, true, false, List, ◌∷◌, Option, Some, None, option_map, sym, ap, ◌∙◌, subst, ⊎_elim, arith}
+use Rattle.std.proofs.Common.{◌≡◌, ◌≢◌, ℕ, ◌+◌, ◌*◌, Bool, true, false, List, ◌∷◌, Some, None, option_map, sym, ap, ◌∙◌, subst, ⊎_elim, arith}
 use Rattle.std.proofs.lemmas.Bool.Decides.{nat_tests, eqb_tells}
 use Rattle.ist_core.specs.declared.pairs.Pair.{Pair}
 use Rattle.ist_core.specs.declared.lists.Row.{Row}
@@ -10,7 +10,7 @@ use Rattle.ist_core.specs.declared.events.Event.TheVariants.{Install, Okay, Deci
 use Rattle.ist_core.specs.RowLayout.{anchor}
 use Rattle.ist_core.specs.References.{ChangeAt, ref_of, word_of, unset_word}
 use Rattle.ist_core.specs.Statuses.{open_word, decided_yes, decided_no}
-use Rattle.ist_core.specs.Pieces.{Piece, Inner, Change, with_decision, changed_at}
+use Rattle.ist_core.specs.Pieces.{Inner, Change, with_decision, changed_at}
 use Rattle.ist_core.specs.Snapshots.{Snapshot, HoldsRow}
 use Rattle.ist_core.specs.StartLayout.{start}
 use Rattle.ist_core.specs.After.{side_of}
@@ -29,7 +29,7 @@ use Rattle.ist_core.proofs.SoundLemmas.{sound}
 use Rattle.ist_core.proofs.StartLemmas.{sound_start}
 use Rattle.ist_core.proofs.GrowingLemmas.{inner_there}
 use Rattle.ist_core.proofs.StepLemmas.{grow_step, holds_installed}
-use Rattle.ist_core.proofs.PlaceLemmas.{anchor_free, no_piece}
+use Rattle.ist_core.proofs.PlaceLemmas.{anchor_free}
 use Rattle.ist_core.proofs.RoomLemmas.{published_good, ref_of-change}
 use Rattle.ist_core.proofs.SlotLemmas.{closed_not_open}
 use Rattle.ist_core.proofs.NamingLemmas.{SlotNames, slot_names}
@@ -37,29 +37,33 @@ use Rattle.ist_core.proofs.InstallNamingLemmas.{from_plain}
 use Rattle.ist_core.proofs.OrderLemmas.{names}
 use Rattle.ist_core.proofs.OkayLemmas.{okay_published}
 use Rattle.ist_core.proofs.SlotStepLemmas.{install_stands, install_writes, resolve_writes, place_writes, WritesNoSlot, slot_stays, IsNoDecide, change_stays}
+use Rattle.ist_core.proofs.OptionLemmas.{no_value}
+pub use Rattle.ist_core.proofs.OptionLemmas.{same_change}
 
 -- ---- words and statuses
 
 -- equal words name one change
-same_change_word : (a b : ℕ) → word_of (ChangeAt a) ≡ word_of (ChangeAt b) → a ≡ b
+pub same_change_word : (a b : ℕ) → word_of (ChangeAt a) ≡ word_of (ChangeAt b) → a ≡ b
 same_change_word a b e = let numbers : a * 8 + 3 ≡ b * 8 + 3 = e in omega arith
 
 -- a status that isn't open stays so
-closed_on : (old new : ℕ) → StatusGoesOn old new → old ≢ open_word → new ≢ open_word
+pub closed_on : (old new : ℕ) → StatusGoesOn old new → old ≢ open_word → new ≢ open_word
 closed_on old new (status_stays e) ne = λ f. ne (sym e ∙ f)
 closed_on old new (is_marked e f) ne = absurd (ne e)
 closed_on old new (is_finished k e f) ne = λ g. omega arith
 closed_on old new (is_closed k e f) ne = absurd (ne e)
 
+-- a status that is open was open
+pub status_open : (old new : ℕ) → StatusGoesOn old new → new ≡ open_word → old ≡ open_word
+status_open old new (status_stays e) o = sym e ∙ o
+status_open old new (is_marked e f) o = e
+status_open old new (is_finished k e f) o = absurd (omega arith)
+status_open old new (is_closed k e f) o = e
+
 -- a change that wasn't decided yes leaves `from`
 pub side_not_yes : (change : ChangeRow) → change.decision ≢ decided_yes
     → side_of change ≡ change.from
 side_not_yes change ne = grind (arith, nat_tests)
-
--- one base has one change
-pub same_change : (o : Option Piece) (r s : ChangeRow) → o ≡ Some (Change r) → o ≡ Some (Change s)
-    → r ≡ s
-same_change o r s e f = cc
 
 -- the event keeps the word of a slot
 abbrev Keeping : Snapshot → Log → Event → Snapshot → ℕ → ℕ → ℕ → Type 0
@@ -138,7 +142,7 @@ module _ (pairs : List Pair) (words : ℕ) (opens : CanOpen pairs words) (log : 
         from = sym w.0;
         not_yes = λ e. omega arith;
         unseen = λ k. ⊎_elim (λ now. now)
-            (λ before. let it = okay_published (start pairs words) log base (sound_start pairs words) enabled before in no_piece ((state_of pairs words log).pieces base) (Change it.0) none it.1) k;
+            (λ before. let it = okay_published (start pairs words) log base (sound_start pairs words) enabled before in no_value ((state_of pairs words log).pieces base) (Change it.0) none it.1) k;
       })
       (λ stays. holds_it stays)
       (writes.others node i word slot)

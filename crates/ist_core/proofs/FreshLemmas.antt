@@ -84,7 +84,7 @@ sizes_apart t caller base other size more sound h k differ same =
     differ (ap (λ row. row.size) (sound.once record { caller = caller; base = base; size = size }
     record { caller = caller; base = other; size = more } h k same))
 
-pair_size : (key base other_key other : ℕ)
+pub pair_size : (key base other_key other : ℕ)
     → length (words_of (pair_row key base other_key other)) ≡ 7
 pair_size key base other_key other =
     elim (nat_lt other_key key) as

@@ -67,7 +67,7 @@ closed_now t log caller node i word h =
     }
 
 -- a change is read away
-past_no_change : (ps : Pieces) (ref : Option Ref) → ((change : ℕ) → ref ≢ Some (ChangeAt change))
+pub past_no_change : (ps : Pieces) (ref : Option Ref) → ((change : ℕ) → ref ≢ Some (ChangeAt change))
     → past_change ps ref ≡ ref
 past_no_change ps (Some (ChangeAt base)) plain = absurd (plain base refl)
 past_no_change ps (Some Empty) plain = refl

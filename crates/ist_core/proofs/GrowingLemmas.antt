@@ -6,13 +6,14 @@ use Rattle.ist_core.specs.declared.states.LeafRow.{LeafRow}
 use Rattle.ist_core.specs.declared.states.InnerRow.{InnerRow}
 use Rattle.ist_core.specs.declared.states.ChangeRow.{ChangeRow}
 use Rattle.ist_core.specs.declared.states.RebuildRow.{RebuildRow}
-use Rattle.ist_core.specs.Arithmetic.{child_count}
+use Rattle.ist_core.specs.Arithmetic.{child_count, limit}
 use Rattle.ist_core.specs.References.{unset_word}
 use Rattle.ist_core.specs.Statuses.{undecided}
 use Rattle.ist_core.specs.Pieces.{Pieces, Piece, Leaf, Inner, Change, Rebuild, changed_at, with_slot, with_status, counted, with_decision, with_root, drawn}
 use Rattle.ist_core.specs.Growing.{StatusGoesOn, status_stays, is_marked, is_finished, is_closed, InnerGrows, ChangeGrows, RebuildGrows, Grows, leaf_stays, inner_grows, change_grows, rebuild_grows, AllGrow}
 use Rattle.ist_core.specs.Snapshots.{Snapshot}
 use Rattle.ist_core.specs.Slots.{SlotHolds, in_anchor, in_row, IsChildFor, of_anchor, of_row}
+use Rattle.ist_core.specs.Rebuilding.{IsDue}
 
 -- ---- growing is an order
 
@@ -252,3 +253,10 @@ child_remains t u g node key i (of_anchor a b) = of_anchor a b
 child_remains t u g node key i (of_row r e f) =
     let it = inner_there t.pieces u.pieces g node r e in
     of_row it.0 it.1 (f ∙ ap (λ keys. child_count keys key) (sym it.2.keys))
+
+-- a row that is due is due as it grows
+pub due_later : (old new : InnerRow) → InnerGrows old new → IsDue old → IsDue new
+due_later old new g due =
+    let more = g.count in
+    let same : limit new.size ≡ limit old.size = ap limit g.size in
+    omega arith

@@ -12,8 +12,8 @@ use Rattle.ist_core.specs.Slots.{SlotHolds, in_anchor, in_row}
 use Rattle.ist_core.proofs.RowLemmas.{changed_at-some}
 use Rattle.ist_core.proofs.AddingLemmas.{Adds}
 use Rattle.ist_core.proofs.SlotLemmas.{get-set_some}
-use Rattle.ist_core.proofs.PlaceLemmas.{no_piece}
 use Rattle.ist_core.proofs.NamingLemmas.{InnerHere, SlotNames, RowNames, SideNames, RootNames, WordsName}
+use Rattle.ist_core.proofs.OptionLemmas.{no_value}
 
 -- ---- what is named for a slot
 
@@ -226,9 +226,9 @@ one_home_from t u New home names new all word =
         (n ≡ k) × (i ≡ j)
     both n i k j child (inl x) (inl y) = home.one n i k j child x y
     both n i k j child (inl x) (inr y) = let p = mentioned_here t n i child names x in absurd
-        (no_piece (t.pieces child) (Inner p.0) (new.unpublished k j child y) p.1)
+        (no_value (t.pieces child) (Inner p.0) (new.unpublished k j child y) p.1)
     both n i k j child (inr x) (inl y) = let p = mentioned_here t k j child names y in absurd
-        (no_piece (t.pieces child) (Inner p.0) (new.unpublished n i child x) p.1)
+        (no_value (t.pieces child) (Inner p.0) (new.unpublished n i child x) p.1)
     both n i k j child (inr x) (inr y) = new.one n i k j child x y
 
 -- an event that leaves the rows and the anchor

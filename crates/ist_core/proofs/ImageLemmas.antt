@@ -11,14 +11,14 @@ use Rattle.ist_core.specs.Slots.{SlotHolds, in_anchor, in_row}
 use Rattle.ist_core.specs.Rows.{Apart, IsWithin}
 use Rattle.ist_core.specs.Writing.{place_in, place_of_slot}
 use Rattle.ist_core.proofs.RowLemmas.{changed_at-same, changed_at-other, changed_at-some}
-use Rattle.ist_core.proofs.PlaceLemmas.{one_piece, no_piece}
 use Rattle.ist_core.proofs.SlotLemmas.{get-set_same, get-set_other, no_row}
 use Rattle.ist_core.specs.Naming.{HasDegree}
+use Rattle.ist_core.proofs.OptionLemmas.{same_value, no_value}
 
 -- ---- one word of a list
 
 -- there is a word below the end
-has_word : (xs : List ℕ) (k : ℕ) → k < length xs → (word : ℕ) × (slice_get xs k ≡ Some word)
+pub has_word : (xs : List ℕ) (k : ℕ) → k < length xs → (word : ℕ) × (slice_get xs k ≡ Some word)
 has_word xs k h = (get_or xs k 0, slice_get-get_or xs k 0 h)
 
 -- a write past the end of a first part is a write in the rest
@@ -39,7 +39,7 @@ words_of-with_slot r i word =
     ∙ ap (λ k. slice_set (words_of (Inner r)) k word) (sym same)
 
 -- a word past the end of a first part is a word of the rest
-get_after : (xs ys : List ℕ) (i : ℕ) → slice_get (xs ++ ys) (length xs + i) ≡ slice_get ys i
+pub get_after : (xs ys : List ℕ) (i : ℕ) → slice_get (xs ++ ys) (length xs + i) ≡ slice_get ys i
 get_after [] ys i = let same : 0 + i ≡ i = omega arith in ap (slice_get ys) same
 get_after (x ∷ xs) ys i =
     let same : length (x ∷ xs) + i ≡ suc (length xs + i) = omega arith in
@@ -130,7 +130,7 @@ module _ (t u : Snapshot) (words : List ℕ) (image : IsImage t words)
       here : (base : ℕ) (q : Piece) → u.pieces base ≡ Some q → u.pieces node ≡ Some (f p)
           → base ≡ node → StandsAt (slice_set words (node + j) word) base q
       here base q e now k =
-          let same : f p ≡ q = one_piece (u.pieces node) (f p) q now
+          let same : f p ≡ q = same_value (u.pieces node) (f p) q now
           (subst (λ b. u.pieces b ≡ Some q) k e) in
           subst (λ b. StandsAt (slice_set words (node + j) word) b q) (sym k)
           (stands_set words node j word p q below
@@ -192,7 +192,7 @@ module _ (t u : Snapshot) (words : List ℕ) (image : IsImage t words)
       let it = changed_at-some ps node base (with_slot i word) q
       (subst (λ qs. qs base ≡ Some q) pieces k) in
       ⊎_elim (λ same. it.1 ∙ ap (λ x. Some x) (sym same))
-      (λ new. absurd (no_piece (ps anchor) it.0 free_there
+      (λ new. absurd (no_value (ps anchor) it.0 free_there
       (subst (λ b. ps b ≡ Some it.0) (new.0 ∙ a) it.1))) it.2))
   image_slot ps node i word old stand free free_there keeps shaped pieces is (in_row r p g) =
       let out : node ≢ anchor = λ a. no_row t.pieces node r free a p in

@@ -80,7 +80,7 @@ fills_apart from to (x ∷ xs) base other p q h (inr i) (inr j) differ = fills_a
 abbrev pub AllSome : List ℕ → Type 0
 AllSome ns = Each (λ n. 0 < n) ns
 
-length-cut : {A : Type 0} (ns : List ℕ) (xs : List A) → length (cut ns xs) ≡ length ns
+pub length-cut : {A : Type 0} (ns : List ℕ) (xs : List A) → length (cut ns xs) ≡ length ns
 length-cut [] xs = refl
 length-cut (n ∷ ns) xs = omega (arith, length-cut ns (drop n xs))
 

@@ -19,11 +19,12 @@ use Rattle.ist_core.proofs.SoundLemmas.{sound}
 use Rattle.ist_core.proofs.StartLemmas.{sound_start}
 use Rattle.ist_core.proofs.GrowingLemmas.{inner_there}
 use Rattle.ist_core.proofs.StepLemmas.{grow_step}
-use Rattle.ist_core.proofs.SlotLemmas.{no_row, same_inner}
+use Rattle.ist_core.proofs.SlotLemmas.{no_row}
 use Rattle.ist_core.proofs.NamingLemmas.{WordsName, LeafHere, SlotNames, RowNames, SideNames, RootNames}
 use Rattle.ist_core.proofs.OrderLemmas.{names}
 use Rattle.ist_core.proofs.HomeLemmas.{Says, Mentions, HasOneHome, mentioned_here}
 use Rattle.ist_core.proofs.MentionLemmas.{mentions_step, child_mentioned}
+use Rattle.ist_core.proofs.OptionLemmas.{same_inner}
 
 -- the key leads to the node, through slots for the key: the next row on the way is named for each
 pub data LedTo (t : Snapshot) (key : ℕ) : ℕ → Type 0 where

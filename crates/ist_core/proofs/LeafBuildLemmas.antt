@@ -20,7 +20,6 @@ use Rattle.ist_core.proofs.AddingLemmas.{adds-with_inners, held_free}
 use Rattle.ist_core.proofs.GrowingLemmas.{inner_there}
 use Rattle.ist_core.proofs.StepLemmas.{rows_placed, known}
 use Rattle.ist_core.proofs.RowLemmas.{changed_at-same, changed_at-other}
-use Rattle.ist_core.proofs.PlaceLemmas.{no_piece}
 use Rattle.ist_core.proofs.SlotStepLemmas.{place_writes}
 use Rattle.ist_core.proofs.NamingLemmas.{WordsName}
 use Rattle.ist_core.proofs.NamingStepLemmas.{changed_at-fixed}
@@ -34,7 +33,8 @@ use Rattle.ist_core.proofs.LeadingLemmas.{LiesIn, LeafLies, LeavesLie}
 use Rattle.ist_core.proofs.UnderLemmas.{leaves_under, each_mapped}
 use Rattle.ist_core.proofs.LyingLemmas.{parts_lie, split_lies}
 use Rattle.ist_core.proofs.RootKeyLemmas.{IsCutBy}
-use Rattle.ist_core.proofs.LeafStepLemmas.{LiesOn, lies_from, same_ref, tree_says, root_lies}
+use Rattle.ist_core.proofs.LeafStepLemmas.{LiesOn, lies_from, tree_says, root_lies}
+use Rattle.ist_core.proofs.OptionLemmas.{same_value, no_value}
 
 -- the leaves of a rebuild's target lie in the slot that the rebuild is for, and their keys are
 -- strictly increasing
@@ -128,7 +128,7 @@ lies_place t caller rebuild i word rows h sound names home free grows on stay cu
     base ≡ Some (Inner r) =
     λ base r k e. subst (λ ps. ps base ≡ Some (Inner r)) (sym pieces)
     (changed_at-other qs h.root base f
-    (λ same. no_piece (t.pieces h.root) (Inner h.root_row)
+    (λ same. no_value (t.pieces h.root) (Inner h.root_row)
     (subst (λ b. t.pieces b ≡ None) same (held_free t caller rows h.held sound base k))
     h.root_published) ∙ e) in
     let under = target_lies t rebuild h.row h.leaves h.published names home free lie h.reached in
@@ -156,7 +156,7 @@ lies_place t caller rebuild i word rows h sound names home free grows on stay cu
     (λ base p k e. tree_says t u qs bases (tree_rows qs h.ref h.root bases tree) built.0 inner base
     p k e) in
     let written = word_new LeafAt t New h.root i (ref_of word)
-    (λ x e. built.1 x (same_ref (ref_of word) h.ref (LeafAt x) h.ref_is e)) in
+    (λ x e. built.1 x (same_value (ref_of word) h.ref (LeafAt x) h.ref_is e)) in
     lies_from t u grows on names lie
     (subst (λ ps. AllCame LeafAt t New ps) (sym pieces)
     (came-changed_at LeafAt t New qs h.root f all

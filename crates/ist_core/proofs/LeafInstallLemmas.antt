@@ -21,10 +21,8 @@ use Rattle.ist_core.proofs.HomeStepLemmas.{word_of_other, word_mentioned, word_n
 use Rattle.ist_core.proofs.RisingLemmas.{child_count-low, child_count-none}
 use Rattle.ist_core.proofs.LeadingLemmas.{to_child, LiesIn, LeafLies, LeavesLie}
 use Rattle.ist_core.proofs.LeafStepLemmas.{LiesOn}
+use Rattle.ist_core.proofs.OptionLemmas.{same_leaf}
 use Rattle.std.proofs.lemmas.Bool.Decides.{leb_tells}
-
-same_leaf : (o : Option Piece) (r s : LeafRow) → o ≡ Some (Leaf r) → o ≡ Some (Leaf s) → r ≡ s
-same_leaf o r s e f = cc
 
 -- ---- a pair row
 

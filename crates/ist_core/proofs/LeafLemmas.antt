@@ -8,6 +8,7 @@ use Rattle.ist_core.specs.Pieces.{Piece, Leaf, Inner, Pieces}
 use Rattle.ist_core.specs.Snapshots.{Snapshot}
 use Rattle.ist_core.specs.Slots.{logical}
 use Rattle.ist_core.specs.Leaves.{PlacedLeaf, pair_of, HasLeaves, SlotsHaveLeaves, none_here, leaf_here, row_here, no_slot, one_slot, HasContents}
+use Rattle.ist_core.proofs.OptionLemmas.{same_inner}
 
 -- what it takes to have these leaves, by the reference
 abbrev pub Reached : Pieces → Option Ref → List PlacedLeaf → Type 0
@@ -40,9 +41,6 @@ slots_reached ps _ _ (one_slot {here = here} {rest = rest} h s) = (here, rest, h
 
 same_leaf : (x y : Option Piece) (r s : LeafRow) → x ≡ Some (Leaf r) → x ≡ Some (Leaf s) → r ≡ s
 same_leaf x y r s e f = cc
-
-same_inner : (x : Option Piece) (r s : InnerRow) → x ≡ Some (Inner r) → x ≡ Some (Inner s) → r ≡ s
-same_inner x r s e f = cc
 
 mutual
   -- a reference has one list of leaves

@@ -27,7 +27,7 @@ use Rattle.ist_core.proofs.InstallLemmas.{with_installed}
 use Rattle.ist_core.proofs.FreshLemmas.{fresh_stands}
 use Rattle.ist_core.proofs.AddingLemmas.{IsInstalledWith, adds_install}
 use Rattle.ist_core.proofs.GrowingLemmas.{all_grow-changed_at, grows-with_slot}
-use Rattle.ist_core.proofs.StepLemmas.{grow_step, holds_installed, known}
+use Rattle.ist_core.proofs.StepLemmas.{holds_installed, known}
 use Rattle.ist_core.proofs.PlaceLemmas.{anchor_free}
 use Rattle.ist_core.proofs.RoomLemmas.{ref_of-change}
 use Rattle.ist_core.proofs.SlotLemmas.{anchor_slot}
@@ -43,9 +43,11 @@ use Rattle.ist_core.proofs.RisingLemmas.{AreRisingKeys, Rising}
 use Rattle.ist_core.proofs.LeadingLemmas.{to_anchor, LiesIn, LeafLies, LeavesLie, lies_step, was_led}
 use Rattle.ist_core.proofs.LyingLemmas.{RowLies, split_lies}
 use Rattle.ist_core.proofs.RootKeyLemmas.{roots_are_cut}
-use Rattle.ist_core.proofs.LeafStepLemmas.{LiesOn, lies_from, lies_same, lies_changed, lies_resolve, same_ref}
+use Rattle.ist_core.proofs.LeafStepLemmas.{LiesOn, lies_from, lies_same, lies_changed, lies_resolve}
 use Rattle.ist_core.proofs.LeafBuildLemmas.{lies_root, lies_place}
 use Rattle.ist_core.proofs.LeafInstallLemmas.{installed_lies}
+use Rattle.ist_core.proofs.OptionLemmas.{same_value}
+use Rattle.ist_core.proofs.FateLemmas.{grow_after}
 
 -- ---- strictly increasing numbers in the words of the definitions
 
@@ -136,18 +138,13 @@ module _ (pairs : List Pair) (words : ℕ) (opens : CanOpen pairs words) where
       each node i leaf (inl h) =
           subst (λ n. LeafLies t n i leaf) (sym h.0)
           (subst (λ j. LeafLies t anchor j leaf) (sym h.1)
-          (lies.1 leaf (same_ref (ref_of t.anchor) (tree_at first_row pairs) (LeafAt leaf)
+          (lies.1 leaf (same_value (ref_of t.anchor) (tree_at first_row pairs) (LeafAt leaf)
           (start_anchor pairs words opens) h.2)))
       each node i leaf (inr h) = by_row h.0 h.1 h.2
           (hang.each h.0 h.1 (among-pieces_of (rows_from first_row pairs) h.0 h.1 h.2)) node i leaf
           h.3
 
   -- ---- each event
-
-  grows : (log : Log) (event : Event) → EachEnabled (start pairs words) (event ∷ log)
-      → AllGrow (state_of pairs words log).pieces (state_of pairs words (event ∷ log)).pieces
-  grows log event h = grow_step (start pairs words) log event h.1
-      (sound (start pairs words) log (sound_start pairs words) h.0)
 
   on : (log : Log) (event : Event) → EachEnabled (start pairs words) (event ∷ log)
       → LiesOn (state_of pairs words log) (state_of pairs words (event ∷ log))
@@ -171,7 +168,7 @@ module _ (pairs : List Pair) (words : ℕ) (opens : CanOpen pairs words) where
       let u = after t (Install caller base (row_at base (Change h.change) ∷ h.fresh)) in
       let New = LeafLies u in
       let growing = subst (λ xs. AllGrow t.pieces (after t (Install caller base xs)).pieces)
-      h.rows_are (grows log (Install caller base rows) both) in
+      h.rows_are (grow_after pairs words log (Install caller base rows) both) in
       let onward = subst (λ xs. LiesOn t (after t (Install caller base xs))) h.rows_are
       (on log (Install caller base rows) both) in
       let stands = subst (λ xs. (after t (Install caller base xs)).pieces base ≡ Some
@@ -203,19 +200,19 @@ module _ (pairs : List Pair) (words : ℕ) (opens : CanOpen pairs words) where
   lies_after log (Install caller base rows) h lie = lies_install log caller base rows h lie
   lies_after log (Resolve caller base) h lie =
       lies_resolve (state_of pairs words log) caller base h.1 (anchor_free pairs words log h.0)
-      (names pairs words opens log h.0) (grows log (Resolve caller base) h)
+      (names pairs words opens log h.0) (grow_after pairs words log (Resolve caller base) h)
       (on log (Resolve caller base) h) lie
   lies_after log (Root caller rebuild word rows) h lie =
       lies_root (state_of pairs words log) caller rebuild word rows h.1
       (sound (start pairs words) log (sound_start pairs words) h.0)
       (names pairs words opens log h.0) (one_home pairs words opens log h.0)
-      (anchor_free pairs words log h.0) (grows log (Root caller rebuild word rows) h)
+      (anchor_free pairs words log h.0) (grow_after pairs words log (Root caller rebuild word rows) h)
       (on log (Root caller rebuild word rows) h) lie
   lies_after log (Place caller rebuild i word rows) h lie =
       lies_place (state_of pairs words log) caller rebuild i word rows h.1
       (sound (start pairs words) log (sound_start pairs words) h.0)
       (names pairs words opens log h.0) (one_home pairs words opens log h.0)
-      (anchor_free pairs words log h.0) (grows log (Place caller rebuild i word rows) h)
+      (anchor_free pairs words log h.0) (grow_after pairs words log (Place caller rebuild i word rows) h)
       (on log (Place caller rebuild i word rows) h)
       (λ node j m. mentions_step pairs words opens log (Place caller rebuild i word rows) h node j
       (InnerAt h.1.root) (λ base e. cc) (λ e. cc) m)
@@ -224,42 +221,42 @@ module _ (pairs : List Pair) (words : ℕ) (opens : CanOpen pairs words) where
   lies_after log (Decide caller base said) h lie =
       let u = state_of pairs words (Decide caller base said ∷ log) in
       lies_changed (state_of pairs words log) u base (with_decision (decision_word said))
-      (grows log (Decide caller base said) h) (on log (Decide caller base said) h)
+      (grow_after pairs words log (Decide caller base said) h) (on log (Decide caller base said) h)
       (names pairs words opens log h.0) lie refl refl
       (λ p k. came-with_decision LeafAt (state_of pairs words log) (LeafLies u) base
       (decision_word said) p k)
   lies_after log (Count caller node) h lie =
       let u = state_of pairs words (Count caller node ∷ log) in
-      lies_changed (state_of pairs words log) u node counted (grows log (Count caller node) h)
+      lies_changed (state_of pairs words log) u node counted (grow_after pairs words log (Count caller node) h)
       (on log (Count caller node) h) (names pairs words opens log h.0) lie refl refl
       (λ p k. came-counted LeafAt (state_of pairs words log) (LeafLies u) node p k)
   lies_after log (Mark caller node) h lie =
       let u = state_of pairs words (Mark caller node ∷ log) in
       lies_changed (state_of pairs words log) u node (with_status marked_word)
-      (grows log (Mark caller node) h) (on log (Mark caller node) h)
+      (grow_after pairs words log (Mark caller node) h) (on log (Mark caller node) h)
       (names pairs words opens log h.0) lie refl refl
       (λ p k. came-with_status LeafAt (state_of pairs words log) (LeafLies u) node marked_word p k)
   lies_after log (Finish caller node keys) h lie =
       let u = state_of pairs words (Finish caller node keys ∷ log) in
       lies_changed (state_of pairs words log) u node (with_status (finished_word keys))
-      (grows log (Finish caller node keys) h) (on log (Finish caller node keys) h)
+      (grow_after pairs words log (Finish caller node keys) h) (on log (Finish caller node keys) h)
       (names pairs words opens log h.0) lie refl refl
       (λ p k. came-with_status LeafAt (state_of pairs words log) (LeafLies u) node
       (finished_word keys) p k)
   lies_after log (Draw caller rebuild part) h lie =
       let u = state_of pairs words (Draw caller rebuild part ∷ log) in
       lies_changed (state_of pairs words log) u rebuild drawn
-      (grows log (Draw caller rebuild part) h) (on log (Draw caller rebuild part) h)
+      (grow_after pairs words log (Draw caller rebuild part) h) (on log (Draw caller rebuild part) h)
       (names pairs words opens log h.0) lie refl refl
       (λ p k. came-drawn LeafAt (state_of pairs words log) (LeafLies u) rebuild p k)
-  lies_after log (Enter caller) h lie = lies_same _ _ (grows log (Enter caller) h)
+  lies_after log (Enter caller) h lie = lies_same _ _ (grow_after pairs words log (Enter caller) h)
       (on log (Enter caller) h) (names pairs words opens log h.0) lie refl refl
   lies_after log (Reserve caller base size) h lie = lies_same _ _
-      (grows log (Reserve caller base size) h) (on log (Reserve caller base size) h)
+      (grow_after pairs words log (Reserve caller base size) h) (on log (Reserve caller base size) h)
       (names pairs words opens log h.0) lie refl refl
   lies_after log (Okay caller change) h lie = lie
   lies_after log (Pass caller node i word) h lie = lie
-  lies_after log (Lose caller bases) h lie = lies_same _ _ (grows log (Lose caller bases) h)
+  lies_after log (Lose caller bases) h lie = lies_same _ _ (grow_after pairs words log (Lose caller bases) h)
       (on log (Lose caller bases) h) (names pairs words opens log h.0) lie refl refl
 
   -- after a log from a new table each leaf lies where its key leads

@@ -19,7 +19,7 @@ use Rattle.ist_core.proofs.ElementLemmas.{each-among}
 use Rattle.ist_core.proofs.ReferenceLemmas.{ref_of-unset}
 use Rattle.ist_core.proofs.GrowingLemmas.{leaf_there}
 use Rattle.ist_core.proofs.StepLemmas.{rows_resolved, known}
-use Rattle.ist_core.proofs.SlotLemmas.{anchor_slot, same_inner}
+use Rattle.ist_core.proofs.SlotLemmas.{anchor_slot}
 use Rattle.ist_core.proofs.NamingLemmas.{WordsName}
 use Rattle.ist_core.proofs.TreeLemmas.{IsTreeRow}
 use Rattle.ist_core.proofs.HomeLemmas.{Says, Mentions, WasNamedOrIsNew, SaysCame, WordCame, AllCame, came_old, came-changed_at, came-with_slot, anchor_came, anchor_old}
@@ -28,6 +28,7 @@ use Rattle.ist_core.proofs.RisingLemmas.{AreRisingKeys}
 use Rattle.ist_core.proofs.SplitLemmas.{key_of_leaf, ideal_splits}
 use Rattle.ist_core.proofs.LeadingLemmas.{LiesIn, LeafLies, LeavesLie, mentioned_leaf}
 use Rattle.ist_core.proofs.LyingLemmas.{RowLies, split_lies}
+use Rattle.ist_core.proofs.OptionLemmas.{same_value, same_inner}
 
 -- each key that leads to a slot still leads to it after the event
 abbrev pub LiesOn : Snapshot → Snapshot → Type 0
@@ -119,10 +120,6 @@ lies_resolve t caller base h free names grows on lie =
 
 -- ---- rows of a tree
 
--- a word has one reading
-pub same_ref : (o : Option Ref) (a b : Ref) → o ≡ Some a → o ≡ Some b → a ≡ b
-same_ref o a b e f = cc
-
 -- what a row of the tree names lies where its key leads
 pub tree_says : (t u : Snapshot) (ps : Pieces) (rows : List ℕ) → Each (IsTreeRow ps) rows
     → Each (RowLies u) rows
@@ -145,7 +142,7 @@ unset_lies : (n i word leaf : ℕ) → slice_get (replicate n unset_word) i ≡ 
     → ref_of word ≡ Some (LeafAt leaf) → ⊥
 unset_lies zero i word leaf e f = cc
 unset_lies (suc n) zero word leaf e f = clash
-    (same_ref (ref_of word) Unset (LeafAt leaf)
+    (same_value (ref_of word) Unset (LeafAt leaf)
     (let same : unset_word ≡ word = cc in ap ref_of (sym same) ∙ ref_of-unset) f)
   where
     clash : Unset ≡ LeafAt leaf → ⊥
@@ -168,7 +165,7 @@ root_lies u ps word k leaves target rows leaf_stands stand rise node i named lie
     (root_whole ref few e ideal) =
     let it = split_lies key_of_leaf ps u leaf_stands ref leaves rows
     (ideal_splits ps ref leaves target rows ideal) stand rise node i (named ref e) lie in
-    (it.0, λ leaf f. it.1 leaf (same_ref (ref_of word) ref (LeafAt leaf) e f))
+    (it.0, λ leaf f. it.1 leaf (same_value (ref_of word) ref (LeafAt leaf) e f))
 root_lies u ps word k leaves target rows leaf_stands stand rise node i named lie
     (root_top base row many e top unset one) = (
       subst (λ bs. Each (RowLies u) bs) (sym one) (
@@ -180,7 +177,7 @@ root_lies u ps word k leaves target rows leaf_stands stand rise node i named lie
             (subst (λ ws. slice_get ws j ≡ Some w) (ap (λ x. x.slots) same ∙ unset) at) reads),
         tt,
       ),
-      λ leaf f. absurd (clash leaf (same_ref (ref_of word) (InnerAt base) (LeafAt leaf) e f)),
+      λ leaf f. absurd (clash leaf (same_value (ref_of word) (InnerAt base) (LeafAt leaf) e f)),
     )
   where
     clash : (leaf : ℕ) → InnerAt base ≡ LeafAt leaf → ⊥

@@ -86,3 +86,9 @@ pub mod RebuildExampleLemmas
 pub mod FinishExampleLemmas
 pub mod LateExampleLemmas
 pub mod ShownLemmas
+pub mod OptionLemmas
+pub mod SettingLemmas
+pub mod HoldingLemmas
+pub mod CommandLemmas
+pub mod IntervalLemmas
+pub mod MapLemmas

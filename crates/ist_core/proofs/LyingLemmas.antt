@@ -1,21 +1,21 @@
 -- If the keys of a strictly increasing list lead to the slot of a tree over it, they lead to its
 -- leaves. Serves the order law.
-use Rattle.std.proofs.Common.{◌≡◌, ℕ, zero, suc, ◌+◌, ◌≤◌, List, [], ◌∷◌, length, drop, slice_get, Option, Some, refl, sym, ap, ◌∙◌, subst, inl, inr, arith}
+use Rattle.std.proofs.Common.{◌≡◌, ℕ, zero, suc, ◌+◌, ◌≤◌, List, [], ◌∷◌, length, drop, slice_get, Some, refl, sym, ap, ◌∙◌, subst, inl, inr, arith}
 use Rattle.ist_core.specs.declared.states.LeafRow.{LeafRow}
 use Rattle.ist_core.specs.declared.states.InnerRow.{InnerRow}
 use Rattle.ist_core.specs.Arithmetic.{child_count, part_lens}
 use Rattle.ist_core.specs.References.{Ref, LeafAt, InnerAt, ref_of}
 use Rattle.ist_core.specs.Elements.{Among, Each}
 use Rattle.ist_core.specs.Parts.{parts, first_keys}
-use Rattle.ist_core.specs.Pieces.{Pieces, Piece, Leaf, Inner}
+use Rattle.ist_core.specs.Pieces.{Pieces, Leaf, Inner}
 use Rattle.ist_core.specs.Snapshots.{Snapshot}
 use Rattle.ist_core.specs.Slots.{in_row, of_row}
 use Rattle.ist_core.proofs.ElementLemmas.{each_append, each-among, among_left, among_right}
-use Rattle.ist_core.proofs.SlotLemmas.{same_inner}
 use Rattle.ist_core.proofs.HomeLemmas.{Mentions, slot_mentions}
 use Rattle.ist_core.proofs.RisingLemmas.{AreRisingKeys, PartsRise, each_of_cut, part_of_each, parts_rise, child_of_part}
 use Rattle.ist_core.proofs.SplitLemmas.{Splits, split_none, split_leaf, split_row, SplitAll, no_split, one_split}
 use Rattle.ist_core.proofs.LeadingLemmas.{to_child, LiesIn, LeafLies}
+use Rattle.ist_core.proofs.OptionLemmas.{same_value, same_leaf, same_inner}
 
 -- each leaf in a slot of the row lies there
 abbrev pub RowLies : Snapshot → ℕ → Type 0
@@ -39,14 +39,8 @@ module _ {A : Type 0} (key : A → ℕ) (ps : Pieces) (u : Snapshot)
   abbrev pub AllLie : List A → ℕ → ℕ → Type 0
   AllLie xs node i = Each (λ x. LiesIn u (key x) node i) xs
 
-  same_leaf : (o : Option Piece) (r s : LeafRow) → o ≡ Some (Leaf r) → o ≡ Some (Leaf s) → r ≡ s
-  same_leaf o r s e f = cc
-
   same_base : (a b : ℕ) → LeafAt a ≡ LeafAt b → a ≡ b
   same_base a b e = cc
-
-  same_ref : (o : Option Ref) (a b : Ref) → o ≡ Some a → o ≡ Some b → a ≡ b
-  same_ref o a b e f = cc
 
   -- the keys that lead to the slot of a row lead to it, and on to the slot of each part
   pub parts_lie : (xs : List A) (node i base : ℕ) (r : InnerRow) → u.pieces base ≡ Some (Inner r)
@@ -140,5 +134,5 @@ module _ {A : Type 0} (key : A → ℕ) (ps : Pieces) (u : Snapshot)
             let same : word ≡ w = cc in
             let here : j ≡ m = omega arith in
             subst (λ n. LeafLies u base n leaf) here
-            (one leaf (same_ref (ref_of word) ref (LeafAt leaf) e (ap ref_of same ∙ f)))
+            (one leaf (same_value (ref_of word) ref (LeafAt leaf) e (ap ref_of same ∙ f)))
         by_place (suc k) m w leaf is at f one others = others k m w leaf (omega arith) at f

@@ -29,10 +29,7 @@ use Rattle.ist_core.proofs.OrderLemmas.{names, past_change_names}
 use Rattle.ist_core.proofs.SlotStepLemmas.{install_stands, install_writes, resolve_writes, place_writes, WritesNoSlot, slot_stays}
 use Rattle.ist_core.proofs.HomeLemmas.{Says, Mentions, slot_mentions}
 use Rattle.ist_core.proofs.ParentLemmas.{one_home}
-
--- a word has one reading
-clash_refs : (o : Option Ref) (a b : Ref) → o ≡ Some a → o ≡ Some b → a ≡ b
-clash_refs o a b e f = cc
+use Rattle.ist_core.proofs.OptionLemmas.{same_value}
 
 module _ (pairs : List Pair) (words : ℕ) (opens : CanOpen pairs words) where
   -- an event that writes no slot
@@ -74,7 +71,7 @@ module _ (pairs : List Pair) (words : ℕ) (opens : CanOpen pairs words) where
       (λ w.
       let read = ref_of-change base (published_good pairs words opens log base (Change h.1.change)
       h.0 h.1.published) in
-      absurd (no_change base (clash_refs (ref_of word) ref (ChangeAt base) is
+      absurd (no_change base (same_value (ref_of word) ref (ChangeAt base) is
       (ap ref_of w.0 ∙ read))))
       (λ stays. slot_mentions (state_of pairs words (Resolve caller base ∷ log)) node i word ref
       stays is)
@@ -84,7 +81,7 @@ module _ (pairs : List Pair) (words : ℕ) (opens : CanOpen pairs words) where
       let writes = place_writes (state_of pairs words log) caller rebuild j new rows h.1 s
       (anchor_free pairs words log h.0) in
       ⊎_elim
-      (λ w. absurd (set (clash_refs (ref_of word) ref Unset is (ap ref_of w.0 ∙ ref_of-unset))))
+      (λ w. absurd (set (same_value (ref_of word) ref Unset is (ap ref_of w.0 ∙ ref_of-unset))))
       (λ stays. slot_mentions (state_of pairs words (Place caller rebuild j new rows ∷ log)) node i
       word ref stays is)
       (writes.others node i word slot)
@@ -138,7 +135,7 @@ module _ (pairs : List Pair) (words : ℕ) (opens : CanOpen pairs words) where
               ⊎_elim
                   (λ f. inl (ap InnerAt it.2.target ∙ f))
                   (λ f. inr (ap ref_of (it.2.rooted
-                  (λ none. set (clash_refs (ref_of r.root) ref Unset f
+                  (λ none. set (same_value (ref_of r.root) ref Unset f
                   (ap ref_of none ∙ ref_of-unset)))) ∙ f))
                   says.2,
             ),

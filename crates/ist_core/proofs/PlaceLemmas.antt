@@ -23,6 +23,8 @@ use Rattle.ist_core.proofs.SoundLemmas.{moves_or_reserves, sound}
 use Rattle.ist_core.proofs.StartLemmas.{sound_start}
 use Rattle.ist_core.proofs.SpendingLemmas.{next-state}
 use Rattle.ist_core.proofs.LayoutLemmas.{fills_within, fills_apart, fills_rows}
+use Rattle.ist_core.proofs.OptionLemmas.{same_value, no_value}
+pub use Rattle.ist_core.proofs.OptionLemmas.{same_value as one_piece, no_value as no_piece}
 
 -- each row has a word
 pub size_positive : (p : Piece) → 0 < size_of p
@@ -35,14 +37,6 @@ size_positive (Rebuild r) = omega arith
 pub absent : {A : Type 0} (o : Option A) → ((x : A) → o ≡ Some x → ⊥) → o ≡ None
 absent None h = refl
 absent (Some x) h = absurd (h x refl)
-
--- an option isn't both None and a row
-pub no_piece : (o : Option Piece) (p : Piece) → o ≡ None → o ≡ Some p → ⊥
-no_piece o p e h = cc
-
--- one base has one row
-pub one_piece : (o : Option Piece) (p q : Piece) → o ≡ Some p → o ≡ Some q → p ≡ q
-one_piece o p q e h = cc
 
 module _ (pairs : List Pair) (words : ℕ) where
   -- the same as `IsSetAside`, going back event by event
@@ -128,7 +122,7 @@ module _ (pairs : List Pair) (words : ℕ) where
       (λ e. inl (
         e.1,
         sym c.2 ∙ ap size_of
-            (one_piece ((start pairs words).pieces base) c.0 d.0 c.1
+            (same_value ((start pairs words).pieces base) c.0 d.0 c.1
             (subst (λ b. (start pairs words).pieces b ≡ Some d.0) (sym e.1) d.1)) ∙ d.2,
       ))
       (λ e.
@@ -202,7 +196,7 @@ module _ (pairs : List Pair) (words : ℕ) where
           → Claimed log base (size_of p)
       stood base p e q =
           let there = m.stays base q.0 q.1 in
-          let same = one_piece ((state_of pairs words (event ∷ log)).pieces base) p there.0 e
+          let same = same_value ((state_of pairs words (event ∷ log)).pieces base) p there.0 e
           there.1 in
           subst (λ z. Claimed log base z) (sym (ap size_of same ∙ there.2))
           (k.published base q.0 q.1)
@@ -217,13 +211,13 @@ module _ (pairs : List Pair) (words : ℕ) where
           subst (λ b. Claimed log b (size_of p)) h.2
           (⊎_elim
           (λ w. ⊎_elim
-          (λ i. absurd (no_piece ((state_of pairs words (event ∷ log)).pieces h.0.base) p
+          (λ i. absurd (no_value ((state_of pairs words (event ∷ log)).pieces h.0.base) p
           (v.unpublished h.0 i) here))
           (λ there. subst (λ z. Claimed log h.0.base z)
-          (sym (ap size_of (one_piece ((state_of pairs words (event ∷ log)).pieces h.0.base) p
+          (sym (ap size_of (same_value ((state_of pairs words (event ∷ log)).pieces h.0.base) p
           there.0 here there.1) ∙ there.2)) (k.held h.0 h.1))
           w)
-          (λ l. absurd (no_piece ((state_of pairs words (event ∷ log)).pieces h.0.base) p
+          (λ l. absurd (no_value ((state_of pairs words (event ∷ log)).pieces h.0.base) p
           (lost_free log event h.0.base l (s.unpublished h.0 h.1)) here))
           (m.fate h.0 h.1))
 

@@ -51,3 +51,16 @@ ever_from first P [] h = ([], same_log, h)
 ever_from first P (event ∷ log) (inl h) = (event ∷ log, same_log, h)
 ever_from first P (event ∷ log) (inr h) =
     let it = ever_from first P log h in (it.0, one_event event it.1, it.2)
+
+-- what is true after a log was true at some moment of it
+pub ever_now : (first : Snapshot) (P : Snapshot → Type 0) (log : Log) → P (state first log)
+    → Ever first P log
+ever_now first P [] h = h
+ever_now first P (event ∷ log) h = inl h
+
+-- what happened in the later events happened in the log
+pub happened_left : (P : Event → Type 0) (more log : Log) → Happened P more
+    → Happened P (more ++ log)
+happened_left P [] log is = absurd is
+happened_left P (event ∷ more) log (inl now) = inl now
+happened_left P (event ∷ more) log (inr old) = inr (happened_left P more log old)

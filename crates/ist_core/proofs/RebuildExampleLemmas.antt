@@ -242,7 +242,7 @@ unfolding ref_of degree square_root root_up_to part_len part_lens
 root_ideal = of_more (the_row 0) root_top
     (one_part (LeafAt 11) refl low_part (one_part (LeafAt 13) refl high_part no_part))
 
-two_is_few : 2 < share_from
+pub two_is_few : 2 < share_from
 two_is_few = let is = share_from_is in omega arith
 
 still_started : IsStarted (state two root_held) 15

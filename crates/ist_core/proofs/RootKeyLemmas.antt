@@ -17,7 +17,6 @@ use Rattle.ist_core.specs.Logs.{Log}
 use Rattle.ist_core.specs.Leaves.{PlacedLeaf, HasLeaves}
 use Rattle.ist_core.specs.Ideals.{IsTop, IsIdeal, of_none, of_one, of_more}
 use Rattle.ist_core.specs.Building.{IsRoot, root_whole, root_top}
-use Rattle.ist_core.specs.Growing.{AllGrow}
 use Rattle.ist_core.specs.Lawful.{EachEnabled, CanOpen, state_of}
 use Rattle.ist_core.proofs.ElementLemmas.{each-among}
 use Rattle.ist_core.proofs.RowLemmas.{changed_at-some}
@@ -27,17 +26,16 @@ use Rattle.ist_core.proofs.SoundLemmas.{sound}
 use Rattle.ist_core.proofs.StartLemmas.{sound_start}
 use Rattle.ist_core.proofs.AddingLemmas.{adds-with_inners}
 use Rattle.ist_core.proofs.GrowingLemmas.{inner_there, rebuild_there}
-use Rattle.ist_core.proofs.StepLemmas.{grow_step}
-use Rattle.ist_core.proofs.PlaceLemmas.{one_piece}
-use Rattle.ist_core.proofs.SlotLemmas.{same_inner}
 use Rattle.ist_core.proofs.NamingLemmas.{InnerHere, RootNames}
 use Rattle.ist_core.proofs.NamingStepLemmas.{changed_at-fixed}
 use Rattle.ist_core.proofs.OrderLemmas.{names}
 use Rattle.ist_core.proofs.FieldLemmas.{LeavesField, Has, has_rooted, has_step}
 use Rattle.ist_core.proofs.RootFieldLemmas.{root_in, status_same, count_same, draw_same, root_rare, start_rootless}
-use Rattle.ist_core.proofs.DrawLemmas.{finished_grows, same_rebuild}
+use Rattle.ist_core.proofs.DrawLemmas.{finished_grows}
 use Rattle.ist_core.proofs.SplitLemmas.{key_of_leaf}
 use Rattle.ist_core.proofs.KeepingLemmas.{IsFinishedNode, leaves_kept}
+use Rattle.ist_core.proofs.OptionLemmas.{same_value, same_rebuild, same_inner}
+use Rattle.ist_core.proofs.FateLemmas.{grow_after}
 
 -- ---- the keys of a root
 
@@ -56,7 +54,7 @@ RootsAreCut t =
     → ref_of row.root ≡ Some (InnerAt root) → t.pieces root ≡ Some (Inner r) → IsCutBy t row.target r
 
 -- a root that names an inner row isn't Unset
-root_set : (word root : ℕ) → ref_of word ≡ Some (InnerAt root) → word ≢ unset_word
+pub root_set : (word root : ℕ) → ref_of word ≡ Some (InnerAt root) → word ≢ unset_word
 root_set word root e f = clash (ref_of word) e (ap ref_of f ∙ ref_of-unset)
   where
     clash : (o : Option Ref) → o ≡ Some (InnerAt root) → o ≡ Some Unset → ⊥
@@ -83,10 +81,6 @@ top_of ps word k leaves target rows (root_top base row many e top unset one) roo
     same o a b h k = cc
 
 module _ (pairs : List Pair) (words : ℕ) (opens : CanOpen pairs words) where
-  step_grows : (log : Log) (event : Event) → EachEnabled (start pairs words) (event ∷ log)
-      → AllGrow (state_of pairs words log).pieces (state_of pairs words (event ∷ log)).pieces
-  step_grows log event h = grow_step (start pairs words) log event h.1 (sound (start pairs words) log (sound_start pairs words) h.0)
-
   -- the cut of a row stays as rows grow
   cut_stays : (log : Log) (event : Event) → EachEnabled (start pairs words) (event ∷ log)
       → (target : ℕ) (r s : InnerRow) → s.keys ≡ r.keys
@@ -97,7 +91,7 @@ module _ (pairs : List Pair) (words : ℕ) (opens : CanOpen pairs words) where
         finished = (
           cut.finished.0,
           finished_grows (state_of pairs words log)
-              (state_of pairs words (event ∷ log)) target cut.finished.0 (step_grows log event h)
+              (state_of pairs words (event ∷ log)) target cut.finished.0 (grow_after pairs words log event h)
               cut.finished.1,
         );
         leaves = cut.leaves;
@@ -128,7 +122,7 @@ module _ (pairs : List Pair) (words : ℕ) (opens : CanOpen pairs words) where
 
       at : (p : Piece) → t.pieces base ≡ Some p → root_in p ≡ row.root → IsCutBy u row.target r
       at (Rebuild q) e same =
-          let g = step_grows log event h in
+          let g = grow_after pairs words log event h in
           let it = rebuild_there t.pieces u.pieces g base q e in
           let now = same_rebuild (u.pieces base) it.0 row it.1 there in
           let names_root = ap ref_of same ∙ is in
@@ -186,7 +180,7 @@ module _ (pairs : List Pair) (words : ℕ) (opens : CanOpen pairs words) where
       (root_set row.root root is) (it.0, it.1, ap root_in (sym same))))
       (λ new.
       let stood = (adds-with_inners t caller rows h.1.held s).keeps rebuild (Rebuild h.1.row) h.1.published in
-      let old = one_piece (qs rebuild) it.0 (Rebuild h.1.row) (subst (λ b. qs b ≡ Some it.0) new.0 it.1) stood in
+      let old = same_value (qs rebuild) it.0 (Rebuild h.1.row) (subst (λ b. qs b ≡ Some it.0) new.0 it.1) stood in
       let row_is : row ≡ record h.1.row { root = word } = rebuild_is row (record h.1.row { root = word }) (new.1 ∙ ap (with_root word) old) in
       subst (λ n. IsCutBy (state_of pairs words (Root caller rebuild word rows ∷ log)) n r) (sym (ap (λ x. x.target) row_is))
       (new_root log caller rebuild word rows h root r (ap (λ x. ref_of x.root) (sym row_is) ∙ is) published))

@@ -13,7 +13,8 @@ use Rattle.ist_core.specs.Snapshots.{Snapshot}
 use Rattle.ist_core.specs.StartLayout.{start}
 use Rattle.ist_core.specs.Statuses.{open_word}
 use Rattle.ist_core.proofs.ImageLemmas.{get_below}
-use Rattle.ist_core.proofs.PlaceLemmas.{claimed_apart, claimed_set_aside, claimed_within, next_after_fixed, no_piece, one_piece, placed}
+use Rattle.ist_core.proofs.PlaceLemmas.{claimed_apart, claimed_set_aside, claimed_within, next_after_fixed, placed}
+use Rattle.ist_core.proofs.OptionLemmas.{same_value, no_value}
 
 -- the image has each word that is shown
 pub image_shows : (t : Snapshot) (image : List ℕ) → IsImage t image → {place word : ℕ}
@@ -79,7 +80,7 @@ module _ (pairs : List Pair) (words : ℕ) (log : Log)
           let base_is = one.0 in
           same_get (words_of q) (words_of p) j k _ w
           (ap words_of
-          (one_piece ((state_of pairs words log).pieces base) q p
+          (same_value ((state_of pairs words log).pieces base) q p
           (subst (λ b. (state_of pairs words log).pieces b ≡ Some q) base_is f) e))
           (omega arith) g there)
           (λ two. ⊎_elim (λ before. absurd (omega arith)) (λ following. absurd (omega arith)) two.1)
@@ -126,7 +127,7 @@ module _ (pairs : List Pair) (words : ℕ) (log : Log)
       absurd (omega arith)
 
   -- the word that is shown at the callers' place is their number
-  callers_word : (place v : ℕ) → IsShown (state_of pairs words log) place v → place ≡ callers_place
+  pub callers_word : (place v : ℕ) → IsShown (state_of pairs words log) place v → place ≡ callers_place
       → v ≡ (state_of pairs words log).callers
   callers_word _ _ shown_next is = absurd (omega arith)
   callers_word _ _ shown_callers is = refl
@@ -214,7 +215,7 @@ module _ (pairs : List Pair) (words : ℕ) (log : Log)
       at (shown_row other p k e read) =
           let inside = get_below (words_of p) k _ read in
           ⊎_elim
-          (λ same. absurd (no_piece ((state_of pairs words log).pieces base) p none
+          (λ same. absurd (no_value ((state_of pairs words log).pieces base) p none
           (subst (λ b. (state_of pairs words log).pieces b ≡ Some p) same.0 e)))
           (λ apart. ⊎_elim (λ l. inl (omega arith)) (λ l. inr (omega arith)) apart.1)
           (claimed_apart pairs words log other (size_of p) base size enabled

@@ -8,6 +8,7 @@ use Rattle.ist_core.specs.Pieces.{Pieces, Piece, Inner, changed_at, with_slot}
 use Rattle.ist_core.specs.Snapshots.{Snapshot}
 use Rattle.ist_core.specs.Slots.{SlotHolds, in_anchor, in_row, IsOpen, anchor_is, row_is}
 use Rattle.ist_core.proofs.RowLemmas.{changed_at-same, changed_at-other}
+pub use Rattle.ist_core.proofs.OptionLemmas.{same_inner}
 
 -- ---- words of a list
 
@@ -38,11 +39,6 @@ get-set_some (y ∷ xs) (suc i) (suc j) x word e = ⊎_elim (λ w. inl (ap suc w
     (get-set_some xs i j x word e)
 
 -- ---- one word a slot
-
--- one base has one inner row
-pub same_inner : (o : Option Piece) (r s : InnerRow) → o ≡ Some (Inner r) → o ≡ Some (Inner s)
-    → r ≡ s
-same_inner o r s e f = cc
 
 -- no row lies at the anchor
 pub no_row : (ps : Pieces) (node : ℕ) (r : InnerRow) → ps anchor ≡ None → node ≡ anchor

@@ -203,3 +203,7 @@ module _ (pairs : List Pair) (words : ℕ) where
       let low = distinct_below place_limit (decided_yes_in log) once.1
       (yes_below opens log h (decided_yes_in log) once.0) in
       omega arith
+
+-- one event decides one change
+pub same_base : (a b c d : ℕ) → Decide a b true ≡ Decide c d true → b ≡ d
+same_base a b c d e = cc

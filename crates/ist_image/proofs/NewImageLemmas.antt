@@ -15,6 +15,7 @@ use Rattle.ist_core.specs.Images.{IsImage, StandsAt}
 use Rattle.ist_core.specs.Lawful.{CanOpen}
 use Rattle.ist_core.proofs.LayoutLemmas.{FillWords, fills_rows}
 use Rattle.ist_core.proofs.PieceLemmas.{among-pieces_of, slice_get-drop}
+use Rattle.ist_core.proofs.ImageLemmas.{get_after}
 use Rattle.ist_image.specs.Zeros.{ZerosFrom}
 use Rattle.ist_image.specs.Placing.{row_words, tree_words, image_words}
 use Rattle.ist_image.proofs.PlacedLemmas.{length-tree_words}
@@ -24,14 +25,6 @@ get_before : (xs ys : List ℕ) (k : ℕ) → k < length xs → slice_get (xs ++
 get_before [] ys k h = absurd (omega arith)
 get_before (x ∷ xs) ys zero h = refl
 get_before (x ∷ xs) ys (suc k) h = get_before xs ys k (omega arith)
-
--- a word of the second
-get_after : (xs ys : List ℕ) (k : ℕ) → slice_get (xs ++ ys) (length xs + k) ≡ slice_get ys k
-get_after [] ys k = ap (slice_get ys) (let e : 0 + k ≡ k = omega arith in e)
-get_after (x ∷ xs) ys k =
-    ap (slice_get (x ∷ (xs ++ ys)))
-    (let e : length (x ∷ xs) + k ≡ suc (length xs + k) = omega arith in e)
-    ∙ get_after xs ys k
 
 -- rows that lie one after another are in the words at their bases
 rows_stand : (front rest : List ℕ) (to : ℕ) (rows : List (ℕ × Piece)) (base : ℕ) (p : Piece)

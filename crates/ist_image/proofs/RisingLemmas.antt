@@ -80,7 +80,7 @@ one_opens = record {
   within = omega arith;
 }
 
-two_rise : IsStrictlyIncreasing (map (λ pair. pair.key) two_pairs)
+pub two_rise : IsStrictlyIncreasing (map (λ pair. pair.key) two_pairs)
 two_rise zero h = omega arith
 two_rise (suc k) h = absurd (omega arith)
 

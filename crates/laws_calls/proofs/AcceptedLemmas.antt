@@ -16,12 +16,11 @@ use Rattle.ist_core.specs.Pieces.{Change, Inner, Leaf, Piece, Pieces, Rebuild, w
 use Rattle.ist_core.specs.Standing.{entries_by}
 use Rattle.ist_core.specs.StartLayout.{start}
 use Rattle.ist_core.specs.Statuses.{decided_yes, undecided}
-use Rattle.ist_core.proofs.FateLemmas.{enabled_before, grow_between}
-use Rattle.ist_core.proofs.FreezingLemmas.{same_change}
+use Rattle.ist_core.proofs.FateLemmas.{enabled_before, grow_between, grow_after}
 use Rattle.ist_core.proofs.GrowingLemmas.{change_there, inner_there, leaf_there, rebuild_there}
 use Rattle.ist_core.proofs.RowLemmas.{changed_at-same}
+use Rattle.ist_core.proofs.OptionLemmas.{same_change}
 use Rattle.laws_links.proofs.ChangeLemmas.{undecided_unresolved}
-use Rattle.laws_links.proofs.InductionLemmas.{grow_after}
 use Rattle.laws_histories.specs.Calls.{MadeNoEntry}
 use Rattle.laws_histories.proofs.EffectLemmas.{took_effect}
 use Rattle.laws_calls.specs.Accepting.{NoneAcceptedSince, WasAccepted}
@@ -35,7 +34,7 @@ one_more_is_longer xs ys entry same more =
     omega arith
 
 -- as long a list is no longer by more than one
-no_longer : (xs ys : List Entry) → xs ≡ ys → length xs ≤ length ys + 1
+pub no_longer : (xs ys : List Entry) → xs ≡ ys → length xs ≤ length ys + 1
 no_longer xs ys same = let a = ap length same in omega arith
 
 module _ (pairs : List Pair) (words : ℕ) (opens : CanOpen pairs words) where

@@ -1,26 +1,18 @@
 -- A node that isn't open never is again. Serves the laws on refused changes and on a settled table.
-use Rattle.std.proofs.Common.{List, ap, arith, sym, ℕ, ⊎_elim, ◌∙◌, ◌≡◌}
+use Rattle.std.proofs.Common.{List, ap, ℕ, ⊎_elim, ◌∙◌, ◌≡◌}
 use Rattle.std.proofs.lemmas.Bool.Decides.{eqb_tells}
 use Rattle.ist_core.specs.declared.pairs.Pair.{Pair}
-use Rattle.ist_core.specs.Growing.{StatusGoesOn, is_closed, is_finished, is_marked, status_stays}
 use Rattle.ist_core.specs.Lawful.{CanOpen, EachEnabled, state_of}
 use Rattle.ist_core.specs.Links.{WasLinked}
 use Rattle.ist_core.specs.Logs.{GoesOn, Log}
 use Rattle.ist_core.specs.RowLayout.{anchor}
 use Rattle.ist_core.specs.Slots.{IsOpen, anchor_is, row_is}
 use Rattle.ist_core.specs.StartLayout.{start}
-use Rattle.ist_core.specs.Statuses.{open_word}
 use Rattle.ist_core.proofs.FateLemmas.{enabled_before, grow_between}
 use Rattle.ist_core.proofs.GrowingLemmas.{inner_there}
-use Rattle.ist_core.proofs.SlotLemmas.{same_inner}
+use Rattle.ist_core.proofs.OptionLemmas.{same_inner}
+use Rattle.ist_core.proofs.FreezingLemmas.{status_open}
 use Rattle.laws_links.proofs.UntouchedLemmas.{was_linked_here}
-
--- if a status is open later, it was open before
-status_open : (a b : ℕ) → StatusGoesOn a b → b ≡ open_word → a ≡ open_word
-status_open a b (status_stays e) o = sym e ∙ o
-status_open a b (is_marked e f) o = e
-status_open a b (is_finished k e f) o = absurd (omega arith)
-status_open a b (is_closed k e f) o = e
 
 module _ (pairs : List Pair) (words : ℕ) (opens : CanOpen pairs words) where
   -- a node that was linked and isn't open is never open

@@ -1,5 +1,5 @@
 -- An update that is its caller's one entry since may be counted. Serves the law on Counts.
-use Rattle.std.proofs.Common.{Bool, List, None, Some, ap, arith, false, inl, inr, length, length-append, refl, subst, sym, true, ℕ, if◌then◌else◌, ◌++◌, ◌+◌, ◌<◌, ◌==◌, ◌∙◌, ◌∷◌, ◌≡◌, ◌≢◌, ◌≤◌, ◌⊎◌}
+use Rattle.std.proofs.Common.{List, None, Some, ap, arith, false, inl, inr, length, length-append, refl, subst, sym, true, ℕ, if◌then◌else◌, ◌++◌, ◌+◌, ◌<◌, ◌==◌, ◌∙◌, ◌∷◌, ◌≡◌, ◌≢◌, ◌≤◌, ◌⊎◌}
 use Rattle.std.proofs.lemmas.Bool.Decides.{eqb_tells}
 use Rattle.std.proofs.lemmas.List.Elements.{filter-append}
 use Rattle.ist_core.specs.declared.commands.Command.TheVariants.{Put, Remove}
@@ -20,14 +20,15 @@ use Rattle.ist_core.specs.Standing.{entries_by}
 use Rattle.ist_core.specs.StartLayout.{start}
 use Rattle.ist_core.specs.Statuses.{put_kind, remove_kind}
 use Rattle.ist_core.proofs.FateLemmas.{enabled_before, grow_between}
-use Rattle.ist_core.proofs.FreezingLemmas.{same_change}
 use Rattle.ist_core.proofs.GrowingLemmas.{change_there}
 use Rattle.ist_core.proofs.PrefixLemmas.{goes_on_more, goes_on_by}
+use Rattle.ist_core.proofs.OptionLemmas.{same_change}
 use Rattle.laws_links.proofs.OwnerLemmas.{owner_known}
 use Rattle.laws_histories.proofs.ChangeLemmas.{changes_on}
 use Rattle.laws_histories.proofs.DecisionLemmas.{Turning, turns_since}
 use Rattle.laws_calls.proofs.EventsMeanwhileLemmas.{Met, event_by, events_after, happened_met}
 use Rattle.laws_calls.specs.Counting.{CountsElsewhere, IsOneUpdate}
+pub use Rattle.ist_core.proofs.CommandLemmas.{command_update}
 
 -- a put or remove has a command
 pub update_command : (x : ChangeRow) → IsUpdate x.kind
@@ -42,27 +43,6 @@ update_command x (inr remove) = (
   ap (λ k. if k == put_kind then Some (Put x.key x.value)
       else (if k == remove_kind then Some (Remove x.key) else None)) remove,
 )
-
--- a change with a command is a put or remove
-pub command_update : (x : ChangeRow) (command : Command) → command_of x ≡ Some command
-    → IsUpdate x.kind
-command_update x command is = at (eqb_tells x.kind put_kind) (eqb_tells x.kind remove_kind)
-  where
-    by_kind : (a b : Bool) → (if a then Some (Put x.key x.value)
-        else (if b then Some (Remove x.key) else None)) ≡ Some command → a ≡ false → b ≡ false → ⊥
-    by_kind false false e q r = cc
-    by_kind true b e q r = cc
-    by_kind false true e q r = cc
-
-    at : (((x.kind == put_kind) ≡ true) × (x.kind ≡ put_kind))
-        ⊎ (((x.kind == put_kind) ≡ false) × (x.kind ≢ put_kind))
-        → (((x.kind == remove_kind) ≡ true) × (x.kind ≡ remove_kind))
-        ⊎ (((x.kind == remove_kind) ≡ false) × (x.kind ≢ remove_kind))
-        → IsUpdate x.kind
-    at (inl k) other = inl k.1
-    at (inr k) (inl j) = inr j.1
-    at (inr k) (inr j) =
-        absurd (by_kind (x.kind == put_kind) (x.kind == remove_kind) is k.0 j.0)
 
 -- an entry of the owner is one of its entries
 own_entry : (ps : Pieces) (x : ChangeRow) (caller : ℕ) → x.owner ≡ caller → (command : Command)

@@ -18,8 +18,8 @@ use Rattle.ist_core.specs.StartLayout.{start}
 use Rattle.ist_core.specs.Statuses.{start_kind}
 use Rattle.ist_core.specs.Writing.{first_change}
 use Rattle.ist_core.proofs.FateLemmas.{enabled_before, grow_between}
-use Rattle.ist_core.proofs.SlotLemmas.{same_inner}
 use Rattle.ist_core.proofs.PrefixLemmas.{ever_later, goes_on_by}
+use Rattle.ist_core.proofs.OptionLemmas.{same_inner}
 use Rattle.laws_links.proofs.ChangeLemmas.{node_was_linked, undecided_unresolved}
 use Rattle.laws_links.proofs.ComesLemmas.{change_comes}
 use Rattle.laws_links.proofs.FormLemmas.{replaced_grows}

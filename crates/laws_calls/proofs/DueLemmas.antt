@@ -20,14 +20,16 @@ use Rattle.ist_core.specs.Statuses.{finished_word, marked_word}
 use Rattle.ist_core.proofs.BornLemmas.{Born}
 use Rattle.ist_core.proofs.ChainLemmas.{on_chain_inner}
 use Rattle.ist_core.proofs.CountLemmas.{counts}
-use Rattle.ist_core.proofs.PlaceLemmas.{absent, no_piece}
+use Rattle.ist_core.proofs.PlaceLemmas.{absent}
 use Rattle.ist_core.proofs.TallyLemmas.{count_at_most}
-use Rattle.laws_links.proofs.InductionLemmas.{grow_after}
 use Rattle.laws_links.proofs.UntouchedLemmas.{on_chain_was_linked}
 use Rattle.laws_links.proofs.RowEventLemmas.{RowCame, BecameBy, as_it_was, by_count, by_decide, by_draw, by_finish, by_install, by_mark, by_place, by_resolve, by_root, came, from_new, from_old}
+use Rattle.laws_links.proofs.OriginLemmas.{inner_is}
 use Rattle.ist_core.proofs.CallerLemmas.{known_step}
 use Rattle.laws_calls.specs.Settling.{MadeDue, due_before, due_now}
 use Rattle.ist_core.proofs.BornLemmas as born
+use Rattle.ist_core.proofs.OptionLemmas.{no_value}
+use Rattle.ist_core.proofs.FateLemmas.{grow_after}
 
 -- ---- what an event makes of a count
 
@@ -36,10 +38,6 @@ abbrev KeepsCounts : (Piece → Piece) → Type 0
 KeepsCounts f =
     (p : Piece) (x : InnerRow) → f p ≡ Inner x
     → (r : InnerRow) × (p ≡ Inner r) × (x.count ≡ r.count) × (x.size ≡ r.size)
-
--- one inner row
-inner_is : (r x : InnerRow) → Inner r ≡ Inner x → x ≡ r
-inner_is r x e = cc
 
 count-with_slot : (i word : ℕ) → KeepsCounts (with_slot i word)
 count-with_slot i word (Inner r) x e =
@@ -103,7 +101,7 @@ module _ (pairs : List Pair) (words : ℕ) (opens : CanOpen pairs words) where
   no_counts [] h node none = refl
   no_counts (Count caller at ∷ log) h node none =
       let before = absent ((state_of pairs words log).pieces node) (λ p e.
-      let on = grow_after pairs words log (Count caller at) h node p e in no_piece
+      let on = grow_after pairs words log (Count caller at) h node p e in no_value
       ((state_of pairs words (Count caller at ∷ log)).pieces node) on.0 none on.1) in
       here before (no_counts log h.0 node before) (eqb_tells at node)
     where
@@ -114,14 +112,14 @@ module _ (pairs : List Pair) (words : ℕ) (opens : CanOpen pairs words) where
           let it = on_chain_inner pairs words opens log h.0 h.1.update.change.node at
           h.1.on_chain in
           absurd
-          (no_piece ((state_of pairs words log).pieces node) (Inner it.0) before
+          (no_value ((state_of pairs words log).pieces node) (Inner it.0) before
           (subst (λ n. (state_of pairs words log).pieces n ≡ Some (Inner it.0)) k.1 it.1))
       here before rest (inr k) =
           subst (λ b. (if b then counts node log + 1 else counts node log) ≡ 0) (sym k.0) rest
   no_counts (event ∷ log) h node none =
       no_counts log h.0 node
       (absent ((state_of pairs words log).pieces node) (λ p e.
-      let on = grow_after pairs words log event h node p e in no_piece
+      let on = grow_after pairs words log event h node p e in no_value
       ((state_of pairs words (event ∷ log)).pieces node) on.0 none on.1))
 
   -- a row that an event publishes counts nothing

@@ -29,12 +29,9 @@ use Rattle.laws_links.proofs.FinishedLemmas.{finished_slot}
 use Rattle.laws_links.proofs.LinkLemmas.{linked_or_finished}
 use Rattle.laws_links.proofs.UntouchedLemmas.{not_the_anchor, was_linked_parent}
 use Rattle.laws_links.proofs.ContentLemmas.{linked_set}
+use Rattle.laws_links.proofs.FinishedLeafLemmas.{inner_base}
 use Rattle.laws_stability.proofs.SetLemmas.{set_later}
 use Rattle.ist_core.proofs.UnderLemmas as under
-
--- two inner rows are one
-inner_base : (a b : ℕ) → Some (InnerAt a) ≡ Some (InnerAt b) → InnerAt a ≡ InnerAt b
-inner_base a b e = cc
 
 -- what a slot was passed with is set
 passed_set : (t : Snapshot) (o : Option Ref) (k : ℕ) → CountsFor t o k

@@ -8,12 +8,12 @@ use Rattle.ist_core.specs.Lawful.{CanOpen, EachEnabled, state_of}
 use Rattle.ist_core.specs.Logs.{Log}
 use Rattle.ist_core.specs.Pieces.{Change}
 use Rattle.ist_core.specs.StartLayout.{start}
-use Rattle.ist_core.proofs.PlaceLemmas.{no_piece}
 use Rattle.ist_core.proofs.PrefixLemmas.{goes_on_by}
+use Rattle.ist_core.proofs.OptionLemmas.{no_value}
+use Rattle.ist_core.proofs.CommandLemmas.{command_update}
 use Rattle.laws_histories.specs.Calls.{MadeNoEntry}
 use Rattle.laws_calls.proofs.AcceptedLemmas.{resolved_no_entry}
 use Rattle.laws_calls.proofs.EventsMeanwhileLemmas.{event_by}
-use Rattle.laws_calls.proofs.CountedLemmas.{command_update}
 use Rattle.laws_calls.specs.Accepting.{InstallsNoYes, NoneAcceptedSince}
 use Rattle.laws_calls.proofs.OwnLemmas.{change_since}
 use Rattle.laws_calls.specs.Owning.{HasChange, WasInstalled}
@@ -35,7 +35,7 @@ module _ (pairs : List Pair) (words : ℕ) (opens : CanOpen pairs words) where
           by_origin : HasChange (state_of pairs words earlier) base
               ⊎ WasInstalled earlier log change.owner base → ⊥
           by_origin (inl old) =
-              no_piece ((state_of pairs words earlier).pieces base) (Change old.0) none old.1
+              no_value ((state_of pairs words earlier).pieces base) (Change old.0) none old.1
           by_origin (inr w) =
               event_by (InstallsNoYes (state_of pairs words log) number) earlier log later
               (Install change.owner base w.rows) w.at w.since w.until own change e

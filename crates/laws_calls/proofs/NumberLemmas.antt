@@ -1,5 +1,5 @@
 -- There are at most as many leaves as pairs at the start plus puts since. Serves the finish law.
-use Rattle.std.proofs.Common.{Bool, List, Option, Some, T, [], ap, arith, cond, false, filter, inl, inr, length, length-append, map, refl, slice_get, subst, suc, sym, true, zero, ℕ, if◌then◌else◌, ◌*◌, ◌++◌, ◌+◌, ◌-◌, ◌==◌, ◌∙◌, ◌∷◌, ◌≡◌, ◌≢◌, ◌≤◌, ◌⊎◌}
+use Rattle.std.proofs.Common.{List, Option, Some, T, [], ap, arith, false, filter, inl, inr, length, length-append, map, refl, slice_get, subst, suc, sym, true, zero, ℕ, if◌then◌else◌, ◌*◌, ◌++◌, ◌+◌, ◌-◌, ◌==◌, ◌∙◌, ◌∷◌, ◌≡◌, ◌≢◌, ◌≤◌, ◌⊎◌}
 use Rattle.std.proofs.lemmas.Bool.Decides.{eqb_tells}
 use Rattle.std.proofs.lemmas.List.Elements.{filter-append}
 use Rattle.std.proofs.lemmas.List.{length-map}
@@ -18,7 +18,7 @@ use Rattle.ist_core.specs.Lawful.{CanOpen, EachEnabled, state_of}
 use Rattle.ist_core.specs.Leaves.{HasLeaves, PlacedLeaf, SlotsHaveLeaves, no_slot, one_slot, pair_of, row_here}
 use Rattle.ist_core.specs.Links.{Linked, at_anchor, below}
 use Rattle.ist_core.specs.Logs.{Log, one_event, same_log}
-use Rattle.ist_core.specs.Map.{Map, map_after, map_of, pairs_of}
+use Rattle.ist_core.specs.Map.{Map, map_after, map_of}
 use Rattle.ist_core.specs.Pieces.{Inner, Pieces}
 use Rattle.ist_core.specs.References.{InnerAt, Ref}
 use Rattle.ist_core.specs.RowLayout.{anchor}
@@ -28,7 +28,9 @@ use Rattle.ist_core.specs.StartLayout.{start}
 use Rattle.ist_core.specs.Statuses.{finished_word}
 use Rattle.ist_core.proofs.EntryLemmas.{is_sorted-rising}
 use Rattle.ist_core.proofs.PlaceLemmas.{anchor_free}
-use Rattle.ist_core.proofs.SlotLemmas.{no_row, same_inner}
+use Rattle.ist_core.proofs.SlotLemmas.{no_row}
+use Rattle.ist_core.proofs.OptionLemmas.{same_inner}
+use Rattle.ist_core.proofs.MapLemmas.{one_kept, one_less, length-pairs_of}
 use Rattle.laws_links.proofs.ComesLemmas.{status_comes}
 use Rattle.laws_links.proofs.OriginLemmas.{StatusComes, finished_now, is_new, marked_now, status_was}
 use Rattle.laws_links.proofs.QuietLemmas.{start_quiet}
@@ -80,15 +82,6 @@ row_few t node i word leaves ne (row_here r e slots) (in_row s f g) =
 
 -- ---- maps
 
--- the length of the map after some entries
-len_cond : (b : Bool) (n : ℕ) → cond b n (n + 1) ≤ n + 1
-len_cond true n = omega arith
-len_cond false n = omega arith
-
-len_less : (b : Bool) (n : ℕ) → cond b (n - 1) n ≤ n
-len_less true n = omega arith
-len_less false n = omega arith
-
 len_after : (m : Map) (entries : List Entry)
     → fin.len (map_after_entries m entries) ≤ fin.len m + puts_in entries
 len_after m [] = omega arith
@@ -103,23 +96,19 @@ len_after m (e ∷ es) = at e.command refl (len_after (map_after m e.command) es
         filter (λ x. is_put x.command) es)) is in
         let map_is = ap (λ c. fin.len (map_after m c)) is ∙ fin.len-insert nat_cmp_total m key
         value in
-        let low = len_cond (fin.contains_key m key) (fin.len m) in
+        let low = one_kept (fin.contains_key m key) (fin.len m) in
         omega arith
     at (Remove key) is rest =
         let long = ap (λ c. length (if is_put c then e ∷ filter (λ x. is_put x.command) es else
         filter (λ x. is_put x.command) es)) is in
         let map_is = ap (λ c. fin.len (map_after m c)) is ∙ fin.len-remove nat_cmp_total m key in
-        let low = len_less (fin.contains_key m key) (fin.len m) in
+        let low = one_less (fin.contains_key m key) (fin.len m) in
         omega arith
     at (Get key) is rest =
         let long = ap (λ c. length (if is_put c then e ∷ filter (λ x. is_put x.command) es else
         filter (λ x. is_put x.command) es)) is in
         let map_is = ap (λ c. fin.len (map_after m c)) is in
         omega arith
-
--- the number of a map's pairs is its length
-pairs_long : (m : Map) → length (pairs_of m) ≡ fin.len m
-pairs_long m = length-map (fin.entries m) _ ∙ sym (fin.len-entries m)
 
 -- the map of pairs with strictly increasing keys has one entry for each pair
 abbrev entry : Pair → ℕ × ℕ
@@ -143,7 +132,7 @@ map_long pairs rise =
     ∙ ap length (fin.entries-from_sorted nat_cmp es holds) ∙ length-map pairs _
 
 -- more entries have at least as many puts
-puts_rise : (old more new : List Entry) → new ≡ old ++ more → puts_in old ≤ puts_in new
+pub puts_rise : (old more new : List Entry) → new ≡ old ++ more → puts_in old ≤ puts_in new
 puts_rise old more new e =
     let parts = ap (λ xs. length (filter (λ x. is_put x.command) xs)) e
     ∙ ap length (filter-append (λ x. is_put x.command) old more)
@@ -159,7 +148,7 @@ module _ (pairs : List Pair) (words : ℕ) (opens : CanOpen pairs words) where
   contents_few log h =
       let has = contents_at pairs words opens log h in
       let long = ap length has.pairs_are ∙ length-map has.leaves pair_of in
-      let map_is = pairs_long (map_now pairs words log) in
+      let map_is = length-pairs_of (map_now pairs words log) in
       let low = len_after (map_of pairs) (changes_of pairs words log) in
       let first = map_long pairs opens.rising in
       record { leaves = has.leaves; reached = has.reached; few = omega arith }

@@ -8,6 +8,7 @@ use Rattle.std.specs.List.{range_with_len, sum}
 use Rattle.ist_core.specs.Arithmetic.{degree, part_len, part_lens, part_start}
 use Rattle.ist_core.specs.Leaves.{PlacedLeaf}
 use Rattle.ist_core.specs.Parts.{cut, first_keys, parts}
+use Rattle.ist_core.proofs.LayoutLemmas.{length-cut}
 use Rattle.laws_calls.specs.Dividing.{keys_of_parts, lens_to, share_of, parts_to}
 
 -- ---- lengths
@@ -51,10 +52,6 @@ first_keys_more : {A : Type 0} (key : A → ℕ) (xs : List (List A)) (y : A) (y
 first_keys_more key [] y ys = refl
 first_keys_more key ([] ∷ xs) y ys = first_keys_more key xs y ys
 first_keys_more key ((z ∷ zs) ∷ xs) y ys = ap (λ ks. key z ∷ ks) (first_keys_more key xs y ys)
-
-length-cut : {A : Type 0} (ns : List ℕ) (xs : List A) → length (cut ns xs) ≡ length ns
-length-cut [] xs = refl
-length-cut (n ∷ ns) xs = let rest = length-cut ns (drop n xs) in omega arith
 
 drop_first : {A : Type 0} (xs : List A) (y : A) → 1 ≤ length xs
     → drop 1 (xs ++ y ∷ []) ≡ drop 1 xs ++ y ∷ []

@@ -1,5 +1,6 @@
 -- If a slot reads as a rebuild, the rebuild was started. Serves the start law.
 use Rattle.std.proofs.Common.{List, None, Option, Some, [], ap, inl, inr, refl, subst, sym, ℕ, ⊎_elim, ◌∙◌, ◌∷◌, ◌≡◌, ◌⊎◌}
+use Rattle.std.proofs.lemmas.Option.{same_Some}
 use Rattle.ist_core.specs.declared.events.Event.TheVariants.{Install, Place, Resolve}
 use Rattle.ist_core.specs.declared.events.Event.{Event}
 use Rattle.ist_core.specs.declared.pairs.Pair.{Pair}
@@ -18,11 +19,12 @@ use Rattle.ist_core.proofs.OrderLemmas.{names}
 use Rattle.ist_core.proofs.PlaceLemmas.{anchor_free}
 use Rattle.ist_core.proofs.SlotLemmas.{slot_once}
 use Rattle.ist_core.proofs.SlotStepLemmas.{WritesNoSlot, WritesSlot, install_writes, place_writes, resolve_writes, slot_stays}
+use Rattle.ist_core.proofs.FateLemmas.{grow_after}
 use Rattle.laws_links.proofs.FormLemmas.{started_grows}
-use Rattle.laws_links.proofs.InductionLemmas.{grow_after, sound_after}
+use Rattle.laws_links.proofs.InductionLemmas.{sound_after}
 use Rattle.laws_links.proofs.QuietLemmas.{start_quiet}
 use Rattle.laws_links.specs.Replacing.{ReadsAsRebuild}
-use Rattle.laws_calls.proofs.RebuildSlotLemmas.{ideal_no_rebuild, no_rebuild_of_change, one_ref, side_started, slot_before}
+use Rattle.laws_calls.proofs.RebuildSlotLemmas.{ideal_no_rebuild, no_rebuild_of_change, side_started, slot_before}
 
 module _ (pairs : List Pair) (words : ℕ) (opens : CanOpen pairs words) where
   -- ---- the law, event by event
@@ -91,7 +93,7 @@ module _ (pairs : List Pair) (words : ℕ) (opens : CanOpen pairs words) where
       (λ other e. absurd
       (ideal_no_rebuild (with_inners (state_of pairs words log).pieces rows) h.1.ref h.1.part
       h.1.root
-      (bases_of rows) h.1.ideal other (one_ref h.1.ref (RebuildAt other) (sym h.1.ref_is ∙ e))))
+      (bases_of rows) h.1.ideal other (same_Some h.1.ref (RebuildAt other) (sym h.1.ref_is ∙ e))))
   keeps log event h = quiet_keeps log event h tt
 
   -- ---- the law

@@ -24,14 +24,13 @@ use Rattle.ist_core.proofs.FreezingLemmas.{side_not_yes}
 use Rattle.ist_core.proofs.GrowingLemmas.{change_there, inner_there, leaf_there, rebuild_there}
 use Rattle.ist_core.proofs.NamingLemmas.{RootNames, SlotNames, WordsName}
 use Rattle.ist_core.proofs.OrderLemmas.{names}
-use Rattle.ist_core.proofs.PlaceLemmas.{no_piece}
 use Rattle.ist_core.proofs.ReferenceLemmas.{word_of-ref_of}
-use Rattle.ist_core.proofs.SlotLemmas.{same_inner}
+use Rattle.ist_core.proofs.OptionLemmas.{no_value, same_inner}
+use Rattle.ist_core.proofs.FateLemmas.{grow_after}
 use Rattle.laws_links.proofs.ChangeLemmas.{node_was_linked}
 use Rattle.laws_links.proofs.ComesLemmas.{change_comes}
 use Rattle.laws_links.proofs.FormLemmas.{IsFormed, of_finish, of_leaf_put, of_pair_put, of_remove, of_start}
 use Rattle.laws_links.proofs.FormedLemmas.{changes_are_formed}
-use Rattle.laws_links.proofs.InductionLemmas.{grow_after}
 use Rattle.laws_links.proofs.OriginLemmas.{ChangeComes, change_was, is_decided, is_installed}
 use Rattle.laws_links.proofs.ReadLemmas.{side_yes}
 use Rattle.laws_links.proofs.UntouchedLemmas.{not_the_anchor, was_linked_here}
@@ -55,10 +54,6 @@ pub ideal_no_rebuild : (ps : Pieces) (ref : Ref) (leaves : List PlacedLeaf) (abo
 ideal_no_rebuild ps _ _ above _ of_none rebuild e = cc
 ideal_no_rebuild ps _ _ above _ (of_one a b) rebuild e = cc
 ideal_no_rebuild ps _ _ above _ (of_more r a b) rebuild e = cc
-
--- one reference
-pub one_ref : (a b : Ref) → Some a ≡ Some b → a ≡ b
-one_ref a b e = cc
 
 -- a change that puts a rebuild in is a start
 start_of : (t : Snapshot) → WordsName t → (x : ChangeRow) (rebuild : ℕ) → IsFormed t x
@@ -150,7 +145,7 @@ module _ (pairs : List Pair) (words : ℕ) (opens : CanOpen pairs words) where
       (start_node_linked log event h begun.0 begun.1.change begun.1.published) in
       let old = was_linked_here pairs words opens log h.0 node
       (not_the_anchor pairs words opens (event ∷ log) h node r e) was in
-      no_piece ((state_of pairs words log).pieces node) (Inner old.0) none old.1
+      no_value ((state_of pairs words log).pieces node) (Inner old.0) none old.1
 
   -- ---- what a slot held before an event
 

@@ -1,6 +1,7 @@
 -- The form of a rebuild's root: over few keys no slot of it is ever Unset, and over many it is a
 -- row with one slot for each part. Serves the law on roots.
 use Rattle.std.proofs.Common.{List, Some, [], ap, arith, refl, subst, sym, ℕ, ◌<◌, ◌∙◌, ◌∷◌, ◌≡◌, ◌≢◌, ◌≤◌}
+use Rattle.std.proofs.lemmas.Option.{same_Some}
 use Rattle.ist_core.specs.declared.events.Event.TheVariants.{Draw, Root}
 use Rattle.ist_core.specs.declared.events.Event.{Event}
 use Rattle.ist_core.specs.declared.lists.Row.{Row}
@@ -25,7 +26,8 @@ use Rattle.ist_core.proofs.FateLemmas.{grow_between}
 use Rattle.ist_core.proofs.GrowingLemmas.{inner_there, get_alike}
 use Rattle.ist_core.proofs.NamingStepLemmas.{changed_at-fixed}
 use Rattle.ist_core.proofs.PlaceLemmas.{anchor_free}
-use Rattle.ist_core.proofs.SlotLemmas.{same_inner, slot_once}
+use Rattle.ist_core.proofs.SlotLemmas.{slot_once}
+use Rattle.ist_core.proofs.OptionLemmas.{same_inner}
 use Rattle.laws_links.proofs.ComesLemmas.{rebuild_comes}
 use Rattle.laws_links.proofs.FormLemmas.{finished_with_grows}
 use Rattle.laws_links.proofs.OriginLemmas.{RebuildComes, is_begun, is_drawn, is_rooted, rebuild_was}
@@ -118,16 +120,12 @@ module _ (pairs : List Pair) (words : ℕ) (opens : CanOpen pairs words) where
         subst (IsWholeRow u) same
         record { row = it.row; published = there b it.row it.published; set = it.set }
 
-    -- one reference
-    one_ref : (a b : Ref) → Some a ≡ Some b → a ≡ b
-    one_ref a b e = cc
-
     -- a root over few keys is a whole ideal subtree
     by_few : IsRoot qs word can.k can.leaves can.row.target (bases_of rows) → can.k < share_from
         → (base : ℕ) → ref_of word ≡ Some (InnerAt base) → IsWholeRow u base
     by_few (root_whole ref less e ideal) few base f =
         of_ideal ref can.leaves can.row.target (bases_of rows) ideal base
-        (one_ref ref (InnerAt base) (sym e ∙ f))
+        (same_Some ref (InnerAt base) (sym e ∙ f))
     by_few (root_top b row all e top unset one) few base f = absurd (omega arith)
 
     -- a root over many keys is only its top row

@@ -18,7 +18,7 @@ use Rattle.ist_core.proofs.FateLemmas.{enabled_before}
 use Rattle.ist_core.proofs.MentionLemmas.{one_parent}
 use Rattle.ist_core.proofs.OrderLemmas.{names}
 use Rattle.ist_core.proofs.PrefixLemmas.{ever_from}
-use Rattle.ist_core.proofs.DrawLemmas.{same_rebuild}
+use Rattle.ist_core.proofs.OptionLemmas.{same_rebuild}
 use Rattle.laws_links.proofs.ClosedLemmas.{linked_now}
 use Rattle.laws_links.proofs.UntouchedLemmas.{child_no_anchor, was_linked_here}
 use Rattle.laws_links.specs.Opening.{RebuildsAreDone}

@@ -13,10 +13,11 @@ use Rattle.ist_core.specs.References.{InnerAt, RebuildAt, ref_of}
 use Rattle.ist_core.specs.StartLayout.{start}
 use Rattle.ist_core.proofs.GrowingLemmas.{change_there}
 use Rattle.ist_core.proofs.OrderLemmas.{names}
-use Rattle.ist_core.proofs.PlaceLemmas.{no_piece}
 use Rattle.ist_core.proofs.SlotStepLemmas.{install_stands}
+use Rattle.ist_core.proofs.OptionLemmas.{no_value}
+use Rattle.ist_core.proofs.FateLemmas.{grow_after}
 use Rattle.laws_links.proofs.ComesLemmas.{change_comes}
-use Rattle.laws_links.proofs.InductionLemmas.{grow_after, rebuilds_by}
+use Rattle.laws_links.proofs.InductionLemmas.{rebuilds_by}
 use Rattle.laws_links.proofs.OriginLemmas.{ChangeComes, change_was, is_decided, is_installed}
 use Rattle.laws_links.proofs.QuietLemmas.{start_quiet}
 use Rattle.laws_links.proofs.StartingLemmas.{side_rebuild, start_new}
@@ -120,7 +121,7 @@ module _ (pairs : List Pair) (words : ℕ) (opens : CanOpen pairs words) where
   put_published log h base rebuild s none =
       let it = side_rebuild (state_of pairs words log) (names pairs words opens log h) base s.change
       s.published rebuild (inr s.to) in
-      no_piece ((state_of pairs words log).pieces rebuild) (Rebuild it.row) none it.published
+      no_value ((state_of pairs words log).pieces rebuild) (Rebuild it.row) none it.published
 
   one_install : (a b c d : ℕ) (xs ys : List Row) → Install a b xs ≡ Install c d ys → b ≡ d
   one_install a b c d xs ys e = cc

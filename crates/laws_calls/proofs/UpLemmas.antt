@@ -14,9 +14,10 @@ use Rattle.ist_core.specs.StartLayout.{start}
 use Rattle.ist_core.proofs.FateLemmas.{enabled_before}
 use Rattle.ist_core.proofs.OrderLemmas.{child_above, names}
 use Rattle.ist_core.proofs.PrefixLemmas.{ever_from}
+use Rattle.ist_core.proofs.ElementLemmas.{get_among}
 use Rattle.laws_calls.proofs.CountedLemmas.{may_count}
 use Rattle.laws_calls.specs.Counting.{CountsElsewhere, CountsFrom, IsOneUpdate}
-use Rattle.laws_calls.proofs.WalkLemmas.{chain_rows, get_among, get_last}
+use Rattle.laws_calls.proofs.WalkLemmas.{chain_rows, get_last}
 use Rattle.laws_calls.specs.Walking.{IsChainOf}
 
 -- the event of a Count is one of its caller at its node

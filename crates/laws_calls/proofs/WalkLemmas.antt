@@ -13,6 +13,8 @@ use Rattle.ist_core.specs.StartLayout.{start}
 use Rattle.ist_core.proofs.FateLemmas.{enabled_before}
 use Rattle.ist_core.proofs.MentionLemmas.{one_parent}
 use Rattle.ist_core.proofs.PrefixLemmas.{goes_on_more, ever_from, ever_later}
+use Rattle.ist_core.proofs.ElementLemmas.{get_among}
+use Rattle.ist_core.proofs.ImageLemmas.{get_below}
 use Rattle.laws_links.specs.Linking.{IsFinished}
 use Rattle.laws_links.proofs.ClosedLemmas.{closed_was_linked, linked_now}
 use Rattle.laws_links.proofs.FinishedLemmas.{finished_down}
@@ -102,18 +104,6 @@ get_last (y ∷ xs) last zero x e = inl e
 get_last (y ∷ xs) last (suc i) x e =
     ⊎_elim (λ k. inl k) (λ k. (let is = k.0 in inr (omega arith, k.1))) (get_last xs last i x e)
 
--- an element at an index is among the list's elements
-pub get_among : (xs : List ℕ) (i x : ℕ) → slice_get xs i ≡ Some x → Among x xs
-get_among [] i x e = absurd (cc)
-get_among (y ∷ xs) zero x e = inl (let same : y ≡ x = cc in sym same)
-get_among (y ∷ xs) (suc i) x e = inr (get_among xs i x e)
-
--- an element at an index lies within the list
-get_within : (xs : List ℕ) (i x : ℕ) → slice_get xs i ≡ Some x → i < length xs
-get_within [] i x e = absurd (cc)
-get_within (y ∷ xs) zero x e = omega arith
-get_within (y ∷ xs) (suc i) x e = let rest = get_within xs i x e in omega arith
-
 -- a row of a chain has a chain itself, with those above it
 chain_upper : (t : Snapshot) (node : ℕ) (rows : List ℕ) → Chain t node rows
     → (i j upper row : ℕ) → i ≤ j → slice_get rows i ≡ Some upper → slice_get rows j ≡ Some row
@@ -131,7 +121,7 @@ chain_upper t _ _ (one_row {node = node} {child = child} {rows = rows} k chain c
         → (xs : List ℕ) × Chain t row xs × Among upper xs
     at (inl a) (inl b) above = above b a
     at (inl a) (inr b) above =
-        let short = get_within rows j row a in let is = b.0 in absurd (omega arith)
+        let short = get_below rows j row a in let is = b.0 in absurd (omega arith)
     at (inr a) b above = (
       rows ++ child ∷ [],
       subst (λ n. Chain t n (rows ++ child ∷ [])) a.1 (one_row k chain c),

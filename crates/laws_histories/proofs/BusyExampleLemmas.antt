@@ -149,6 +149,18 @@ pub record IsMade (log : Log) (leaf from to count : ℕ) : Type 0 where
       ≡ Some (Change (again from to 1))
   pub callers : (state three (again_resolved leaf (leaf + 2) from to log)).callers ≡ 2
 
+-- what the log of a put shows, part by part
+pub put_made : (log : Log) (leaf from to count : ℕ)
+    → (state three (again_installed leaf (leaf + 2) from to log)).pieces (leaf + 2) ≡ Some (Change (again from to 0))
+    → (state three (again_installed leaf (leaf + 2) from to log)).pieces 11 ≡ Some (Inner (left 0 count (word_of (ChangeAt (leaf + 2)))))
+    → (state three (again_decided leaf (leaf + 2) from to log)).pieces (leaf + 2) ≡ Some (Change (again from to 1))
+    → (state three (again_decided leaf (leaf + 2) from to log)).pieces 11 ≡ Some (Inner (left 0 count (word_of (ChangeAt (leaf + 2)))))
+    → (state three (again_resolved leaf (leaf + 2) from to log)).pieces (leaf + 2) ≡ Some (Change (again from to 1))
+    → (state three (again_resolved leaf (leaf + 2) from to log)).callers ≡ 2
+    → IsMade log leaf from to count
+put_made log leaf from to count a b c d e f =
+    record { change = a; row = b; decided = c; stands = d; resolved = e; callers = f }
+
 -- the left row is seen open
 okayed : (log : Log) (leaf from to old count : ℕ)
     → IsBeforePut (state three log) leaf from old count

@@ -3,6 +3,7 @@ use Rattle.std.proofs.Common.{◌≡◌, ◌≤◌, true, false, [], ◌∷◌, 
 use Rattle.std.proofs.lemmas.Bool.Decides.{nat_tests}
 use Rattle.std.specs.FinMap as fin
 use Rattle.std.specs.FinMap.{gets}
+use Rattle.std.proofs.lemmas.Bool.{true≢false}
 use Rattle.ist_core.specs.declared.commands.Command.TheVariants.{Put}
 use Rattle.ist_core.specs.declared.calls.Call.{Call}
 use Rattle.ist_core.specs.Arithmetic.{degree, square_root, root_up_to, part_len, part_lens}
@@ -25,10 +26,6 @@ use Rattle.laws_histories.proofs.ContentLemmas.{told_at}
 -- the one change
 abbrev the_entry : Entry
 the_entry = record { owner = 1; command = Put 20 9; reply = Some 2 }
-
--- a test has one outcome
-clash : true ≡ false → ⊥
-clash e = cc
 
 -- what the map has before the put
 old_value : fin.get (map_of start_pairs) 20 ≡ Some 2
@@ -56,7 +53,7 @@ writer_among =
     at call (inr i) = absurd i
 
     plainly : (call : Call) → Among call (the_put ∷ []) → is_change call ≡ false → ⊥
-    plainly call (inl e) plain = clash (subst (λ c. is_change c ≡ false) e plain)
+    plainly call (inl e) plain = true≢false (subst (λ c. is_change c ≡ false) e plain)
     plainly call (inr i) plain = absurd i
 
 -- so it is placed in the log
@@ -85,9 +82,9 @@ reader_among =
   where
     changing_none : (call : Call) → Among call (early_find ∷ late_find ∷ []) → is_change call ≡ true
         → ⊥
-    changing_none call (inl e) changing = clash (sym (subst (λ c. is_change c ≡ true) e changing))
+    changing_none call (inl e) changing = true≢false (sym (subst (λ c. is_change c ≡ true) e changing))
     changing_none call (inr (inl e)) changing =
-        clash (sym (subst (λ c. is_change c ≡ true) e changing))
+        true≢false (sym (subst (λ c. is_change c ≡ true) e changing))
     changing_none call (inr (inr i)) changing = i
 
     reads : (call : Call) → Among call (early_find ∷ late_find ∷ [])
@@ -115,7 +112,7 @@ early_among =
     }
   where
     changing_none : (call : Call) → Among call (early_find ∷ []) → is_change call ≡ true → ⊥
-    changing_none call (inl e) changing = clash (sym (subst (λ c. is_change c ≡ true) e changing))
+    changing_none call (inl e) changing = true≢false (sym (subst (λ c. is_change c ≡ true) e changing))
     changing_none call (inr i) changing = i
 
     reads : (call : Call) → Among call (early_find ∷ []) → IsRead (map_of start_pairs) [] call

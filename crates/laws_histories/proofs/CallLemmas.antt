@@ -134,7 +134,7 @@ stamps_last stamp (call ∷ calls) last h all =
     let low = all.0 in (omega arith, stamps_last stamp calls last h all.1)
 
 -- a test has one outcome
-differ : (v : Bool) → v ≡ true → v ≡ false → ⊥
+pub differ : (v : Bool) → v ≡ true → v ≡ false → ⊥
 differ v e h = cc
 
 -- ---- one more call

@@ -19,6 +19,7 @@ use Rattle.ist_core.proofs.ParentLemmas.{one_home}
 use Rattle.ist_core.proofs.RisingLemmas.{AreRisingKeys}
 use Rattle.ist_core.proofs.UnderLemmas.{leaves_under, slot_reads_as}
 use Rattle.ist_core.proofs.LeafOrderLemmas.{leaves_lie, next_from_rises}
+use Rattle.ist_core.proofs.MapLemmas.{pairs-entries, entry, pair}
 use Rattle.laws_links.proofs.ExistLemmas.{HasSome}
 use Rattle.laws_links.proofs.ContentLemmas.{contents_exist}
 use Rattle.laws_histories.specs.Finding.{Gives}
@@ -33,19 +34,6 @@ use Rattle.laws_histories.proofs.OpeningLemmas.{start_contents}
 use Rattle.laws_histories.proofs.NeededLemmas.{all_needed}
 
 -- ---- the pairs of a map
-
--- the entry of a pair
-abbrev entry : Pair → ℕ × ℕ
-entry p = (p.key, p.value)
-
--- the pair of an entry
-abbrev pair : ℕ × ℕ → Pair
-pair e = record { key = e.0; value = e.1 }
-
--- the pairs of the entries of some pairs are these pairs
-pairs-entries : (pairs : List Pair) → map pair (map entry pairs) ≡ pairs
-pairs-entries [] = refl
-pairs-entries (p ∷ pairs) = ap (λ (ps : List Pair). p ∷ ps) (pairs-entries pairs)
 
 -- entries have the keys of the pairs
 keys-entries : (pairs : List Pair) → map (λ e. e.0) (map entry pairs) ≡ map (λ p. p.key) pairs

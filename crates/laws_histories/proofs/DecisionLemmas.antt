@@ -19,12 +19,13 @@ use Rattle.ist_core.proofs.GrowingLemmas.{change_there}
 use Rattle.ist_core.proofs.FateLemmas.{enabled_before, grow_between}
 use Rattle.ist_core.proofs.PlaceLemmas.{anchor_free}
 use Rattle.ist_core.proofs.SlotLemmas.{slot_once}
-use Rattle.ist_core.proofs.FreezingLemmas.{change_read, same_change}
+use Rattle.ist_core.proofs.FreezingLemmas.{change_read, same_change_word}
 use Rattle.ist_core.proofs.FrozenLemmas as frozen
 use Rattle.ist_core.proofs.PrefixLemmas.{goes_on_more}
+use Rattle.ist_core.proofs.OptionLemmas.{same_change}
 use Rattle.laws_links.specs.Linking.{IsFinished}
 use Rattle.laws_links.proofs.FormLemmas.{finished_grows}
-use Rattle.laws_links.proofs.ChangeLemmas.{same_change_word, said_yes}
+use Rattle.laws_links.proofs.ChangeLemmas.{said_yes}
 use Rattle.laws_links.proofs.PassLemmas.{passed_no_change}
 use Rattle.laws_links.proofs.InductionLemmas.{changes_by}
 use Rattle.laws_links.proofs.LinkLemmas.{open_unfinished}

@@ -10,8 +10,8 @@ use Rattle.ist_core.specs.Enabled.{CanEnter}
 use Rattle.ist_core.specs.Lawful.{EachEnabled}
 use Rattle.ist_core.proofs.RefusalLemmas.{NoneDecidedNo}
 use Rattle.laws_histories.specs.ExampleRebuilds.{put_again, both_entered, four_puts, eight_puts}
-use Rattle.laws_histories.proofs.ReadyExampleLemmas.{three}
-use Rattle.laws_histories.proofs.BusyExampleLemmas.{put_enabled}
+use Rattle.laws_histories.proofs.ReadyExampleLemmas.{three, before_put}
+use Rattle.laws_histories.proofs.BusyExampleLemmas.{put_enabled, put_made}
 use Rattle.laws_histories.proofs.QuietExampleLemmas.{put_keeps, at_opening}
 
 -- caller 0 enters
@@ -55,25 +55,8 @@ one_put_enabled : EachEnabled three one_put
 unfolding ref_of rows_within degree square_root root_up_to part_len part_lens ideal_words ideal_words_within
 one_put_enabled =
     put_enabled both_entered 24 145 193 18 0
-    record {
-      callers = refl;
-      next = refl;
-      words = refl;
-      held = refl;
-      anchor = refl;
-      top_row = refl;
-      left_row = refl;
-      old_is = refl;
-      old_leaf = refl;
-    }
-    record {
-      change = refl;
-      row = refl;
-      decided = refl;
-      stands = refl;
-      resolved = refl;
-      callers = refl;
-    }
+    (before_put (state three both_entered) 24 145 18 0 refl refl refl refl refl refl refl refl refl)
+    (put_made both_entered 24 145 193 0 refl refl refl refl refl refl)
     (omega arith) refl at_opening entered
 
 -- no change is refused in the log up to this put
@@ -85,25 +68,8 @@ two_puts_enabled : EachEnabled three two_puts
 unfolding ref_of rows_within degree square_root root_up_to part_len part_lens ideal_words ideal_words_within
 two_puts_enabled =
     put_enabled one_put 35 193 281 24 1
-    record {
-      callers = refl;
-      next = refl;
-      words = refl;
-      held = refl;
-      anchor = refl;
-      top_row = refl;
-      left_row = refl;
-      old_is = refl;
-      old_leaf = refl;
-    }
-    record {
-      change = refl;
-      row = refl;
-      decided = refl;
-      stands = refl;
-      resolved = refl;
-      callers = refl;
-    }
+    (before_put (state three one_put) 35 193 24 1 refl refl refl refl refl refl refl refl refl)
+    (put_made one_put 35 193 281 1 refl refl refl refl refl refl)
     (omega arith) refl one_put_refuse one_put_enabled
 
 -- no change is refused in the log up to this put
@@ -115,25 +81,8 @@ three_puts_enabled : EachEnabled three three_puts
 unfolding ref_of rows_within degree square_root root_up_to part_len part_lens ideal_words ideal_words_within
 three_puts_enabled =
     put_enabled two_puts 46 281 369 35 2
-    record {
-      callers = refl;
-      next = refl;
-      words = refl;
-      held = refl;
-      anchor = refl;
-      top_row = refl;
-      left_row = refl;
-      old_is = refl;
-      old_leaf = refl;
-    }
-    record {
-      change = refl;
-      row = refl;
-      decided = refl;
-      stands = refl;
-      resolved = refl;
-      callers = refl;
-    }
+    (before_put (state three two_puts) 46 281 35 2 refl refl refl refl refl refl refl refl refl)
+    (put_made two_puts 46 281 369 2 refl refl refl refl refl refl)
     (omega arith) refl two_puts_refuse two_puts_enabled
 
 -- no change is refused in the log up to this put
@@ -145,25 +94,8 @@ four_puts_enabled : EachEnabled three four_puts
 unfolding ref_of rows_within degree square_root root_up_to part_len part_lens ideal_words ideal_words_within
 four_puts_enabled =
     put_enabled three_puts 57 369 457 46 3
-    record {
-      callers = refl;
-      next = refl;
-      words = refl;
-      held = refl;
-      anchor = refl;
-      top_row = refl;
-      left_row = refl;
-      old_is = refl;
-      old_leaf = refl;
-    }
-    record {
-      change = refl;
-      row = refl;
-      decided = refl;
-      stands = refl;
-      resolved = refl;
-      callers = refl;
-    }
+    (before_put (state three three_puts) 57 369 46 3 refl refl refl refl refl refl refl refl refl)
+    (put_made three_puts 57 369 457 3 refl refl refl refl refl refl)
     (omega arith) refl three_puts_refuse three_puts_enabled
 
 -- no change is refused in the log up to this put
@@ -175,25 +107,8 @@ five_puts_enabled : EachEnabled three five_puts
 unfolding ref_of rows_within degree square_root root_up_to part_len part_lens ideal_words ideal_words_within
 five_puts_enabled =
     put_enabled four_puts 68 457 545 57 4
-    record {
-      callers = refl;
-      next = refl;
-      words = refl;
-      held = refl;
-      anchor = refl;
-      top_row = refl;
-      left_row = refl;
-      old_is = refl;
-      old_leaf = refl;
-    }
-    record {
-      change = refl;
-      row = refl;
-      decided = refl;
-      stands = refl;
-      resolved = refl;
-      callers = refl;
-    }
+    (before_put (state three four_puts) 68 457 57 4 refl refl refl refl refl refl refl refl refl)
+    (put_made four_puts 68 457 545 4 refl refl refl refl refl refl)
     (omega arith) refl four_puts_refuse four_puts_enabled
 
 -- no change is refused in the log up to this put
@@ -205,25 +120,8 @@ six_puts_enabled : EachEnabled three six_puts
 unfolding ref_of rows_within degree square_root root_up_to part_len part_lens ideal_words ideal_words_within
 six_puts_enabled =
     put_enabled five_puts 79 545 633 68 5
-    record {
-      callers = refl;
-      next = refl;
-      words = refl;
-      held = refl;
-      anchor = refl;
-      top_row = refl;
-      left_row = refl;
-      old_is = refl;
-      old_leaf = refl;
-    }
-    record {
-      change = refl;
-      row = refl;
-      decided = refl;
-      stands = refl;
-      resolved = refl;
-      callers = refl;
-    }
+    (before_put (state three five_puts) 79 545 68 5 refl refl refl refl refl refl refl refl refl)
+    (put_made five_puts 79 545 633 5 refl refl refl refl refl refl)
     (omega arith) refl five_puts_refuse five_puts_enabled
 
 -- no change is refused in the log up to this put
@@ -235,25 +133,8 @@ seven_puts_enabled : EachEnabled three seven_puts
 unfolding ref_of rows_within degree square_root root_up_to part_len part_lens ideal_words ideal_words_within
 seven_puts_enabled =
     put_enabled six_puts 90 633 721 79 6
-    record {
-      callers = refl;
-      next = refl;
-      words = refl;
-      held = refl;
-      anchor = refl;
-      top_row = refl;
-      left_row = refl;
-      old_is = refl;
-      old_leaf = refl;
-    }
-    record {
-      change = refl;
-      row = refl;
-      decided = refl;
-      stands = refl;
-      resolved = refl;
-      callers = refl;
-    }
+    (before_put (state three six_puts) 90 633 79 6 refl refl refl refl refl refl refl refl refl)
+    (put_made six_puts 90 633 721 6 refl refl refl refl refl refl)
     (omega arith) refl six_puts_refuse six_puts_enabled
 
 -- no change is refused in the log up to this put
@@ -265,25 +146,8 @@ pub eight_puts_enabled : EachEnabled three eight_puts
 unfolding ref_of rows_within degree square_root root_up_to part_len part_lens ideal_words ideal_words_within
 eight_puts_enabled =
     put_enabled seven_puts 101 721 809 90 7
-    record {
-      callers = refl;
-      next = refl;
-      words = refl;
-      held = refl;
-      anchor = refl;
-      top_row = refl;
-      left_row = refl;
-      old_is = refl;
-      old_leaf = refl;
-    }
-    record {
-      change = refl;
-      row = refl;
-      decided = refl;
-      stands = refl;
-      resolved = refl;
-      callers = refl;
-    }
+    (before_put (state three seven_puts) 101 721 90 7 refl refl refl refl refl refl refl refl refl)
+    (put_made seven_puts 101 721 809 7 refl refl refl refl refl refl)
     (omega arith) refl seven_puts_refuse seven_puts_enabled
 
 -- no change is refused in the log up to this put

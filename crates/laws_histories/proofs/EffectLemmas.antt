@@ -2,6 +2,8 @@
 use Rattle.std.proofs.Common.{◌≡◌, ◌≢◌, ℕ, zero, suc, ◌+◌, ◌≤◌, ◌==◌, true, List, [], ◌∷◌, ◌++◌, length, slice_get, Some, refl, sym, ap, ◌∙◌, subst, arith, length-append, append_assoc, append-nil}
 use Rattle.std.proofs.lemmas.Bool.Decides.{nat_tests}
 use Rattle.std.proofs.lemmas.List.Elements.{filter-append}
+use Rattle.std.proofs.lemmas.Option.{same_Some}
+use Rattle.std.proofs.lemmas.List.{nil_from_length}
 use Rattle.ist_core.specs.declared.calls.Call.{Call}
 use Rattle.ist_core.specs.declared.commands.Command.{Command}
 use Rattle.ist_core.specs.declared.pairs.Pair.{Pair}
@@ -19,19 +21,14 @@ use Rattle.ist_core.specs.Growing.{ChangeGrows}
 use Rattle.ist_core.specs.Snapshots.{Snapshot}
 use Rattle.ist_core.proofs.GrowingLemmas.{change_there}
 use Rattle.ist_core.proofs.FateLemmas.{enabled_before, grow_between}
-use Rattle.ist_core.proofs.FreezingLemmas.{same_change}
 use Rattle.ist_core.proofs.PrefixLemmas.{goes_on_more}
+use Rattle.ist_core.proofs.OptionLemmas.{same_change}
 use Rattle.laws_histories.specs.Telling.{IsEntryOf}
 use Rattle.laws_histories.specs.Calls.{CameToCall}
 use Rattle.laws_histories.proofs.ChangeLemmas.{changes_on, get_at}
 use Rattle.laws_histories.proofs.DecisionLemmas.{Turning, turns_since}
 use Rattle.laws_histories.proofs.EntryLemmas.{command_stays, entry_made}
 use Rattle.laws_histories.proofs.EntryChangeLemmas.{entries_change}
-
--- a list without elements
-no_element : {A : Type 0} (xs : List A) → length xs ≡ 0 → xs ≡ []
-no_element [] e = refl
-no_element (x ∷ xs) e = absurd (omega arith)
 
 -- if the owner has at most one more entry, this entry of the owner is it
 alone : (number : ℕ) (xs mid rest : List Entry) (entry : Entry) → entry.owner ≡ number
@@ -40,10 +37,10 @@ alone : (number : ℕ) (xs mid rest : List Entry) (entry : Entry) → entry.owne
 alone number xs mid rest entry own few =
     parts
     ∙ ap (λ es. (entries_by number xs ++ es) ++ (entry ∷ entries_by number rest))
-    (no_element (entries_by number mid) (let a = lengths in omega arith))
+    (nil_from_length (entries_by number mid) (let a = lengths in omega arith))
     ∙ ap (λ es. es ++ (entry ∷ entries_by number rest)) (append-nil (entries_by number xs))
     ∙ ap (λ es. entries_by number xs ++ (entry ∷ es))
-    (no_element (entries_by number rest) (let a = lengths in omega arith))
+    (nil_from_length (entries_by number rest) (let a = lengths in omega arith))
   where
     kept : entries_by number (entry ∷ rest) ≡ entry ∷ entries_by number rest
     kept = let test : (entry.owner == number) ≡ true = grind (arith, nat_tests) in rw test refl
@@ -64,24 +61,16 @@ alone number xs mid rest entry own few =
         let c = length-append (entries_by number xs) (entries_by number mid) in
         omega arith
 
--- one entry
-same_entry : (x y : Entry) → Some x ≡ Some y → x ≡ y
-same_entry x y e = cc
-
--- one command of a change
-same_command : (x y : Command) → Some x ≡ Some y → x ≡ y
-same_command x y e = cc
-
 -- one element of a list at a place
 same_first : (xs : List Entry) (i : ℕ) (x y : Entry) → slice_get xs i ≡ Some x
     → slice_get xs i ≡ Some y → x ≡ y
-same_first xs i x y e f = same_entry x y (sym e ∙ f)
+same_first xs i x y e f = same_Some x y (sym e ∙ f)
 
 -- what each element has, one at a place has
 each_get : (P : Entry → Type 0) (xs : List Entry) (i : ℕ) (x : Entry) → Each P xs
     → slice_get xs i ≡ Some x → P x
 each_get P [] i x h e = absurd (cc)
-each_get P (y ∷ xs) zero x h e = subst P (same_entry y x e) h.0
+each_get P (y ∷ xs) zero x h e = subst P (same_Some y x e) h.0
 each_get P (y ∷ xs) (suc i) x h e = each_get P xs i x h.1 e
 
 module _ (pairs : List Pair) (words : ℕ) (opens : CanOpen pairs words) where
@@ -194,7 +183,7 @@ module _ (pairs : List Pair) (words : ℕ) (opens : CanOpen pairs words) where
           let same =
           same_change ((state_of pairs words log).pieces base) it.change change it.published e in
           let word =
-          same_command it.command command (sym it.command_is ∙ ap command_of same ∙ is) in
+          same_Some it.command command (sym it.command_is ∙ ap command_of same ∙ is) in
           same_first (changes_of pairs words log) (length front) first
           record { owner = it.change.owner; command = it.command; reply = reply_of (state_of pairs words log).pieces it.change }
           has it.entry

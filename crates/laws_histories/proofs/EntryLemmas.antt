@@ -17,8 +17,8 @@ use Rattle.ist_core.proofs.FateLemmas.{enabled_before, grow_between}
 use Rattle.ist_core.proofs.RowLemmas.{changed_at-same}
 use Rattle.ist_core.proofs.NamingLemmas.{SideNames}
 use Rattle.ist_core.proofs.OrderLemmas.{names}
-use Rattle.ist_core.proofs.FreezingLemmas.{same_change}
 use Rattle.ist_core.proofs.PrefixLemmas.{goes_on_more}
+use Rattle.ist_core.proofs.OptionLemmas.{same_change}
 use Rattle.laws_histories.proofs.DecisionLemmas.{yes_decided}
 use Rattle.laws_histories.specs.Telling.{IsEntryOf}
 use Rattle.laws_histories.proofs.ChangeLemmas.{changes_on, get_at}
@@ -34,7 +34,7 @@ get_both (y ∷ xs) ys (suc i) x e =
 -- ---- replies
 
 -- what may be put into a slot always gives a key the same value
-value_stays : (ps qs : Pieces) → AllGrow ps qs → (node i : ℕ) (ref : Option Ref) (key : ℕ)
+pub value_stays : (ps qs : Pieces) → AllGrow ps qs → (node i : ℕ) (ref : Option Ref) (key : ℕ)
     → SideNames ps node i ref
     → value_at qs ref key ≡ value_at ps ref key
 value_stays ps qs g node i (Some (LeafAt base)) key h =

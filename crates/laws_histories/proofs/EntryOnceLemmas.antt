@@ -9,8 +9,8 @@ use Rattle.ist_core.specs.Changes.{command_of, reply_of, entry_for, entry_of, ch
 use Rattle.ist_core.specs.Lawful.{EachEnabled, CanOpen, state_of}
 use Rattle.ist_core.proofs.GrowingLemmas.{change_there}
 use Rattle.ist_core.proofs.FateLemmas.{enabled_before, grow_between}
-use Rattle.ist_core.proofs.FreezingLemmas.{same_change}
 use Rattle.ist_core.proofs.PrefixLemmas.{goes_on_more}
+use Rattle.ist_core.proofs.OptionLemmas.{same_change}
 use Rattle.laws_histories.proofs.DecisionLemmas.{prefixes, decided_after}
 use Rattle.laws_histories.specs.Telling.{IsEntryOf}
 use Rattle.laws_histories.proofs.EntryLemmas.{command_stays}

@@ -2,12 +2,11 @@
 use Rattle.std.proofs.Common.{◌≡◌, ◌≢◌, ℕ, ◌<◌, List, ◌∷◌, Option, Some, None, slice_get, refl, sym, ap, ◌∙◌, subst, ⊎_elim, arith}
 use Rattle.ist_core.specs.declared.pairs.Pair.{Pair}
 use Rattle.ist_core.specs.declared.states.InnerRow.{InnerRow}
-use Rattle.ist_core.specs.declared.states.LeafRow.{LeafRow}
 use Rattle.ist_core.specs.declared.events.Event.{Event}
 use Rattle.ist_core.specs.Arithmetic.{child_count}
 use Rattle.ist_core.specs.RowLayout.{anchor}
 use Rattle.ist_core.specs.References.{Ref, Unset, InnerAt, ref_of}
-use Rattle.ist_core.specs.Pieces.{Pieces, Piece, Leaf, Inner}
+use Rattle.ist_core.specs.Pieces.{Pieces, Leaf, Inner}
 use Rattle.ist_core.specs.Snapshots.{Snapshot}
 use Rattle.ist_core.specs.StartLayout.{start}
 use Rattle.ist_core.specs.Logs.{Log}
@@ -17,19 +16,16 @@ use Rattle.ist_core.specs.Changes.{value_in}
 use Rattle.ist_core.specs.Lawful.{EachEnabled, CanOpen, state_of}
 use Rattle.ist_core.proofs.GrowingLemmas.{leaf_there, inner_there}
 use Rattle.ist_core.proofs.PlaceLemmas.{anchor_free}
-use Rattle.ist_core.proofs.SlotLemmas.{same_inner, no_row}
+use Rattle.ist_core.proofs.SlotLemmas.{no_row}
 use Rattle.ist_core.proofs.OrderLemmas.{names, child_above}
-use Rattle.laws_links.proofs.InductionLemmas.{grow_after}
+use Rattle.ist_core.proofs.OptionLemmas.{same_leaf, same_inner}
+use Rattle.ist_core.proofs.FateLemmas.{grow_after}
 use Rattle.laws_histories.specs.Finding.{Finds, in_nothing, in_leaf, in_node, Gives}
 use Rattle.laws_histories.proofs.ReadLemmas.{ReadsAs, Turns, reads_step}
 use Rattle.laws_histories.proofs.SeenLemmas.{row_holds}
 use Rattle.laws_histories.proofs.SearchLemmas.{row_finds}
 
 -- ---- one value
-
--- one base has one row
-same_leaf : (o : Option Piece) (r x : LeafRow) → o ≡ Some (Leaf r) → o ≡ Some (Leaf x) → r ≡ x
-same_leaf o r x e f = cc
 
 -- the search for a key finds one value
 pub finds_once : (ps : Pieces) (key : ℕ) (ref : Option Ref) (v w : Option ℕ) → Finds ps key ref v

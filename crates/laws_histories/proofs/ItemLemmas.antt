@@ -27,7 +27,7 @@ among_changes position (x ∷ entries) (suc i) entry e =
     inr (subst (λ n. Among (change_at n entry) (changes_from (position + 1) entries)) next (among_changes (position + 1) entries i entry e))
 
 -- what is among a list is among it with more
-among_map : {A B : Type 0} (f : A → B) (x : A) (xs : List A) → Among x xs → Among (f x) (map f xs)
+pub among_map : {A B : Type 0} (f : A → B) (x : A) (xs : List A) → Among x xs → Among (f x) (map f xs)
 among_map f x [] h = h
 among_map f x (y ∷ xs) (inl e) = inl (ap f e)
 among_map f x (y ∷ xs) (inr h) = inr (among_map f x xs h)

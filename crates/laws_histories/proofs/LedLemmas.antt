@@ -14,8 +14,8 @@ use Rattle.ist_core.specs.Links.{IsChild, Leads, from_anchor, down}
 use Rattle.ist_core.specs.Marking.{HasTarget}
 use Rattle.ist_core.specs.Lawful.{EachEnabled, CanOpen, state_of}
 use Rattle.ist_core.proofs.GrowingLemmas.{child_remains}
+use Rattle.ist_core.proofs.FateLemmas.{grow_after}
 use Rattle.laws_links.specs.Linking.{IsFinished}
-use Rattle.laws_links.proofs.InductionLemmas.{grow_after}
 use Rattle.laws_histories.proofs.NeedLemmas.{HasForm, into_nothing, over_leaf, beside_low, beside_high, takes_out, begins, ends, Needs, AllNeeds}
 use Rattle.laws_histories.proofs.ReadLemmas.{reads_step}
 

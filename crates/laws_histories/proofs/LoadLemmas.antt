@@ -1,5 +1,5 @@
 -- A search by its loads is a search by the logs at which it looked. Serves the search law.
-use Rattle.std.proofs.Common.{◌≡◌, ◌≢◌, ℕ, zero, suc, ◌+◌, ◌<◌, ◌≤◌, ◌==◌, nat_le, if◌then◌else◌, Bool, true, false, List, [], ◌∷◌, length, slice_get, Option, Some, None, refl, sym, ap, ◌∙◌, subst, arith, le_refl}
+use Rattle.std.proofs.Common.{◌≡◌, ◌≢◌, ℕ, ◌+◌, ◌<◌, ◌≤◌, ◌==◌, nat_le, if◌then◌else◌, Bool, true, false, List, [], ◌∷◌, length, slice_get, Option, Some, None, refl, sym, ap, ◌∙◌, subst, arith, le_refl}
 use Rattle.std.proofs.lemmas.Bool.Decides.{nat_tests}
 use Rattle.std.proofs.lemmas.List.Sums.{count_by-le-length}
 use Rattle.ist_core.specs.declared.loads.Load.{Load}
@@ -25,14 +25,15 @@ use Rattle.ist_core.proofs.FateLemmas.{enabled_before, grow_between}
 use Rattle.ist_core.proofs.PlaceLemmas.{anchor_free}
 use Rattle.ist_core.proofs.SlotLemmas.{no_row}
 use Rattle.ist_core.proofs.ShapedLemmas.{shaped}
-use Rattle.ist_core.proofs.ImageLemmas.{get-words_of_slot}
+use Rattle.ist_core.proofs.ImageLemmas.{get-words_of_slot, has_word}
 use Rattle.ist_core.proofs.NamingLemmas.{IsChangeFor, IsRebuildFor, SideNames, SlotNames, slot_names, side_slot}
 use Rattle.ist_core.proofs.NamingStepLemmas.{side_names}
 use Rattle.ist_core.proofs.OrderLemmas.{names}
 use Rattle.ist_core.proofs.FreezingLemmas.{side_not_yes}
-use Rattle.laws_links.proofs.ReadLemmas.{side_yes, past_plain}
+use Rattle.laws_links.proofs.ReadLemmas.{side_yes}
 use Rattle.ist_core.proofs.ShownLemmas.{shown_in_anchor, shown_in_row}
 use Rattle.ist_core.proofs.PrefixLemmas.{goes_on_more}
+use Rattle.ist_core.proofs.FrozenLemmas.{past_no_change}
 use Rattle.laws_histories.specs.Finding.{Finds, in_nothing, in_leaf}
 use Rattle.laws_histories.specs.Loads.{log_at, IsLoad}
 use Rattle.laws_histories.specs.Searching.{ReadsSide, no_change, by_to, by_from, ReadsTarget, no_rebuild, by_target, LooksAt, ComesTo, begins, goes_down, ReadsValue, of_nothing, of_other, of_key}
@@ -41,12 +42,6 @@ use Rattle.laws_histories.proofs.LoadOnLemmas.{at_on, at_rises}
 use Rattle.laws_histories.proofs.SearchLemmas as search
 
 -- ---- words of rows
-
--- a list has an element at each place
-get_there : (xs : List ℕ) (i : ℕ) → i < length xs → (word : ℕ) × (slice_get xs i ≡ Some word)
-get_there [] i h = absurd (omega arith)
-get_there (x ∷ xs) zero h = (x, refl)
-get_there (x ∷ xs) (suc i) h = get_there xs i (omega arith)
 
 -- a load from a published row
 pub load_word : (pairs : List Pair) (words : ℕ) (log : Log) (place least : ℕ) (load : Load)
@@ -89,7 +84,7 @@ module _ (pairs : List Pair) (words : ℕ) (opens : CanOpen pairs words) (log : 
   At n = state_of pairs words (log_at log n)
 
   -- the log was enabled then
-  enabled_at : (n : ℕ) → EachEnabled (start pairs words) (log_at log n)
+  pub enabled_at : (n : ℕ) → EachEnabled (start pairs words) (log_at log n)
   enabled_at n = enabled_before (start pairs words) (log_at log n) log (at_on log n) h
 
   -- rows grow from one length to a greater one
@@ -113,7 +108,7 @@ module _ (pairs : List Pair) (words : ℕ) (opens : CanOpen pairs words) (log : 
       let keys = shape.keys in
       let slots = shape.slots in
       let few = count_by-le-length (λ k. nat_le k key) r.keys in
-      let word = get_there r.slots i (omega arith) in
+      let word = has_word r.slots i (omega arith) in
       let place : place_of_slot t node i ≡ node + (4 + length r.keys + i) =
       slot_of_row t node i r out e ∙ number r keys in
       let same =
@@ -186,7 +181,7 @@ module _ (pairs : List Pair) (words : ℕ) (opens : CanOpen pairs words) (log : 
       let t = At slot.length in
       record {
         since = le_refl slot.length;
-        reads = ap (past_rebuild t.pieces) (past_plain t.pieces (ref_of slot.word) plain);
+        reads = ap (past_rebuild t.pieces) (past_no_change t.pieces (ref_of slot.word) plain);
         names_it =
             slot_names t node i slot.word
             (names pairs words opens (log_at log slot.length) (enabled_at slot.length)) held;

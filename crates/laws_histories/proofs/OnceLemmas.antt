@@ -1,5 +1,5 @@
 -- The items of the woven history are each change once, and each reading once. Serves `laws.calls_have_places`.
-use Rattle.std.proofs.Common.{◌≡◌, ℕ, suc, ◌+◌, ◌≤◌, ◌==◌, nat_le, not, if◌then◌else◌, Bool, true, false, List, [], ◌∷◌, ◌++◌, map, filter, length, refl, sym, ap, ◌∙◌, subst, inl, inr, arith, append_assoc}
+use Rattle.std.proofs.Common.{◌≡◌, ℕ, suc, ◌+◌, ◌≤◌, ◌==◌, nat_le, not, if◌then◌else◌, Bool, true, false, List, [], ◌∷◌, ◌++◌, map, filter, length, refl, sym, ap, ◌∙◌, subst, arith, append_assoc}
 use Rattle.std.proofs.lemmas.Bool.Decides.{nat_tests}
 use Rattle.std.proofs.lemmas.List.{map-append}
 use Rattle.std.proofs.lemmas.List.Sorted.{IsPermutation-refl, IsPermutation-sym, IsPermutation-cons, IsPermutation-map, IsPermutation-append_left, IsPermutation-append_right, IsPermutation-trans, IsPermutation-middle, IsPermutation-append_comm, IsPermutation-filter_both}
@@ -12,7 +12,7 @@ use Rattle.ist_core.specs.Logs.{Log, GoesOn}
 use Rattle.ist_core.specs.Changes.{Entry, changes_of}
 use Rattle.ist_core.specs.Standing.{IsRead, StandsIn}
 use Rattle.ist_core.specs.Histories.{PassCalls, StandInPrefixes, Reading, readings, comes_first, put_in, in_order, at_position, told_by_entry, told_by_reading, woven_from}
-use Rattle.ist_core.proofs.ElementLemmas.{each-among}
+use Rattle.ist_core.proofs.ElementLemmas.{each-among, each_of}
 use Rattle.laws_histories.specs.Placing.{Item, change_at, reading_by, told_by, changes_from, items}
 use Rattle.laws_histories.proofs.ChangeLemmas.{changes_on, read_on}
 use Rattle.laws_histories.proofs.WovenLemmas.{of_passes, among-in_order}
@@ -163,12 +163,6 @@ placed_moves position (entry ∷ entries) xs h =
     IsPermutation-trans (first ∷ (front ++ from)) (first ∷ (here ++ (front ++ following)))
     (here ++ first ∷ rest) three
     (IsPermutation-trans (first ∷ (here ++ (front ++ following))) (here ++ first ∷ (front ++ following)) (here ++ first ∷ rest) four five)
-
--- each element of a list
-each_of : (P : Reading → Type 0) (xs : List Reading) → ((x : Reading) → Among x xs → P x)
-    → Each P xs
-each_of P [] h = tt
-each_of P (x ∷ xs) h = (h x (inl refl), each_of P xs (λ y i. h y (inr i)))
 
 -- the items in order are each change and each reading, once
 pub placed_once : (pairs : List Pair) (words : ℕ) (log : Log) (passes : List PassCalls)

@@ -17,6 +17,7 @@ use Rattle.ist_core.specs.Standing.{makes_entry, IsRead, IsFresh}
 use Rattle.ist_core.proofs.FateLemmas.{enabled_before}
 use Rattle.ist_core.proofs.PlaceLemmas.{anchor_free}
 use Rattle.ist_core.proofs.PrefixLemmas.{goes_on_more}
+use Rattle.ist_core.proofs.ChainLemmas.{leads_linked}
 use Rattle.laws_histories.specs.Finding.{Finds}
 use Rattle.laws_histories.specs.Calls.{MadeNoEntry, HasCalls}
 use Rattle.laws_histories.specs.Loads.{log_at}
@@ -24,9 +25,9 @@ use Rattle.laws_histories.specs.Searching.{LooksAt, ComesTo, Searched, HasPositi
 use Rattle.laws_histories.specs.Telling.{map_now}
 use Rattle.laws_histories.proofs.ChangeLemmas.{changes_on, changes_rise}
 use Rattle.laws_histories.proofs.CallLemmas.{add_reading}
-use Rattle.laws_histories.proofs.SearchLemmas.{seen, standing, goes_up, ever_at, leads_linked, leads_there, there_on, finds_below}
+use Rattle.laws_histories.proofs.SearchLemmas.{seen, standing, goes_up, ever_at, leads_there, there_on, finds_below}
 use Rattle.laws_histories.proofs.LoadOnLemmas.{at_on}
-use Rattle.laws_histories.proofs.LoadLemmas.{look_of, comes_of, value_of}
+use Rattle.laws_histories.proofs.LoadLemmas.{look_of, comes_of, value_of, enabled_at}
 use Rattle.laws_histories.proofs.NeededLemmas.{all_needed}
 use Rattle.laws_histories.proofs.ContentLemmas.{told_at}
 
@@ -49,10 +50,6 @@ at_position pairs words earlier at log since until key value is =
 
 module _ (pairs : List Pair) (words : ℕ) (opens : CanOpen pairs words) (log : Log)
     (h : EachEnabled (start pairs words) log) where
-  -- the log when it had n events is lawful
-  enabled_at : (n : ℕ) → EachEnabled (start pairs words) (log_at log n)
-  enabled_at n = enabled_before (start pairs words) (log_at log n) log (at_on log n) h
-
   -- a search has a position
   pub search_position : (key began node : ℕ) (value : Option ℕ)
       → Searched pairs words log key began node value
@@ -63,9 +60,9 @@ module _ (pairs : List Pair) (words : ℕ) (opens : CanOpen pairs words) (log : 
       let look = look_of pairs words opens log h key x.least x.last node x.ref x.look in
       let s =
       seen pairs words opens needs key (log_at log began) (log_at log x.least)
-      (log_at log x.last) node (Some x.ref) (enabled_at x.last) comes look in
+      (log_at log x.last) node (Some x.ref) (enabled_at pairs words opens log h x.last) comes look in
       let l =
-      enabled_before (start pairs words) s.at (log_at log x.last) s.until (enabled_at x.last) in
+      enabled_before (start pairs words) s.at (log_at log x.last) s.until (enabled_at pairs words opens log h x.last) in
       let t = state_of pairs words s.at in
       let given = fin.get (map_now pairs words s.at) key in
       let found =
@@ -115,7 +112,7 @@ module _ (pairs : List Pair) (words : ℕ) (opens : CanOpen pairs words) (log : 
       let comes = comes_of pairs words opens log h key began last node c in
       let at : (n : Log) → GoesOn n (log_at log last) → Leads (state_of pairs words n) key node → WasMet pairs words log key last node =
       λ n until led.
-      let l = enabled_before first n (log_at log last) until (enabled_at last) in
+      let l = enabled_before first n (log_at log last) until (enabled_at pairs words opens log h last) in
       let on = goes_on_more until (at_on log last) in
       record {
         led = ever_at first (λ t. Leads t key node) n log on led;
@@ -123,19 +120,19 @@ module _ (pairs : List Pair) (words : ℕ) (opens : CanOpen pairs words) (log : 
             ever_at first (λ t. Linked t node) n log on
             (leads_linked (state_of pairs words n) key node led);
         published =
-            there_on pairs words opens key n (log_at log last) until (enabled_at last) node
+            there_on pairs words opens key n (log_at log last) until (enabled_at pairs words opens log h last) node
             (leads_there pairs words opens key n l node led);
       } in
       ⊎_elim
       (λ led. at (log_at log last) same_log led)
       (λ w. at w.at w.until w.led)
-      (standing pairs words opens (all_needed pairs words opens) key (log_at log began) (log_at log last) node (enabled_at last) comes)
+      (standing pairs words opens (all_needed pairs words opens) key (log_at log began) (log_at log last) node (enabled_at pairs words opens log h last) comes)
 
   -- a look of a search leads up
   pub look_up : (key began least last node child : ℕ) → ComesTo pairs words log key began least node
       → LooksAt pairs words log key least last node (InnerAt child) → node < child
   look_up key began least last node child c look =
       goes_up pairs words opens (all_needed pairs words opens) key (log_at log began)
-      (log_at log least) (log_at log last) node child (enabled_at last)
+      (log_at log least) (log_at log last) node child (enabled_at pairs words opens log h last)
       (comes_of pairs words opens log h key began least node c)
       (look_of pairs words opens log h key least last node (InnerAt child) look)

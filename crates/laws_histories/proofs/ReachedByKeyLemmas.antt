@@ -17,7 +17,8 @@ use Rattle.ist_core.specs.Pieces.{Change}
 use Rattle.std.proofs.Common.{Some}
 use Rattle.ist_core.proofs.PrefixLemmas.{ever_from}
 use Rattle.ist_core.proofs.GrowingLemmas.{child_remains}
-use Rattle.laws_links.proofs.InductionLemmas.{grow_after, changes_by}
+use Rattle.ist_core.proofs.FateLemmas.{grow_after}
+use Rattle.laws_links.proofs.InductionLemmas.{changes_by}
 
 -- after some prefix the key of the change led to its node, and its slot is the one for the key
 pub record CameByKey (pairs : List Pair) (words : ℕ) (log : Log) (change : ChangeRow) : Type 0 where

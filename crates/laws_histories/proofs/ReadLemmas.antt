@@ -6,7 +6,7 @@ use Rattle.ist_core.specs.declared.pairs.Pair.{Pair}
 use Rattle.ist_core.specs.declared.states.ChangeRow.{ChangeRow}
 use Rattle.ist_core.specs.declared.events.Event.{Event}
 use Rattle.ist_core.specs.declared.events.Event.TheVariants.{Decide}
-use Rattle.ist_core.specs.References.{Ref, Empty, Unset, LeafAt, InnerAt, ChangeAt, RebuildAt, ref_of}
+use Rattle.ist_core.specs.References.{Ref, Unset, InnerAt, ChangeAt, RebuildAt, ref_of}
 use Rattle.ist_core.specs.Statuses.{decided_yes}
 use Rattle.ist_core.specs.Pieces.{Pieces, Change}
 use Rattle.ist_core.specs.Snapshots.{Snapshot}
@@ -22,7 +22,7 @@ use Rattle.ist_core.proofs.NamingLemmas.{SideNames, SlotNames, WordsName, slot_n
 use Rattle.ist_core.proofs.NamingStepLemmas.{side_names}
 use Rattle.ist_core.proofs.OrderLemmas.{names, past_change_names}
 use Rattle.ist_core.proofs.FreezingLemmas.{side_not_yes}
-use Rattle.laws_links.proofs.InductionLemmas.{grow_after}
+use Rattle.ist_core.proofs.FateLemmas.{grow_after}
 use Rattle.laws_links.proofs.ReadEventLemmas.{decide_reads}
 use Rattle.laws_links.proofs.ReadLemmas as links
 use Rattle.laws_links.proofs.ReadStepLemmas as steps
@@ -37,17 +37,6 @@ side_reads ps qs g node i (Some (RebuildAt base)) h =
     ap rebuild_reads it.1 ∙ ap (λ n. Some (InnerAt n)) it.2.target
     ∙ sym (ap rebuild_reads h.published)
 side_reads ps qs g node i _ h = refl
-
--- what a slot may hold may be put into it, if it is no change and set
-pub plain_side : (ps : Pieces) (node i : ℕ) (ref : Option Ref) → SlotNames ps node i ref
-    → ref ≢ Some Unset → ((base : ℕ) → ref ≢ Some (ChangeAt base)) → SideNames ps node i ref
-plain_side ps node i (Some Unset) h set plain = absurd (set refl)
-plain_side ps node i (Some (ChangeAt base)) h set plain = absurd (plain base refl)
-plain_side ps node i (Some Empty) h set plain = h
-plain_side ps node i (Some (LeafAt base)) h set plain = h
-plain_side ps node i (Some (InnerAt base)) h set plain = h
-plain_side ps node i (Some (RebuildAt base)) h set plain = h
-plain_side ps node i _ h set plain = h
 
 -- a change reads as the side that its decision leaves
 pub change_logical : (ps : Pieces) (word base : ℕ) (r : ChangeRow)

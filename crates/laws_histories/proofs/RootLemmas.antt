@@ -25,10 +25,7 @@ use Rattle.laws_histories.specs.Finding.{Finds}
 use Rattle.laws_histories.proofs.ValueLemmas.{value_of}
 use Rattle.laws_histories.proofs.BelowLemmas.{finds_value, table_says}
 use Rattle.laws_histories.proofs.FindLemmas.{finds_once}
-
--- a reference to a row has one base
-same_inner_ref : (a b : ℕ) → Some (InnerAt a) ≡ Some (InnerAt b) → a ≡ b
-same_inner_ref a b e = cc
+use Rattle.laws_links.proofs.ReturnLemmas.{one_inner}
 
 module _ (pairs : List Pair) (words : ℕ) (opens : CanOpen pairs words) (log : Log)
     (h : EachEnabled (start pairs words) log) where
@@ -54,7 +51,7 @@ module _ (pairs : List Pair) (words : ℕ) (opens : CanOpen pairs words) (log : 
       record {
         a_leaf = λ leaf e. absurd (clash leaf (sym read ∙ e));
         a_row = λ child e.
-            (let same = same_inner_ref is.row.target child (sym read ∙ e) in
+            (let same = one_inner is.row.target child (sym read ∙ e) in
             inr (base, Rebuild is.row, is.published, (sym is.parent, sym is.index, inl (ap InnerAt same))));
       }
     where

@@ -4,7 +4,7 @@ use Rattle.ist_core.specs.declared.states.LeafRow.{LeafRow}
 use Rattle.ist_core.specs.declared.states.InnerRow.{InnerRow}
 use Rattle.ist_core.specs.declared.events.Event.TheVariants.{Reserve}
 use Rattle.ist_core.specs.Arithmetic.{degree, square_root, root_up_to, part_len, part_lens}
-use Rattle.ist_core.specs.Shapes.{ideal_words, ideal_words_within, share_from, share_from_is}
+use Rattle.ist_core.specs.Shapes.{ideal_words, ideal_words_within}
 use Rattle.ist_core.specs.References.{LeafAt, InnerAt, ref_of}
 use Rattle.ist_core.specs.Pieces.{Pieces, with_inners}
 use Rattle.ist_core.specs.StartLayout.{rows_within}
@@ -15,6 +15,7 @@ use Rattle.ist_core.specs.Rebuilding.{IsStarted}
 use Rattle.ist_core.specs.Building.{CanRoot, root_whole}
 use Rattle.ist_core.specs.Enabled.{CanReserve}
 use Rattle.ist_core.specs.Lawful.{EachEnabled}
+use Rattle.ist_core.proofs.RebuildExampleLemmas.{two_is_few}
 use Rattle.laws_histories.specs.ExampleRebuilds.{left_finished, new_left_rows, left_rooted}
 use Rattle.laws_histories.proofs.ReadyExampleLemmas.{three, ten, left}
 use Rattle.laws_histories.proofs.HeldExampleLemmas.{pair_fair}
@@ -68,10 +69,6 @@ root_ideal =
     of_more new_left root_top
     (one_part (LeafAt 101) refl (of_one refl refl)
     (one_part (LeafAt 20) refl (of_one refl refl) no_part))
-
--- two keys are few
-two_is_few : 2 < share_from
-two_is_few = let is = share_from_is in omega arith
 
 -- the rebuild is still started
 still_started : IsStarted (state three root_held) 112

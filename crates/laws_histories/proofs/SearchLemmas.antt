@@ -11,19 +11,21 @@ use Rattle.ist_core.specs.Snapshots.{Snapshot}
 use Rattle.ist_core.specs.StartLayout.{start}
 use Rattle.ist_core.specs.Logs.{Log, state, Ever, GoesOn, same_log, one_event}
 use Rattle.ist_core.specs.Slots.{SlotHolds, in_anchor, in_row, IsChildFor, of_anchor, of_row, logical}
-use Rattle.ist_core.specs.Links.{Linked, at_anchor, below, Leads, from_anchor, down}
+use Rattle.ist_core.specs.Links.{Leads, from_anchor, down}
 use Rattle.ist_core.specs.Lawful.{EachEnabled, CanOpen, state_of}
 use Rattle.ist_core.proofs.GrowingLemmas.{inner_there}
 use Rattle.ist_core.proofs.FateLemmas.{enabled_before, grow_between}
-use Rattle.ist_core.proofs.SlotLemmas.{same_inner, no_row}
+use Rattle.ist_core.proofs.SlotLemmas.{no_row}
 use Rattle.ist_core.proofs.OrderLemmas.{names, child_above}
 use Rattle.ist_core.proofs.HomeLemmas.{mentioned_here}
 use Rattle.ist_core.proofs.MentionLemmas.{child_mentioned}
 use Rattle.ist_core.proofs.PrefixLemmas.{goes_on_more}
+use Rattle.ist_core.proofs.OptionLemmas.{same_inner}
 use Rattle.laws_histories.specs.Finding.{Finds, in_node, Gives}
 use Rattle.laws_histories.proofs.NeedLemmas.{AllNeeds}
 use Rattle.laws_histories.proofs.LedLemmas.{WasLeft, led_on}
 use Rattle.laws_histories.proofs.SeenLemmas.{Saw, saw_led, saw_left}
+pub use Rattle.ist_core.proofs.ChainLemmas.{leads_linked}
 
 -- ---- looks
 
@@ -141,11 +143,6 @@ pub ever_at : (first : Snapshot) (P : Snapshot → Type 0) (at log : Log) → Go
 ever_at first P [] _ same_log h = h
 ever_at first P (event ∷ log) _ same_log h = inl h
 ever_at first P at _ (one_event {log = log} event g) h = inr (ever_at first P at log g h)
-
--- a node that is led to is linked
-pub leads_linked : (t : Snapshot) (key node : ℕ) → Leads t key node → Linked t node
-leads_linked t key _ from_anchor = at_anchor
-leads_linked t key _ (down {node = node} i led index c) = below i (leads_linked t key node led) c
 
 module _ (pairs : List Pair) (words : ℕ) (opens : CanOpen pairs words) (key : ℕ) where
   -- a node that is led to is the anchor, or a published inner row

@@ -1,5 +1,5 @@
 -- What a look at a slot saw was the tree's at one moment, on the way of the search for the key. Serves the search law.
-use Rattle.std.proofs.Common.{◌≡◌, ℕ, zero, suc, true, List, [], ◌∷◌, length, slice_get, Option, Some, None, option_map, refl, sym, ap, ◌∙◌, subst, inr, ⊎_elim, arith}
+use Rattle.std.proofs.Common.{◌≡◌, ℕ, true, List, [], ◌∷◌, slice_get, Option, Some, None, option_map, refl, sym, ap, ◌∙◌, subst, inr, ⊎_elim}
 use Rattle.ist_core.specs.declared.pairs.Pair.{Pair}
 use Rattle.ist_core.specs.declared.states.InnerRow.{InnerRow}
 use Rattle.ist_core.specs.declared.states.ChangeRow.{ChangeRow}
@@ -16,23 +16,25 @@ use Rattle.ist_core.specs.Links.{Leads}
 use Rattle.ist_core.specs.Freezing.{KeepsWord, holds_it, holds_change}
 use Rattle.ist_core.specs.Lawful.{EachEnabled, CanOpen, state_of}
 use Rattle.ist_core.proofs.RowLemmas.{changed_at-same}
-use Rattle.ist_core.proofs.GrowingLemmas.{inner_there, change_there, child_remains}
+use Rattle.ist_core.proofs.GrowingLemmas.{inner_there, change_there, child_remains, get_alike}
 use Rattle.ist_core.proofs.FateLemmas.{enabled_before, grow_between}
 use Rattle.ist_core.proofs.PlaceLemmas.{anchor_free}
-use Rattle.ist_core.proofs.SlotLemmas.{same_inner, slot_once, no_row}
+use Rattle.ist_core.proofs.SlotLemmas.{slot_once, no_row}
 use Rattle.ist_core.proofs.NamingLemmas.{SideNames, SlotNames, IsChangeFor, slot_names}
 use Rattle.ist_core.proofs.OrderLemmas.{names}
 use Rattle.ist_core.proofs.SlotStepLemmas.{slot_stays}
-use Rattle.ist_core.proofs.FreezingLemmas.{change_read, side_not_yes, same_change}
+use Rattle.ist_core.proofs.FreezingLemmas.{change_read, side_not_yes}
 use Rattle.ist_core.proofs.FrozenLemmas as frozen
 use Rattle.ist_core.proofs.PrefixLemmas.{goes_on_more}
+use Rattle.ist_core.proofs.OptionLemmas.{same_change, same_inner}
+use Rattle.ist_core.proofs.FrozenLemmas.{past_no_change}
 use Rattle.laws_links.specs.Linking.{IsFinished}
 use Rattle.laws_links.proofs.FormLemmas.{finished_grows}
 use Rattle.laws_links.proofs.InductionLemmas.{sound_after}
-use Rattle.laws_links.proofs.ReadLemmas.{side_yes, past_plain}
+use Rattle.laws_links.proofs.ReadLemmas.{side_yes, plain_side}
 use Rattle.laws_histories.proofs.PassLemmas.{passed_plain}
 use Rattle.laws_histories.proofs.NeedLemmas.{AllNeeds}
-use Rattle.laws_histories.proofs.ReadLemmas.{side_reads, plain_side, change_logical, IsTurned, word_reads, ReadsAs}
+use Rattle.laws_histories.proofs.ReadLemmas.{side_reads, change_logical, IsTurned, word_reads, ReadsAs}
 use Rattle.laws_histories.proofs.LedLemmas.{led_step, WasLeft, led_on}
 use Rattle.laws_histories.proofs.DecisionLemmas.{unfinished, turning, never_yes}
 
@@ -46,14 +48,6 @@ pub record Saw (pairs : List Pair) (words key : ℕ) (earlier log : Log) (node :
   pub index : ℕ
   pub index_is : IsChildFor (state_of pairs words at) node key index
   pub read : ReadsAs (state_of pairs words at) node index ref
-
--- a list as long has an element there too
-pub get_too : (xs ys : List ℕ) (i word : ℕ) → length ys ≡ length xs → slice_get xs i ≡ Some word
-    → (v : ℕ) × (slice_get ys i ≡ Some v)
-get_too [] ys i word e h = absurd (cc)
-get_too (x ∷ xs) [] i word e h = absurd (omega arith)
-get_too (x ∷ xs) (y ∷ ys) zero word e h = (y, refl)
-get_too (x ∷ xs) (y ∷ ys) (suc i) word e h = get_too xs ys i word (omega arith) h
 
 -- what a slot of an inner row holds is in its list
 pub row_holds : (t : Snapshot) (node i word : ℕ) (r : InnerRow) → t.pieces 2 ≡ None
@@ -209,7 +203,7 @@ module _ (pairs : List Pair) (words : ℕ) (opens : CanOpen pairs words) where
           ap (logical u.pieces)
           (slot_once t node i word v (anchor_free pairs words loaded l) slot k)
           ∙ ap (past_rebuild u.pieces)
-          (past_plain u.pieces (ref_of v) (passed_plain (start pairs words) loaded node i v l p).no_change)
+          (past_no_change u.pieces (ref_of v) (passed_plain (start pairs words) loaded node i v l p).no_change)
       at (holds_change x) =
           let same =
           slot_once t node i word (word_of (ChangeAt x.base))
@@ -253,7 +247,7 @@ module _ (pairs : List Pair) (words : ℕ) (opens : CanOpen pairs words)
       let all = goes_on_more was.until g in
       let it = inner_there a.pieces t.pieces grows node row was.finished.1.published in
       let here = row_holds t node i word it.0 (anchor_free pairs words loaded l) it.1 slot in
-      let old = get_too it.0.slots row.slots i word (sym it.2.slots) here in
+      let old = get_alike it.0.slots row.slots i word (sym it.2.slots) here in
       let held : SlotHolds a node i old.0 = in_row row was.finished.1.published old.1 in
       let v = (needs at m).passed node i old.0 was.finished held in
       let p = v.1 in

@@ -1,5 +1,6 @@
 -- The rebuild of a tree of 256 keys is started, and its target is finished. Serves `examples`.
 use Rattle.std.proofs.Common.{◌≡◌, ℕ, Bool, true, false, List, [], ◌∷◌, Some, refl, inl, inr, subst, arith}
+use Rattle.std.proofs.lemmas.Bool.{false≢true}
 use Rattle.ist_core.specs.declared.states.InnerRow.{InnerRow}
 use Rattle.ist_core.specs.declared.states.ChangeRow.{ChangeRow}
 use Rattle.ist_core.specs.declared.states.RebuildRow.{RebuildRow}
@@ -85,10 +86,6 @@ IsChange : Piece → Type 0
 IsChange (Change r) = Unit {0}
 IsChange _ = ⊥
 
--- a test has one outcome
-clash : false ≡ true → ⊥
-clash e = cc
-
 -- the rows have no change
 plain : List (ℕ × Piece) → Bool
 plain [] = true
@@ -102,7 +99,7 @@ among_unchanged : (rows : List (ℕ × Piece)) → plain rows ≡ true → (base
     → Among (base, Change change) rows → ⊥
 unfolding plain IsChange
 among_unchanged [] e base change k = k
-among_unchanged ((b, Change r) ∷ rows) e base change k = clash e
+among_unchanged ((b, Change r) ∷ rows) e base change k = false≢true e
 among_unchanged ((b, Leaf r) ∷ rows) e base change (inl k) =
     subst (λ row. IsChange row.1) k tt
 among_unchanged ((b, Leaf r) ∷ rows) e base change (inr k) =

@@ -19,17 +19,19 @@ use Rattle.ist_core.specs.Changes.{Entry, command_of, reply_of, entry_for, entry
 use Rattle.ist_core.specs.Rebuilding.{IsUpdate}
 use Rattle.ist_core.specs.Lawful.{EachEnabled, CanOpen, state_of}
 use Rattle.ist_core.proofs.RowLemmas.{changed_at-same}
-use Rattle.ist_core.proofs.FateLemmas.{grow_between}
+use Rattle.ist_core.proofs.FateLemmas.{grow_between, grow_after}
 use Rattle.ist_core.proofs.PlaceLemmas.{anchor_free}
 use Rattle.ist_core.proofs.RoomLemmas.{published_good}
 use Rattle.ist_core.proofs.NamingStepLemmas.{changed_at-fixed}
 use Rattle.ist_core.proofs.OrderLemmas.{names, past_rebuild_above}
 use Rattle.ist_core.proofs.SlotStepLemmas.{slot_stays}
-use Rattle.ist_core.proofs.FreezingLemmas.{change_read, side_not_yes, same_change}
+use Rattle.ist_core.proofs.FreezingLemmas.{change_read, side_not_yes}
 use Rattle.ist_core.proofs.GrowingLemmas.{child_remains}
+use Rattle.ist_core.proofs.OptionLemmas.{same_change}
+use Rattle.ist_core.proofs.YesLemmas.{same_base}
 use Rattle.laws_links.specs.Linking.{IsFinished}
 use Rattle.laws_links.proofs.FormLemmas.{finished_grows}
-use Rattle.laws_links.proofs.InductionLemmas.{sound_after, grow_after}
+use Rattle.laws_links.proofs.InductionLemmas.{sound_after}
 use Rattle.laws_links.proofs.ReadLemmas.{side_yes}
 use Rattle.laws_histories.specs.Finding.{Finds, Gives}
 use Rattle.laws_histories.specs.Telling.{AreLegal}
@@ -42,10 +44,6 @@ use Rattle.laws_histories.proofs.ReachedByKeyLemmas.{came}
 use Rattle.laws_histories.proofs.SideLemmas.{start_commands, finish_commands, Sides, sides}
 use Rattle.laws_histories.proofs.MapLemmas.{map_after_entries-append, entries_append}
 use Rattle.laws_histories.proofs.RootLemmas.{root_finds}
-
--- one event decides one change
-pub same_base : (a b c d : ℕ) → Decide a b true ≡ Decide c d true → b ≡ d
-same_base a b c d e = cc
 
 -- what the tree gives and the changes reply after a log
 pub record ToldAfter (pairs : List Pair) (words : ℕ) (log : Log) : Type 0 where

@@ -1,5 +1,6 @@
 -- Yes isn't lawful if nobody saw the node open. Serves `examples.a_finish_too_late_is_refused`.
 use Rattle.std.proofs.Common.{◌≡◌, ◌==◌, Bool, true, false, [], ◌∷◌, ◌||◌, inl, inr, refl, subst, sym}
+use Rattle.std.proofs.lemmas.Bool.{true≢false}
 use Rattle.ist_core.specs.declared.events.Event.{Event}
 use Rattle.ist_core.specs.declared.events.Event.TheVariants.{Okay}
 use Rattle.ist_core.specs.Logs.{Log, Happened, Okays}
@@ -40,12 +41,8 @@ okay_seen (event ∷ log) (inr k) = or_true (sees event) (seen log) (okay_seen l
 none_seen : seen left_finish_installed ≡ false
 none_seen = refl
 
--- a test has one outcome
-clash : true ≡ false → ⊥
-clash e = cc
-
 -- so yes isn't lawful
 pub left_too_late_refused : ¬ (Lawful three_pairs 200 left_too_late)
 left_too_late_refused lawful =
     let found = okay_seen left_finish_installed lawful.enabled.1.outcome in
-    clash (subst (λ b. b ≡ false) found none_seen)
+    true≢false (subst (λ b. b ≡ false) found none_seen)

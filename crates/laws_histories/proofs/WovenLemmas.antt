@@ -12,7 +12,7 @@ use Rattle.ist_core.specs.Changes.{Entry, changes_of, map_at}
 use Rattle.ist_core.specs.Standing.{is_change, IsRead, Follows, StandsIn, IsFresh}
 use Rattle.ist_core.specs.Histories.{PassCalls, StandInPrefixes, Reading, readings_of, readings, comes_first, put_in, in_order, at_position, told_by_entry, told_by_reading, woven_from, woven, IsLegal}
 use Rattle.ist_core.specs.Resting.{AllStandIn}
-use Rattle.ist_core.proofs.ElementLemmas.{among-append, each-among, among-filter}
+use Rattle.ist_core.proofs.ElementLemmas.{among-append, each-among, among-filter, each_of}
 use Rattle.laws_histories.specs.Calls.{HasCalls}
 use Rattle.laws_histories.specs.Telling.{AreLegal}
 use Rattle.laws_histories.specs.Weaving.{numbered}
@@ -171,12 +171,6 @@ taken_legal pairs words log taken legal h =
     woven_legal pairs words log (numbered 0 taken) legal (taken_stand pairs words log 0 taken h)
 
 -- ---- calls that were learnt of
-
--- what holds of all calls among a list holds of each element
-each_of : (P : Call → Type 0) (calls : List Call) → ((call : Call) → Among call calls → P call)
-    → Each P calls
-each_of P [] h = tt
-each_of P (call ∷ calls) h = (h call (inl refl), each_of P calls (λ x i. h x (inr i)))
 
 -- calls that a pass has learnt of come before a fresh call
 pub learnt_first : (pairs : List Pair) (words : ℕ) (earlier seen : Log) (number told stamp : ℕ)

@@ -24,11 +24,9 @@ use Rattle.ist_core.proofs.HomeLemmas.{mentioned_here}
 use Rattle.ist_core.proofs.LeafLemmas.{same_leaves}
 use Rattle.ist_core.proofs.NamingStepLemmas.{changed_at-fixed}
 use Rattle.ist_core.proofs.OrderLemmas.{names}
-use Rattle.ist_core.proofs.PlaceLemmas.{no_piece}
 use Rattle.ist_core.proofs.RowLemmas.{changed_at-other}
-use Rattle.ist_core.proofs.SlotLemmas.{same_inner}
 use Rattle.ist_core.proofs.StepLemmas.{rows_placed}
-use Rattle.ist_core.proofs.DrawLemmas.{same_rebuild}
+use Rattle.ist_core.proofs.OptionLemmas.{no_value, same_rebuild, same_inner}
 use Rattle.laws_links.proofs.ComesLemmas.{rebuild_comes}
 use Rattle.laws_links.proofs.InductionLemmas.{sound_after}
 use Rattle.laws_links.proofs.OriginLemmas.{RebuildComes, is_begun, is_drawn, is_rooted, rebuild_was}
@@ -86,7 +84,7 @@ module _ (pairs : List Pair) (words : ℕ) (opens : CanOpen pairs words) where
           → ref_of q.root ≡ Some (InnerAt base) → (state_of pairs words log).pieces base ≡ None → ⊥
       clash rebuild q k named none =
           let it = mentioned_here (state_of pairs words log) q.parent q.index base (names pairs words opens log h.0) (root_named pairs words opens log rebuild base q k named) in
-          no_piece ((state_of pairs words log).pieces base) (Inner it.0) none it.1
+          no_value ((state_of pairs words log).pieces base) (Inner it.0) none it.1
 
       both : RootCame pairs words log event a base → RootCame pairs words log event b base
           → ((p q : RebuildRow) → (state_of pairs words log).pieces a ≡ Some (Rebuild p)
@@ -160,7 +158,7 @@ module _ (pairs : List Pair) (words : ℕ) (opens : CanOpen pairs words) where
         inner = λ b x among k.
             subst (λ ps. ps b ≡ Some (Inner x)) (sym written)
             (changed_at-other qs can.root b (with_slot i word)
-            (λ z. no_piece (t.pieces can.root) (Inner can.root_row) (subst (λ n. t.pieces n ≡ None) z (held_free t caller rows can.held (sound_after pairs words log h.0) b among)) can.root_published) ∙ k);
+            (λ z. no_value (t.pieces can.root) (Inner can.root_row) (subst (λ n. t.pieces n ≡ None) z (held_free t caller rows can.held (sound_after pairs words log h.0) b among)) can.root_published) ∙ k);
       } in
       let ideal =
       ideal_kept qs u.pieces can.ref can.part can.root (bases_of rows) can.ideal stand in

@@ -19,18 +19,16 @@ use Rattle.ist_core.specs.Slots.{SlotHolds}
 use Rattle.ist_core.specs.Snapshots.{Snapshot}
 use Rattle.ist_core.specs.StartLayout.{start}
 use Rattle.ist_core.specs.Statuses.{decided_yes, undecided}
-use Rattle.ist_core.proofs.FreezingLemmas.{change_read, same_change}
+use Rattle.ist_core.proofs.FreezingLemmas.{change_read, same_change_word}
 use Rattle.ist_core.proofs.GrowingLemmas.{change_there}
 use Rattle.ist_core.proofs.InstallNamingLemmas.{from_plain}
 use Rattle.ist_core.proofs.MoveLemmas.{HeldLieApart}
-use Rattle.ist_core.proofs.PlaceLemmas.{absent, anchor_free, no_piece}
+use Rattle.ist_core.proofs.PlaceLemmas.{absent, anchor_free}
 use Rattle.ist_core.proofs.SlotStepLemmas.{install_writes, place_writes, resolve_writes, slot_stays}
 use Rattle.ist_core.proofs.StepLemmas.{holds_installed}
-use Rattle.laws_links.proofs.InductionLemmas.{changes_by, grow_after, sound_after}
-
--- two words of changes are one
-pub same_change_word : (a b : ℕ) → word_of (ChangeAt a) ≡ word_of (ChangeAt b) → a ≡ b
-same_change_word a b e = let numbers : a * 8 + 3 ≡ b * 8 + 3 = e in omega arith
+use Rattle.ist_core.proofs.OptionLemmas.{no_value, same_change}
+use Rattle.ist_core.proofs.FateLemmas.{grow_after}
+use Rattle.laws_links.proofs.InductionLemmas.{changes_by, sound_after}
 
 -- a word of a decision isn't undecided
 pub said_something : (said : Bool) → decision_word said ≢ undecided
@@ -64,10 +62,10 @@ unresolved_before pairs words [] h base none happened = happened
 unresolved_before pairs words (event ∷ log) h base none (inl now) =
     let it = resolved_now (start pairs words) log event base h.1 now in
     let on = change_there (state_of pairs words log).pieces (state_of pairs words (event ∷ log)).pieces (grow_after pairs words log event h) base it.row it.published in
-    no_piece ((state_of pairs words (event ∷ log)).pieces base) (Change on.0) none on.1
+    no_value ((state_of pairs words (event ∷ log)).pieces base) (Change on.0) none on.1
 unresolved_before pairs words (event ∷ log) h base none (inr before) =
     unresolved_before pairs words log h.0 base (absent ((state_of pairs words log).pieces base) (λ p e.
-    let on = grow_after pairs words log event h base p e in no_piece ((state_of pairs words (event ∷ log)).pieces base) on.0 none on.1)) before
+    let on = grow_after pairs words log event h base p e in no_value ((state_of pairs words (event ∷ log)).pieces base) on.0 none on.1)) before
 
 -- no row is published at the base at which a change is installed
 pub install_free : (first : Snapshot) (log : Log) (caller base : ℕ) (rows : List Row)

@@ -20,23 +20,23 @@ use Rattle.ist_core.specs.Snapshots.{Snapshot}
 use Rattle.ist_core.specs.StartLayout.{start}
 use Rattle.ist_core.specs.Statuses.{decided_yes, finish_kind, open_word, put_kind, remove_kind, start_kind}
 use Rattle.laws_links.specs.Linking.{IsFinished}
-use Rattle.ist_core.proofs.FrozenLemmas.{closed}
+use Rattle.ist_core.proofs.FrozenLemmas.{closed, past_no_change}
 use Rattle.ist_core.proofs.GrowingLemmas.{rebuild_there}
 use Rattle.ist_core.proofs.NamingLemmas.{IsRebuildFor, SlotNames, slot_names}
 use Rattle.ist_core.proofs.OrderLemmas.{names}
-use Rattle.ist_core.proofs.SlotLemmas.{same_inner}
-use Rattle.ist_core.proofs.DrawLemmas.{same_rebuild}
+use Rattle.ist_core.proofs.OptionLemmas.{same_rebuild, same_inner}
+use Rattle.ist_core.proofs.FateLemmas.{grow_after}
 use Rattle.laws_links.proofs.ChangeLemmas.{said_yes, undecided_stands}
 use Rattle.laws_links.proofs.ComesLemmas.{status_comes}
 use Rattle.laws_links.proofs.FormLemmas.{IsFormed, of_finish, of_leaf_put, of_pair_put, of_remove, of_start}
 use Rattle.laws_links.proofs.FormedLemmas.{changes_are_formed}
-use Rattle.laws_links.proofs.InductionLemmas.{changes_by, grow_after}
+use Rattle.laws_links.proofs.InductionLemmas.{changes_by}
 use Rattle.laws_links.proofs.LinkLemmas.{linked_or_finished, okayed_linked}
 use Rattle.laws_links.proofs.OriginLemmas.{StatusComes, finished_now, is_new, marked_now, status_was}
 use Rattle.laws_links.proofs.PassLemmas.{passing}
 use Rattle.laws_links.proofs.QuietLemmas.{start_quiet}
 use Rattle.laws_links.proofs.ReadEventLemmas.{change_past}
-use Rattle.laws_links.proofs.ReadLemmas.{past_plain, side_undecided}
+use Rattle.laws_links.proofs.ReadLemmas.{side_undecided}
 
 -- a row that is linked after a log was linked
 pub linked_now : (first : Snapshot) (log : Log) (node : ℕ) → Linked (state first log) node
@@ -169,7 +169,7 @@ module _ (pairs : List Pair) (words : ℕ) (opens : CanOpen pairs words) where
           → WasLinked (start pairs words) log child
       child_was child e =
           linked_now (start pairs words) log child
-          (below i here record { word = word; holds = slot; reads = ap (past_rebuild (state_of pairs words log).pieces) (past_plain (state_of pairs words log).pieces (ref_of word) can.no_change) ∙ e })
+          (below i here record { word = word; holds = slot; reads = ap (past_rebuild (state_of pairs words log).pieces) (past_no_change (state_of pairs words log).pieces (ref_of word) can.no_change) ∙ e })
 
       by_rebuild : (rebuild : ℕ) → ref_of word ≡ Some (RebuildAt rebuild)
           → IsRebuildFor (state_of pairs words log).pieces node i rebuild

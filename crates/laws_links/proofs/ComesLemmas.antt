@@ -15,11 +15,11 @@ use Rattle.ist_core.specs.References.{ChangeAt, word_of}
 use Rattle.ist_core.specs.StartLayout.{start}
 use Rattle.ist_core.specs.Statuses.{finished_word, marked_word}
 use Rattle.ist_core.proofs.BornLemmas.{Born}
-use Rattle.ist_core.proofs.PlaceLemmas.{one_piece}
 use Rattle.laws_links.proofs.OriginLemmas.{ChangeComes, KeepsStatuses, RebuildComes, StatusComes, change-counted, change-drawn, change-with_root, change-with_slot, change-with_status, change_was, finished_now, is_begun, is_decided, is_drawn, is_installed, is_new, is_rooted, marked_now, rebuild-counted, rebuild-with_decision, rebuild-with_slot, rebuild-with_status, rebuild_was, status-counted, status-drawn, status-with_decision, status-with_root, status-with_slot, status-with_status, status_was}
 use Rattle.laws_links.proofs.PublishedLemmas.{born_open, installed_change, installed_rebuild, new_rebuild_row, published_inner}
 use Rattle.laws_links.proofs.RowEventLemmas.{RowCame, BecameBy, as_it_was, by_count, by_decide, by_draw, by_finish, by_install, by_mark, by_place, by_resolve, by_root, came, from_new, from_old}
 use Rattle.ist_core.proofs.BornLemmas as born
+use Rattle.ist_core.proofs.OptionLemmas.{same_value}
 
 module _ (pairs : List Pair) (words : ℕ) where
   -- how a change that was there before became what it is
@@ -38,7 +38,7 @@ module _ (pairs : List Pair) (words : ℕ) where
       change_was (old ∙ ap (λ y. Some y) (change-with_slot i word p x (sym is)))
   turned_change log _ base x p old (by_decide {said = said} h is) =
       is_decided h
-      (decided p (sym is) (one_piece ((state_of pairs words log).pieces base) p (Change h.change) old h.pending.published))
+      (decided p (sym is) (same_value ((state_of pairs words log).pieces base) p (Change h.change) old h.pending.published))
     where
       decided : (p : Piece) → with_decision (decision_word said) p ≡ Change x → p ≡ Change h.change
           → x ≡ record (h.change) { decision = decision_word said }
@@ -117,7 +117,7 @@ module _ (pairs : List Pair) (words : ℕ) where
       rebuild_was (old ∙ ap (λ y. Some y) (rebuild-with_status (finished_word keys) p x (sym is)))
   turned_rebuild log _ base x p old (by_root {word = word} h is) =
       is_rooted h
-      (rooted p (sym is) (one_piece ((state_of pairs words log).pieces base) p (Rebuild h.row) old h.published))
+      (rooted p (sym is) (same_value ((state_of pairs words log).pieces base) p (Rebuild h.row) old h.published))
     where
       rooted : (p : Piece) → with_root word p ≡ Rebuild x → p ≡ Rebuild h.row → x ≡ record (h.row) { root = word }
       rooted (Rebuild r) e same =
@@ -127,7 +127,7 @@ module _ (pairs : List Pair) (words : ℕ) where
       rooted (Change r) e same = absurd (cc)
   turned_rebuild log _ base x p old (by_draw h is) =
       is_drawn h
-      (drew p (sym is) (one_piece ((state_of pairs words log).pieces base) p (Rebuild h.row) old h.published))
+      (drew p (sym is) (same_value ((state_of pairs words log).pieces base) p (Rebuild h.row) old h.published))
     where
       drew : (p : Piece) → drawn p ≡ Rebuild x → p ≡ Rebuild h.row → x ≡ record (h.row) { draw = h.row.draw + 1 }
       drew (Rebuild r) e same =

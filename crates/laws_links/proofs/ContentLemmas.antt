@@ -15,7 +15,6 @@ use Rattle.ist_core.specs.RowLayout.{anchor, first_row}
 use Rattle.ist_core.specs.Slots.{SlotHolds, in_anchor, in_row, logical, past_change, past_rebuild}
 use Rattle.ist_core.specs.StartLayout.{start, tree_at}
 use Rattle.ist_core.specs.Statuses.{put_kind, remove_kind}
-use Rattle.ist_core.proofs.FreezingLemmas.{same_change}
 use Rattle.ist_core.proofs.HomeLemmas.{mentioned_here}
 use Rattle.ist_core.proofs.LeafLemmas.{contents_are_one}
 use Rattle.ist_core.proofs.MentionLemmas.{child_mentioned}
@@ -23,6 +22,7 @@ use Rattle.ist_core.proofs.OrderLemmas.{names}
 use Rattle.ist_core.proofs.PlaceLemmas.{anchor_free}
 use Rattle.ist_core.proofs.SlotLemmas.{no_row}
 use Rattle.ist_core.proofs.StartTreeLemmas.{start_anchor, start_hangs}
+use Rattle.ist_core.proofs.OptionLemmas.{same_change}
 use Rattle.laws_links.proofs.UntouchedLemmas.{not_the_anchor}
 use Rattle.laws_links.proofs.ExistLemmas.{HasSome, row_slot, split_reads, split_some}
 use Rattle.laws_links.proofs.KeepingContentLemmas.{contents_kept, unset_leaves}

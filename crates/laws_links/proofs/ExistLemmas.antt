@@ -9,8 +9,8 @@ use Rattle.ist_core.specs.Pieces.{Inner, Leaf, Pieces}
 use Rattle.ist_core.specs.References.{ChangeAt, Empty, InnerAt, IsGoodBase, LeafAt, RebuildAt, Ref, Unset, word_of}
 use Rattle.ist_core.specs.Slots.{logical, past_change, past_rebuild}
 use Rattle.ist_core.proofs.ReferenceLemmas.{ref_of-word_of}
-use Rattle.ist_core.proofs.SlotLemmas.{same_inner}
 use Rattle.ist_core.proofs.SplitLemmas.{SplitAll, Splits, no_split, one_split, split_leaf, split_none, split_row}
+use Rattle.ist_core.proofs.OptionLemmas.{same_inner}
 
 -- ---- some leaves
 

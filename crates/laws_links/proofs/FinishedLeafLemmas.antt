@@ -25,7 +25,6 @@ use Rattle.ist_core.proofs.ParentLemmas.{one_home}
 use Rattle.ist_core.proofs.PlaceLemmas.{anchor_free}
 use Rattle.ist_core.proofs.RisingLemmas.{AreRisingKeys}
 use Rattle.ist_core.proofs.RoomLemmas.{published_good}
-use Rattle.ist_core.proofs.SlotLemmas.{same_inner}
 use Rattle.ist_core.proofs.SplitLemmas.{key_of_leaf}
 use Rattle.ist_core.proofs.YesLemmas.{distinct_below}
 use Rattle.laws_links.proofs.ClosedLemmas.{closed_was_linked}
@@ -40,9 +39,10 @@ use Rattle.laws_links.proofs.FewLeafLemmas.{bases_distinct, bases_low, leaf_base
 use Rattle.laws_links.proofs.KeepingContentLemmas.{leaves_step}
 use Rattle.laws_links.proofs.NumberLemmas.{number_is}
 use Rattle.ist_core.proofs.UnderLemmas as under
+use Rattle.ist_core.proofs.OptionLemmas.{same_inner}
 
 -- two inner rows are one
-inner_base : (a b : ℕ) → Some (InnerAt a) ≡ Some (InnerAt b) → InnerAt a ≡ InnerAt b
+pub inner_base : (a b : ℕ) → Some (InnerAt a) ≡ Some (InnerAt b) → InnerAt a ≡ InnerAt b
 inner_base a b e = cc
 
 module _ (pairs : List Pair) (words : ℕ) (opens : CanOpen pairs words) where

@@ -23,9 +23,10 @@ use Rattle.ist_core.proofs.FrozenLemmas.{frozen_reads}
 use Rattle.ist_core.proofs.GrowingLemmas.{inner_there, rebuild_there}
 use Rattle.ist_core.proofs.PlaceLemmas.{anchor_free}
 use Rattle.ist_core.proofs.PrefixLemmas.{happened_later}
-use Rattle.ist_core.proofs.SlotLemmas.{no_row, same_inner}
+use Rattle.ist_core.proofs.SlotLemmas.{no_row}
+use Rattle.ist_core.proofs.OptionLemmas.{same_inner}
+use Rattle.ist_core.proofs.FateLemmas.{grow_after}
 use Rattle.laws_links.proofs.ComesLemmas.{status_comes}
-use Rattle.laws_links.proofs.InductionLemmas.{grow_after}
 use Rattle.laws_links.proofs.OriginLemmas.{StatusComes, finished_now, is_new, marked_now, status_was}
 use Rattle.laws_links.proofs.QuietLemmas.{start_quiet}
 

@@ -26,9 +26,10 @@ use Rattle.ist_core.proofs.InstallNamingLemmas.{pair_is_inner}
 use Rattle.ist_core.proofs.MoveLemmas.{HeldLieApart}
 use Rattle.ist_core.proofs.StepLemmas.{holds_installed}
 use Rattle.laws_links.proofs.FormLemmas.{IsFormed, finished_grows, formed_decided, formed_grows, leaf_of_grows, of_finish, of_leaf_put, of_pair_put, of_remove, of_start, room_grows}
-use Rattle.laws_links.proofs.InductionLemmas.{changes_by, grow_after, rebuilds_by, sound_after}
+use Rattle.laws_links.proofs.InductionLemmas.{changes_by, rebuilds_by, sound_after}
 use Rattle.laws_links.proofs.PublishedLemmas.{new_rebuild_row}
 use Rattle.ist_core.specs.Installing as kinds
+use Rattle.ist_core.proofs.FateLemmas.{grow_after}
 
 -- a fresh row of an Install is published by it, and may have grown
 pub fresh_after : (first : Snapshot) (log : Log) (caller base : ℕ) (rows : List Row)

@@ -10,7 +10,6 @@ use Rattle.ist_core.specs.declared.states.RebuildRow.{RebuildRow}
 use Rattle.ist_core.specs.After.{decision_word}
 use Rattle.ist_core.specs.Building.{CanDraw, CanRoot}
 use Rattle.ist_core.specs.Deciding.{CanDecide}
-use Rattle.ist_core.specs.Growing.{AllGrow}
 use Rattle.ist_core.specs.Installing.{CanInstall, Starts}
 use Rattle.ist_core.specs.Lawful.{EachEnabled, state_of}
 use Rattle.ist_core.specs.Logs.{Log}
@@ -19,22 +18,17 @@ use Rattle.ist_core.specs.StartLayout.{start}
 use Rattle.ist_core.proofs.MoveLemmas.{HeldLieApart}
 use Rattle.ist_core.proofs.SoundLemmas.{sound}
 use Rattle.ist_core.proofs.StartLemmas.{sound_start}
-use Rattle.ist_core.proofs.StepLemmas.{grow_step}
 use Rattle.laws_links.proofs.ComesLemmas.{change_comes, rebuild_comes}
 use Rattle.laws_links.proofs.OriginLemmas.{ChangeComes, RebuildComes, change_was, is_begun, is_decided, is_drawn, is_installed, is_rooted, rebuild_was}
 use Rattle.laws_links.proofs.PublishedLemmas.{new_rebuild_row}
 use Rattle.laws_links.proofs.QuietLemmas.{start_quiet}
+pub use Rattle.ist_core.proofs.FateLemmas.{grow_after}
 
 module _ (pairs : List Pair) (words : ℕ) where
   -- held rows lie apart after a lawful log
   pub sound_after : (log : Log) → EachEnabled (start pairs words) log
       → HeldLieApart (state_of pairs words log)
   sound_after log h = sound (start pairs words) log (sound_start pairs words) h
-
-  -- rows grow by each event
-  pub grow_after : (log : Log) (event : Event) → EachEnabled (start pairs words) (event ∷ log)
-      → AllGrow (state_of pairs words log).pieces (state_of pairs words (event ∷ log)).pieces
-  grow_after log event h = grow_step (start pairs words) log event h.1 (sound_after log h.0)
 
   -- there is no change at the start
   no_change_first : (base : ℕ) (x : ChangeRow) → (start pairs words).pieces base ≡ Some (Change x)

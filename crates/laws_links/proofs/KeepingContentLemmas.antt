@@ -19,10 +19,10 @@ use Rattle.ist_core.proofs.GrowingLemmas.{inner_there, leaf_there, rebuild_there
 use Rattle.ist_core.proofs.LeafLemmas.{same_leaves}
 use Rattle.ist_core.proofs.PlaceLemmas.{anchor_free}
 use Rattle.ist_core.proofs.SlotLemmas.{slot_once}
+use Rattle.ist_core.proofs.FateLemmas.{grow_after}
 use Rattle.laws_links.proofs.ChildLemmas.{leads_grows, leads_rebuild}
 use Rattle.laws_links.proofs.FormLemmas.{IsFormed, of_finish, of_leaf_put, of_pair_put, of_remove, of_start}
 use Rattle.laws_links.proofs.FormedLemmas.{changes_are_formed}
-use Rattle.laws_links.proofs.InductionLemmas.{grow_after}
 use Rattle.laws_links.proofs.ReadEventLemmas.{decide_reads}
 use Rattle.laws_links.proofs.ReadLemmas.{ReadsAs, Turns, turned_by}
 use Rattle.laws_links.proofs.ReadStepLemmas.{reads_step}

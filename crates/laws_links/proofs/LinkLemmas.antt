@@ -17,12 +17,13 @@ use Rattle.ist_core.specs.StartLayout.{start}
 use Rattle.ist_core.specs.Statuses.{decided_yes, undecided}
 use Rattle.laws_links.specs.Linking.{IsFinished}
 use Rattle.ist_core.proofs.FateLemmas.{enabled_before, grow_between}
-use Rattle.ist_core.proofs.FreezingLemmas.{change_read, same_change}
+use Rattle.ist_core.proofs.FreezingLemmas.{change_read, same_change_word}
 use Rattle.ist_core.proofs.FrozenLemmas.{closed}
 use Rattle.ist_core.proofs.GrowingLemmas.{change_there}
-use Rattle.ist_core.proofs.PlaceLemmas.{anchor_free, no_piece}
-use Rattle.ist_core.proofs.SlotLemmas.{no_row, same_inner, slot_once}
-use Rattle.laws_links.proofs.ChangeLemmas.{install_free, node_was_linked, said_yes, same_change_word, undecided_stands, undecided_unresolved, unresolved_stands}
+use Rattle.ist_core.proofs.PlaceLemmas.{anchor_free}
+use Rattle.ist_core.proofs.SlotLemmas.{no_row, slot_once}
+use Rattle.ist_core.proofs.OptionLemmas.{no_value, same_change, same_inner}
+use Rattle.laws_links.proofs.ChangeLemmas.{install_free, node_was_linked, said_yes, undecided_stands, undecided_unresolved, unresolved_stands}
 use Rattle.laws_links.proofs.ChildLemmas.{child_step}
 use Rattle.laws_links.proofs.ComesLemmas.{change_comes}
 use Rattle.laws_links.proofs.FinishedLemmas.{finished_down, finished_slot}
@@ -176,7 +177,7 @@ module _ (pairs : List Pair) (words : ℕ) (opens : CanOpen pairs words) where
       at _ all (is_installed {caller = caller} {rows = rows} can same) before =
           let stood = change_there (state_of pairs words earlier).pieces (state_of pairs words log).pieces (grow_between pairs words earlier log h.0 on) base x e in
           absurd
-          (no_piece ((state_of pairs words log).pieces base) (Change stood.0) (install_free (start pairs words) log caller base rows can (sound_after pairs words log h.0)) stood.1)
+          (no_value ((state_of pairs words log).pieces base) (Change stood.0) (install_free (start pairs words) log caller base rows can (sound_after pairs words log h.0)) stood.1)
       at _ all (is_decided {caller = caller} {said = said} can same) before =
           let it = before can.change can.pending.published in (
             λ yes_word. okayed_unfinished log h.0 base can.change can.pending.published can.pending.unset

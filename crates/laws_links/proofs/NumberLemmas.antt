@@ -14,7 +14,7 @@ use Rattle.ist_core.specs.Snapshots.{Snapshot}
 use Rattle.ist_core.specs.StartLayout.{start}
 use Rattle.ist_core.proofs.FieldLemmas.{Has}
 use Rattle.ist_core.proofs.FrozenLemmas.{frozen_reads}
-use Rattle.ist_core.proofs.SlotLemmas.{same_inner}
+use Rattle.ist_core.proofs.OptionLemmas.{same_inner}
 use Rattle.laws_links.proofs.FinishedLemmas.{finished_passed}
 
 -- the reference counts for this many keys: none, a leaf, or an inner row that has its number

@@ -27,7 +27,7 @@ use Rattle.ist_core.proofs.MentionLemmas.{child_mentioned}
 use Rattle.ist_core.proofs.MoveLemmas.{HeldLieApart}
 use Rattle.ist_core.proofs.OrderLemmas.{names}
 use Rattle.ist_core.proofs.ParentLemmas.{one_home}
-use Rattle.ist_core.proofs.PlaceLemmas.{anchor_free, no_piece}
+use Rattle.ist_core.proofs.PlaceLemmas.{anchor_free}
 use Rattle.ist_core.proofs.RowLemmas.{changed_at-other}
 use Rattle.ist_core.proofs.SlotLemmas.{slot_once}
 use Rattle.ist_core.proofs.SlotStepLemmas.{install_stands}
@@ -35,12 +35,14 @@ use Rattle.ist_core.proofs.StepLemmas.{holds_installed}
 use Rattle.laws_links.proofs.ChangeLemmas.{said_something, undecided_stands}
 use Rattle.laws_links.proofs.FormLemmas.{leaf_of_grows}
 use Rattle.laws_links.proofs.FormedLemmas.{fresh_after, leaf_grown}
-use Rattle.laws_links.proofs.InductionLemmas.{changes_by, grow_after, sound_after}
+use Rattle.laws_links.proofs.InductionLemmas.{changes_by, sound_after}
 use Rattle.laws_links.proofs.ReadEventLemmas.{change_past}
 use Rattle.laws_links.proofs.ReadLemmas.{side_undecided}
 use Rattle.laws_links.proofs.RowEventLemmas.{slot_stood}
 use Rattle.laws_links.proofs.UntouchedLemmas.{inner_row, not_the_anchor, stays_whole, untouched, was_linked_here}
 use Rattle.ist_core.specs.Installing as kinds
+use Rattle.ist_core.proofs.OptionLemmas.{no_value}
+use Rattle.ist_core.proofs.FateLemmas.{grow_after}
 
 -- ---- what an undecided change would put in
 
@@ -219,7 +221,7 @@ module _ (pairs : List Pair) (words : ℕ) (opens : CanOpen pairs words) where
 
           ne : f.pair ≢ anchor
           ne e =
-              no_piece
+              no_value
               ((state_of pairs words (Install caller base rows ∷ log)).pieces f.pair) grown.0
               (subst (λ n. (state_of pairs words (Install caller base rows ∷ log)).pieces n ≡ None) (sym e) (anchor_free pairs words (Install caller base rows ∷ log) h)) grown.1
 
@@ -249,7 +251,7 @@ module _ (pairs : List Pair) (words : ℕ) (opens : CanOpen pairs words) where
                 never = λ was.
                     ⊎_elim
                     (λ linked. to_unlinked pairs words opens (Install caller base rows ∷ log) h base can.change (install_stands (start pairs words) log caller base rows can) can.unset f.pair f.to leads ne linked)
-                    (λ before. let row_here = was_linked_here pairs words opens log h.0 f.pair ne before in no_piece ((state_of pairs words log).pieces f.pair) (Inner row_here.0) none row_here.1)
+                    (λ before. let row_here = was_linked_here pairs words opens log h.0 f.pair ne before in no_value ((state_of pairs words log).pieces f.pair) (Inner row_here.0) none row_here.1)
                     was;
               }
 

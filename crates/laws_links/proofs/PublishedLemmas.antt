@@ -19,7 +19,7 @@ use Rattle.ist_core.proofs.AddingLemmas.{IsInstalledWith}
 use Rattle.ist_core.proofs.BornLemmas.{Born, by_install, by_place, by_root}
 use Rattle.ist_core.proofs.ElementLemmas.{each-among}
 use Rattle.ist_core.proofs.RowLemmas.{with_inners-some}
-use Rattle.ist_core.proofs.SlotLemmas.{same_inner}
+use Rattle.ist_core.proofs.OptionLemmas.{same_inner}
 use Rattle.laws_links.proofs.OriginLemmas.{inner_is}
 use Rattle.laws_links.proofs.TopLemmas.{StandsAsTop, ideal_tops, root_tops}
 

@@ -14,7 +14,7 @@ use Rattle.ist_core.specs.References.{ChangeAt, Empty, InnerAt, LeafAt, RebuildA
 use Rattle.ist_core.specs.Slots.{SlotHolds, change_reads, past_change}
 use Rattle.ist_core.specs.StartLayout.{start}
 use Rattle.ist_core.specs.Statuses.{decided_no, decided_yes, undecided}
-use Rattle.ist_core.proofs.FreezingLemmas.{change_read, same_change}
+use Rattle.ist_core.proofs.FreezingLemmas.{change_read}
 use Rattle.ist_core.proofs.InstallNamingLemmas.{from_plain}
 use Rattle.ist_core.proofs.NamingLemmas.{SlotNames, slot_names}
 use Rattle.ist_core.proofs.NamingStepLemmas.{side_names}
@@ -23,9 +23,11 @@ use Rattle.ist_core.proofs.PlaceLemmas.{anchor_free}
 use Rattle.ist_core.proofs.ReferenceLemmas.{ref_of-unset}
 use Rattle.ist_core.proofs.RowLemmas.{changed_at-other, changed_at-same}
 use Rattle.ist_core.proofs.SlotStepLemmas.{IsNoDecide, WritesNoSlot, change_stays, install_stands, install_writes, place_writes, resolve_writes, slot_stays}
+use Rattle.ist_core.proofs.OptionLemmas.{same_change}
+use Rattle.ist_core.proofs.FrozenLemmas.{past_no_change}
 use Rattle.laws_links.proofs.ChangeLemmas.{undecided_stands}
 use Rattle.laws_links.proofs.InductionLemmas.{sound_after}
-use Rattle.laws_links.proofs.ReadLemmas.{FillsSlot, ReadsAs, Turns, filled_by, past_plain, past_same, side_plain, side_undecided, turned_by}
+use Rattle.laws_links.proofs.ReadLemmas.{FillsSlot, ReadsAs, Turns, filled_by, past_same, side_plain, side_undecided, turned_by}
 
 -- what a slot reads as after an event
 abbrev pub ReadsAfter : List Pair → ℕ → Log → ℕ → ℕ → Ref → Event → Type 0
@@ -93,7 +95,7 @@ module _ (pairs : List Pair) (words : ℕ) (opens : CanOpen pairs words) where
         reads = change_past (Install caller base rows ∷ log) h base can.change there
             ∙ ap ref_of (side_undecided can.change can.unset ∙ sym w.0)
             ∙ sym
-            (past_plain t.pieces (ref_of r.word) (λ at e. from_plain (start pairs words) log can.change can.fresh can.fits at (ap ref_of (sym w.0) ∙ e)))
+            (past_no_change t.pieces (ref_of r.word) (λ at e. from_plain (start pairs words) log can.change can.fresh can.fits at (ap ref_of (sym w.0) ∙ e)))
             ∙ r.reads;
       })
       (λ stays. inl (reads_left log (Install caller base rows) h tt node i ref r stays))
@@ -117,7 +119,7 @@ module _ (pairs : List Pair) (words : ℕ) (opens : CanOpen pairs words) where
         holds =
             subst (λ j. SlotHolds u node j (side_of can.change)) (sym w.2) (subst (λ n. SlotHolds u n can.change.index (side_of can.change)) (sym w.1) writes.now);
         reads =
-            past_plain u.pieces (ref_of (side_of can.change))
+            past_no_change u.pieces (ref_of (side_of can.change))
             (side_plain t.pieces can.change.node can.change.index (ref_of (side_of can.change)) side)
             ∙ sym (change_past log h.0 base can.change can.published)
             ∙ ap (λ v. past_change t.pieces (ref_of v)) (sym w.0)

@@ -17,7 +17,7 @@ use Rattle.ist_core.specs.Slots.{SlotHolds, change_reads, past_change}
 use Rattle.ist_core.specs.Snapshots.{Snapshot}
 use Rattle.ist_core.specs.Statuses.{decided_yes, undecided}
 use Rattle.ist_core.proofs.FreezingLemmas.{side_not_yes}
-use Rattle.ist_core.proofs.NamingLemmas.{SideNames}
+use Rattle.ist_core.proofs.NamingLemmas.{SideNames, SlotNames}
 use Rattle.ist_core.proofs.SlotLemmas.{slot_once}
 
 -- slot i of the node reads as the reference, with changes read away and rebuilds not
@@ -40,17 +40,6 @@ pub data FillsSlot (first : Snapshot) (log : Log) (node i : ℕ) (ref : Ref) : E
       → FillsSlot first log node i ref (Place caller rebuild j word rows)
 
 -- ---- references
-
--- a reference that is no change reads as itself
-pub past_plain : (ps : Pieces) (o : Option Ref) → ((base : ℕ) → o ≢ Some (ChangeAt base))
-    → past_change ps o ≡ o
-past_plain ps (Some (ChangeAt base)) plain = absurd (plain base refl)
-past_plain ps (Some Empty) plain = refl
-past_plain ps (Some Unset) plain = refl
-past_plain ps (Some (LeafAt base)) plain = refl
-past_plain ps (Some (InnerAt base)) plain = refl
-past_plain ps (Some (RebuildAt base)) plain = refl
-past_plain ps None plain = refl
 
 -- if a base reads as a change, there is a change at it
 change_there_by : (o : Option Piece) (ref : Ref) → change_reads o ≡ Some ref
@@ -107,3 +96,14 @@ side_plain ps node i (Some (LeafAt at)) h base e = absurd (cc)
 side_plain ps node i (Some (InnerAt at)) h base e = absurd (cc)
 side_plain ps node i (Some (RebuildAt at)) h base e = absurd (cc)
 side_plain ps node i None h base e = absurd (cc)
+
+-- what a slot may hold may be put into it, if it is no change and set
+pub plain_side : (ps : Pieces) (node i : ℕ) (ref : Option Ref) → SlotNames ps node i ref
+    → ref ≢ Some Unset → ((base : ℕ) → ref ≢ Some (ChangeAt base)) → SideNames ps node i ref
+plain_side ps node i (Some Unset) h set plain = absurd (set refl)
+plain_side ps node i (Some (ChangeAt base)) h set plain = absurd (plain base refl)
+plain_side ps node i (Some Empty) h set plain = h
+plain_side ps node i (Some (LeafAt base)) h set plain = h
+plain_side ps node i (Some (InnerAt base)) h set plain = h
+plain_side ps node i (Some (RebuildAt base)) h set plain = h
+plain_side ps node i _ h set plain = h

@@ -23,11 +23,12 @@ use Rattle.ist_core.proofs.OrderLemmas.{names}
 use Rattle.ist_core.proofs.ParentLemmas.{one_home}
 use Rattle.ist_core.proofs.PlaceLemmas.{anchor_free}
 use Rattle.ist_core.proofs.SlotLemmas.{slot_once}
-use Rattle.ist_core.proofs.DrawLemmas.{same_rebuild}
+use Rattle.ist_core.proofs.OptionLemmas.{same_rebuild}
+use Rattle.ist_core.proofs.FateLemmas.{grow_after}
 use Rattle.laws_links.proofs.ChangeLemmas.{said_yes}
 use Rattle.laws_links.proofs.ClosedLemmas.{started_target_linked}
 use Rattle.laws_links.proofs.FormedLemmas.{changes_are_formed}
-use Rattle.laws_links.proofs.InductionLemmas.{changes_by, grow_after}
+use Rattle.laws_links.proofs.InductionLemmas.{changes_by}
 use Rattle.laws_links.proofs.LinkLemmas.{deciding}
 use Rattle.laws_links.proofs.ReadEventLemmas.{decide_reads}
 use Rattle.laws_links.proofs.UntouchedLemmas.{not_the_anchor}

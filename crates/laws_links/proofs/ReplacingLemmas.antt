@@ -12,7 +12,7 @@ use Rattle.ist_core.specs.References.{RebuildAt, Ref, Unset, ref_of, unset_word}
 use Rattle.ist_core.specs.StartLayout.{start}
 use Rattle.ist_core.specs.Statuses.{undecided}
 use Rattle.ist_core.proofs.ReferenceLemmas.{ref_of-unset}
-use Rattle.ist_core.proofs.DrawLemmas.{same_rebuild}
+use Rattle.ist_core.proofs.OptionLemmas.{same_rebuild}
 use Rattle.laws_links.proofs.LinkLemmas.{deciding}
 use Rattle.laws_links.proofs.IdealLeafLemmas.{decided_stands}
 use Rattle.laws_links.proofs.NewTreeLemmas.{ideal_kept, ideal_set}

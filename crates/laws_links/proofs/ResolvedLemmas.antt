@@ -17,16 +17,18 @@ use Rattle.ist_core.specs.RowLayout.{anchor}
 use Rattle.ist_core.specs.Slots.{SlotHolds}
 use Rattle.ist_core.specs.Snapshots.{bases_of}
 use Rattle.ist_core.specs.StartLayout.{start}
-use Rattle.ist_core.proofs.FreezingLemmas.{change_read, same_change}
+use Rattle.ist_core.proofs.FreezingLemmas.{change_read, same_change_word}
 use Rattle.ist_core.proofs.GrowingLemmas.{change_there}
 use Rattle.ist_core.proofs.NamingLemmas.{SlotNames, slot_names}
 use Rattle.ist_core.proofs.NamingStepLemmas.{side_names}
 use Rattle.ist_core.proofs.OrderLemmas.{names}
-use Rattle.ist_core.proofs.PlaceLemmas.{anchor_free, no_piece}
+use Rattle.ist_core.proofs.PlaceLemmas.{anchor_free}
 use Rattle.ist_core.proofs.SlotLemmas.{slot_once}
 use Rattle.ist_core.proofs.SlotStepLemmas.{install_writes, place_writes, resolve_writes, slot_stays}
-use Rattle.laws_links.proofs.ChangeLemmas.{install_free, node_was_linked, resolved_now, same_change_word}
-use Rattle.laws_links.proofs.InductionLemmas.{grow_after, sound_after}
+use Rattle.ist_core.proofs.OptionLemmas.{no_value, same_change}
+use Rattle.ist_core.proofs.FateLemmas.{grow_after}
+use Rattle.laws_links.proofs.ChangeLemmas.{install_free, node_was_linked, resolved_now}
+use Rattle.laws_links.proofs.InductionLemmas.{sound_after}
 use Rattle.laws_links.proofs.ReadLemmas.{side_plain}
 use Rattle.laws_links.proofs.ReadStepLemmas.{Stood, slot_held, was_anchor, was_row}
 use Rattle.laws_links.proofs.UntouchedLemmas.{was_linked_here}
@@ -76,7 +78,7 @@ module _ (pairs : List Pair) (words : ℕ) (opens : CanOpen pairs words) where
       (λ w.
       let here = subst (λ m. SlotHolds u m can.change.index (word_of (ChangeAt base))) w.1 (subst (λ j. SlotHolds u node j (word_of (ChangeAt base))) w.2 now) in
       let one = same_change_word base at (slot_once u can.change.node can.change.index (word_of (ChangeAt base)) (word_of (ChangeAt at)) (anchor_free pairs words (Install caller at rows ∷ log) h) here writes.now) in
-      absurd (no_piece (t.pieces at) (Change x) (install_free (start pairs words) log caller at rows can (sound_after pairs words log h.0)) (subst (λ b. t.pieces b ≡ Some (Change x)) one e)))
+      absurd (no_value (t.pieces at) (Change x) (install_free (start pairs words) log caller at rows can (sound_after pairs words log h.0)) (subst (λ b. t.pieces b ≡ Some (Change x)) one e)))
       (λ stays. kept_word log (Install caller at rows) h node i old (word_of (ChangeAt base)) stays now was)
       (writes.others node i old was)
   stood_before log (Resolve caller at) h base x e node i old was now =

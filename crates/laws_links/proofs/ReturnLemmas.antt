@@ -20,13 +20,15 @@ use Rattle.ist_core.proofs.MentionLemmas.{child_mentioned, mentions_step}
 use Rattle.ist_core.proofs.NamingLemmas.{InnerHere, IsRebuildFor, RootNames, SideNames, WordsName, slot_names}
 use Rattle.ist_core.proofs.OrderLemmas.{child_above, names, past_change_names}
 use Rattle.ist_core.proofs.ParentLemmas.{one_home}
-use Rattle.ist_core.proofs.PlaceLemmas.{anchor_free, no_piece}
+use Rattle.ist_core.proofs.PlaceLemmas.{anchor_free}
 use Rattle.ist_core.proofs.SlotLemmas.{slot_once}
 use Rattle.ist_core.proofs.SlotStepLemmas.{place_writes}
+use Rattle.ist_core.proofs.OptionLemmas.{no_value}
+use Rattle.ist_core.proofs.FateLemmas.{grow_after}
 use Rattle.laws_links.proofs.ChildLemmas.{IsReadBy, child_read, leads_grows, leads_rebuild, read_child}
 use Rattle.laws_links.proofs.FormLemmas.{IsFormed, of_finish, of_leaf_put, of_pair_put, of_remove, of_start}
 use Rattle.laws_links.proofs.FormedLemmas.{changes_are_formed}
-use Rattle.laws_links.proofs.InductionLemmas.{grow_after, sound_after}
+use Rattle.laws_links.proofs.InductionLemmas.{sound_after}
 use Rattle.laws_links.proofs.PairLemmas.{pair_is_filled}
 use Rattle.laws_links.proofs.ReadEventLemmas.{decide_reads}
 use Rattle.laws_links.proofs.ReadLemmas.{FillsSlot, ReadsAs, Turns, filled_by, reads_once, turned_by}
@@ -37,7 +39,7 @@ use Rattle.laws_links.proofs.RebuiltLemmas.{finish_unreplaced}
 use Rattle.laws_links.proofs.UnlinkedLemmas.{ideal_among, root_never_linked}
 
 -- two references to inner rows are one
-one_inner : (a b : ℕ) → Some (InnerAt a) ≡ Some (InnerAt b) → a ≡ b
+pub one_inner : (a b : ℕ) → Some (InnerAt a) ≡ Some (InnerAt b) → a ≡ b
 one_inner a b e = cc
 
 module _ (pairs : List Pair) (words : ℕ) (opens : CanOpen pairs words) where
@@ -182,7 +184,7 @@ module _ (pairs : List Pair) (words : ℕ) (opens : CanOpen pairs words) where
       let child_is : Some can.ref ≡ Some (InnerAt child) =
       sym (ideal_reads u.pieces qs can.ref can.part can.root (bases_of rows) can.ideal) ∙ ap (past_rebuild u.pieces) read ∙ leads in
       let among = ideal_among qs can.ref can.part can.root (bases_of rows) child can.ideal (one_ref can.ref (InnerAt child) child_is) in
-      no_piece (t.pieces child) (Inner there.0)
+      no_value (t.pieces child) (Inner there.0)
       (held_free t caller rows can.held (sound_after pairs words log h.0) child among) there.1
     where
       one_ref : (a b : Ref) → Some a ≡ Some b → a ≡ b

@@ -24,12 +24,13 @@ use Rattle.ist_core.proofs.AddingLemmas.{Adds, IsInstalledWith, adds-with_inners
 use Rattle.ist_core.proofs.BornLemmas.{Born}
 use Rattle.ist_core.proofs.InstallLemmas.{with_installed}
 use Rattle.ist_core.proofs.MoveLemmas.{HeldLieApart}
-use Rattle.ist_core.proofs.PlaceLemmas.{anchor_free, no_piece}
+use Rattle.ist_core.proofs.PlaceLemmas.{anchor_free}
 use Rattle.ist_core.proofs.RowLemmas.{changed_at-some}
 use Rattle.ist_core.proofs.SoundLemmas.{sound}
 use Rattle.ist_core.proofs.StartLemmas.{sound_start}
 use Rattle.ist_core.proofs.StepLemmas.{holds_installed, rows_placed, rows_resolved}
 use Rattle.ist_core.proofs.BornLemmas as born
+use Rattle.ist_core.proofs.OptionLemmas.{no_value}
 
 -- what the event makes of the row p at the base is q: p itself, or p with the one field changed that the event writes
 pub data BecameBy (first : Snapshot) (log : Log) (base : ℕ) (p q : Piece) : Event → Type 0 where
@@ -143,10 +144,10 @@ module _ (pairs : List Pair) (words : ℕ) where
       → (state_of pairs words (event ∷ log)).pieces base ≡ Some q → base ≡ node
       → (state_of pairs words log).pieces base ≡ None → ⊥
   slot_stood log event h node i word (in_anchor a b c) base q e same none =
-      no_piece ((state_of pairs words (event ∷ log)).pieces base) q
+      no_value ((state_of pairs words (event ∷ log)).pieces base) q
       (subst (λ n. (state_of pairs words (event ∷ log)).pieces n ≡ None) (sym (same ∙ a)) (anchor_free pairs words (event ∷ log) h)) e
   slot_stood log event h node i word (in_row r p g) base q e same none =
-      no_piece ((state_of pairs words log).pieces base) (Inner r) none
+      no_value ((state_of pairs words log).pieces base) (Inner r) none
       (subst (λ n. (state_of pairs words log).pieces n ≡ Some (Inner r)) (sym same) p)
 
   -- where each row after an enabled event comes from
@@ -191,7 +192,7 @@ module _ (pairs : List Pair) (words : ℕ) where
           (with_inners t.pieces rows) (λ b p. Among b (bases_of rows)) rebuild (with_root word)
           (adds-with_inners t caller rows k.held s) refl
           (λ b p x here is. subst (λ n. BecameBy (start pairs words) log n p x (Root caller rebuild word rows)) (sym here) (by_root k is)) (λ b p new there. born.by_root new there) base q there
-          (λ here none. no_piece (t.pieces base) (Rebuild k.row) none (subst (λ n. t.pieces n ≡ Some (Rebuild k.row)) (sym here) k.published))
+          (λ here none. no_value (t.pieces base) (Rebuild k.row) none (subst (λ n. t.pieces n ≡ Some (Rebuild k.row)) (sym here) k.published))
       at (Decide caller change said) all k there =
           turned_one (start pairs words) log (Decide caller change said) change
           (with_decision (decision_word said)) refl

@@ -15,14 +15,13 @@ use Rattle.ist_core.specs.Slots.{SlotHolds}
 use Rattle.ist_core.specs.Snapshots.{HoldsRows, Snapshot}
 use Rattle.ist_core.specs.StartLayout.{start}
 use Rattle.ist_core.specs.Statuses.{decided_yes, start_kind, undecided}
-use Rattle.ist_core.proofs.FreezingLemmas.{same_change}
 use Rattle.ist_core.proofs.MoveLemmas.{HeldLieApart}
 use Rattle.ist_core.proofs.NamingLemmas.{IsRebuildFor, RootNames, SideNames, WordsName}
 use Rattle.ist_core.proofs.OrderLemmas.{names}
-use Rattle.ist_core.proofs.PlaceLemmas.{anchor_free, no_piece}
+use Rattle.ist_core.proofs.PlaceLemmas.{anchor_free}
 use Rattle.ist_core.proofs.SlotLemmas.{slot_once}
 use Rattle.ist_core.proofs.StepLemmas.{holds_installed}
-use Rattle.laws_links.proofs.ChangeLemmas.{said_something, same_change_word, undecided_stands}
+use Rattle.laws_links.proofs.ChangeLemmas.{said_something, undecided_stands}
 use Rattle.laws_links.proofs.ComesLemmas.{change_comes}
 use Rattle.laws_links.proofs.FormLemmas.{IsFinish, IsFormed, of_finish, of_leaf_put, of_pair_put, of_remove, of_start}
 use Rattle.laws_links.proofs.InductionLemmas.{changes_by, sound_after}
@@ -30,7 +29,8 @@ use Rattle.laws_links.proofs.OriginLemmas.{ChangeComes, change_was, is_decided, 
 use Rattle.laws_links.proofs.ReadEventLemmas.{change_past}
 use Rattle.laws_links.proofs.ReadLemmas.{ReadsAs, side_undecided}
 use Rattle.ist_core.specs.Installing as kinds
-use Rattle.ist_core.proofs.DrawLemmas.{same_rebuild}
+use Rattle.ist_core.proofs.OptionLemmas.{no_value, same_rebuild, same_change}
+use Rattle.ist_core.proofs.FreezingLemmas.{same_change_word}
 
 -- ---- changes that name a rebuild
 
@@ -160,14 +160,14 @@ module _ (pairs : List Pair) (words : ℕ) (opens : CanOpen pairs words) where
           → ChangeComes (start pairs words) log s.base s.change event → ⊥
       fresh log caller base rows h can rebuild to s event (change_was old) =
           let it = side_rebuild (state_of pairs words log) (names pairs words opens log h.0) s.base s.change old rebuild (inr s.to) in
-          no_piece ((state_of pairs words log).pieces rebuild) (Rebuild it.row)
+          no_value ((state_of pairs words log).pieces rebuild) (Rebuild it.row)
           (start_new log caller base rows h can rebuild to) it.published
       fresh log caller base rows h can rebuild to s _ (is_installed other same) =
           let none =
           other.unset in let is = s.decision in let also = ap (λ c. c.decision) same in omega arith
       fresh log caller base rows h can rebuild to s _ (is_decided other same) =
           let it = side_rebuild (state_of pairs words log) (names pairs words opens log h.0) s.base other.change other.pending.published rebuild (inr (ap (λ c. ref_of c.to) (sym same) ∙ s.to)) in
-          no_piece ((state_of pairs words log).pieces rebuild) (Rebuild it.row)
+          no_value ((state_of pairs words log).pieces rebuild) (Rebuild it.row)
           (start_new log caller base rows h can rebuild to) it.published
 
       -- two undecided starts of one rebuild are one

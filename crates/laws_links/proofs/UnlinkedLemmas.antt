@@ -27,12 +27,14 @@ use Rattle.ist_core.proofs.MentionLemmas.{child_mentioned}
 use Rattle.ist_core.proofs.NamingLemmas.{InnerHere, RootNames}
 use Rattle.ist_core.proofs.OrderLemmas.{names}
 use Rattle.ist_core.proofs.ParentLemmas.{one_home}
-use Rattle.ist_core.proofs.PlaceLemmas.{anchor_free, no_piece}
+use Rattle.ist_core.proofs.PlaceLemmas.{anchor_free}
 use Rattle.ist_core.proofs.ReferenceLemmas.{ref_of-unset}
-use Rattle.ist_core.proofs.SlotLemmas.{same_inner, slot_once}
+use Rattle.ist_core.proofs.SlotLemmas.{slot_once}
+use Rattle.ist_core.proofs.OptionLemmas.{no_value, same_inner}
+use Rattle.ist_core.proofs.FateLemmas.{grow_after}
 use Rattle.laws_links.proofs.ComesLemmas.{rebuild_comes}
 use Rattle.laws_links.proofs.FormLemmas.{started_grows}
-use Rattle.laws_links.proofs.InductionLemmas.{grow_after, rebuilds_by, sound_after}
+use Rattle.laws_links.proofs.InductionLemmas.{rebuilds_by, sound_after}
 use Rattle.laws_links.proofs.OriginLemmas.{RebuildComes, is_begun, is_drawn, is_rooted, rebuild_was}
 use Rattle.laws_links.proofs.QuietLemmas.{start_quiet}
 use Rattle.laws_links.proofs.UntouchedLemmas.{not_the_anchor, stays_whole, untouched, was_linked_here, was_linked_parent}
@@ -160,7 +162,7 @@ module _ (pairs : List Pair) (words : ℕ) (opens : CanOpen pairs words) where
           let none =
           held_free t caller rows can.held (sound_after pairs words log all.0) base among in
           let there = was_linked_here pairs words opens log all.0 base ne before in
-          no_piece (t.pieces base) (Inner there.0) none there.1
+          no_value (t.pieces base) (Inner there.0) none there.1
       at _ all ne (is_drawn can same) k again =
           again can.row can.published (ap (λ x. ref_of x.root) (sym same) ∙ is) k
 

@@ -22,21 +22,17 @@ use Rattle.ist_core.proofs.HomeLemmas.{Mentions, mentioned_here}
 use Rattle.ist_core.proofs.MentionLemmas.{child_mentioned, mentions_step}
 use Rattle.ist_core.proofs.NamingLemmas.{InnerHere}
 use Rattle.ist_core.proofs.OrderLemmas.{names}
-use Rattle.ist_core.proofs.PlaceLemmas.{anchor_free, no_piece, one_piece}
-use Rattle.ist_core.proofs.SlotLemmas.{no_row, same_inner}
+use Rattle.ist_core.proofs.PlaceLemmas.{anchor_free}
+use Rattle.ist_core.proofs.SlotLemmas.{no_row}
 use Rattle.laws_links.proofs.ChangeLemmas.{node_was_linked}
 use Rattle.laws_links.proofs.ClosedLemmas.{closed_was_linked, linked_now, mark_linked, passed_was_linked}
-use Rattle.laws_links.proofs.InductionLemmas.{grow_after}
 use Rattle.laws_links.proofs.RowEventLemmas.{RowCame, BecameBy, as_it_was, by_count, by_decide, by_draw, by_finish, by_install, by_mark, by_place, by_resolve, by_root, came, from_new, from_old}
 use Rattle.ist_core.specs.Links as chains
+use Rattle.ist_core.proofs.OptionLemmas.{same_value, no_value, same_inner}
+use Rattle.ist_core.proofs.ChainLemmas.{chain_linked}
+use Rattle.ist_core.proofs.FateLemmas.{grow_after}
 
 -- ---- chains
-
--- a node with a chain is linked
-chain_linked : (t : Snapshot) (node : ℕ) (rows : List ℕ) → Chain t node rows → Linked t node
-chain_linked t _ _ chains.no_row = at_anchor
-chain_linked t _ _ (one_row {node = node} {rows = rows} i chain is) =
-    below i (chain_linked t node rows chain) is
 
 -- each row of the chain of a node is linked
 on_chain_linked : (t : Snapshot) (node : ℕ) (rows : List ℕ) → Chain t node rows → (row : ℕ)
@@ -120,11 +116,11 @@ module _ (pairs : List Pair) (words : ℕ) (opens : CanOpen pairs words) where
       at : (s : InnerRow) → RowCame (start pairs words) log event node (Inner s)
           → Stays (start pairs words) log node r s event
       at s (from_old p old turned) =
-          let same = one_piece ((state_of pairs words log).pieces node) p (Inner r) old e in
+          let same = same_value ((state_of pairs words log).pieces node) p (Inner r) old e in
           untouched_turned log event h node r s never
           (subst (λ x. BecameBy (start pairs words) log node x (Inner s) event) same turned)
       at s (from_new new none) =
-          absurd (no_piece ((state_of pairs words log).pieces node) (Inner r) none e)
+          absurd (no_value ((state_of pairs words log).pieces node) (Inner r) none e)
 
 -- a row without an Unset slot stays as it is
 pub stays_whole : (first : Snapshot) (log : Log) (event : Event) (node : ℕ) (r s : InnerRow)

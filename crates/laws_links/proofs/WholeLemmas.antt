@@ -31,7 +31,7 @@ use Rattle.ist_core.proofs.NamingStepLemmas.{changed_at-fixed}
 use Rattle.laws_links.proofs.ChangeLemmas.{said_something}
 use Rattle.laws_links.proofs.ComesLemmas.{rebuild_comes}
 use Rattle.laws_links.proofs.FormedLemmas.{rooted_is_finished}
-use Rattle.laws_links.proofs.InductionLemmas.{changes_by, grow_after}
+use Rattle.laws_links.proofs.InductionLemmas.{changes_by}
 use Rattle.laws_links.proofs.OriginLemmas.{RebuildComes, is_begun, is_drawn, is_rooted, rebuild_was}
 use Rattle.laws_links.proofs.QuietLemmas.{start_quiet}
 use Rattle.laws_links.proofs.ReadLemmas.{ReadsAs}
@@ -39,6 +39,7 @@ use Rattle.laws_links.proofs.BuiltLemmas.{IsBuiltOver, partly_step, whole_step}
 use Rattle.laws_links.proofs.NewTreeLemmas.{ArePartly, IsPartly, ideal_kept, in_parts, partly_all, partly_kept, partly_none, top_kept, whole}
 use Rattle.laws_links.proofs.RebuiltLemmas.{finish_unreplaced, read_unreplaced, unreplaced_before}
 use Rattle.ist_core.specs.Installing as kinds
+use Rattle.ist_core.proofs.FateLemmas.{grow_after}
 
 -- a new root, in the table of its condition
 root_partly : (ps : Pieces) (word k : ℕ) (leaves : List PlacedLeaf) (target : ℕ) (rows : List ℕ)

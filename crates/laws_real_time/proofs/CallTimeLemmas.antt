@@ -1,7 +1,8 @@
 -- When calls that are placed in their time began and returned, and which comes before which. Serves
 -- `laws.placed_calls_are_linearizable`.
 -- a test isn't both
-use Rattle.std.proofs.Common.{◌≡◌, ℕ, ◌+◌, ◌<◌, ◌≤◌, Bool, true, false, List, length, slice_get, Some, None, refl, sym, ap, ◌∙◌, subst, ⊎_elim, arith}
+use Rattle.std.proofs.Common.{◌≡◌, ℕ, ◌+◌, ◌<◌, ◌≤◌, Bool, true, false, List, length, slice_get, Some, refl, sym, ap, ◌∙◌, subst, ⊎_elim, arith}
+use Rattle.std.proofs.lemmas.Option.{same_Some, none-some}
 use Rattle.ist_core.specs.Map.{Map}
 use Rattle.ist_core.specs.Elements.{Among}
 use Rattle.ist_core.specs.Changes.{Entry}
@@ -13,17 +14,7 @@ use Rattle.laws_real_time.proofs.ChangeCountLemmas.{changes_at, changes_rise}
 use Rattle.laws_real_time.proofs.MomentLemmas.{begun_in, ended_in, ended_before, AreApartInTime, same_call, comes_first, comes_later, ended_apart}
 use Rattle.laws_real_time.proofs.WeaveLemmas.{IsSpot, owns, reads}
 use Rattle.laws_real_time.proofs.OwnerLemmas.{readings, IsByEnded, IsByBegun, OwnsChange, placed_of, IsReadingCall, reading_of}
-
-no_both : (b : Bool) → b ≡ true → b ≡ false → ⊥
-no_both b p q = cc
-
--- what two values have in common that are the same
-some_one : (a b : ℕ) → Some a ≡ Some b → a ≡ b
-some_one a b e = cc
-
--- no value is none
-none_some : (a : ℕ) → None ≡ Some a → ⊥
-none_some a e = cc
+use Rattle.laws_histories.proofs.CallLemmas.{differ}
 
 -- the second did not return before the first began, and is another call
 abbrev pub IsBefore : TimedCall → TimedCall → Type 0
@@ -60,9 +51,9 @@ module _ (m : Map) (entries : List Entry) (moments : Moments)
         began = omega arith;
         from = from;
         within = λ time r.
-            (let same : x.time ≡ time = some_one x.time time r in omega (arith, it.within, same));
+            (let same : x.time ≡ time = same_Some x.time time r in omega (arith, it.within, same));
         to = λ time r.
-            (let same : x.time ≡ time = some_one x.time time r in
+            (let same : x.time ≡ time = same_Some x.time time r in
             subst (λ n. position ≤ changes_at moments n) same (omega (arith, it.changes, low)));
       }
 
@@ -102,8 +93,8 @@ module _ (m : Map) (entries : List Entry) (moments : Moments)
           record {
             began = it.within;
             from = omega (arith, it.changes, b.of.from);
-            within = λ time r. absurd (none_some time r);
-            to = λ time r. absurd (none_some time r);
+            within = λ time r. absurd (none-some time r);
+            to = λ time r. absurd (none-some time r);
           }
 
   -- a returned call that owns a change is past it when it returns
@@ -117,12 +108,12 @@ module _ (m : Map) (entries : List Entry) (moments : Moments)
           let to = to_past b.call (placed_of m entries moments all b.call b.among) b.change in
           let place = b.position_is in
           let same : b.call.time ≡ time =
-          some_one b.call.time time (ap (λ (z : TimedCall). z.returned) (sym b.is) ∙ r) in
+          same_Some b.call.time time (ap (λ (z : TimedCall). z.returned) (sym b.is) ∙ r) in
           subst (λ n. position + 1 ≤ changes_at moments n) same
           (omega (arith, it.changes, to, place))
 
       progress : IsByBegun m entries moments all position o.entry t → position + 1 ≤ changes_at moments time
-      progress b = absurd (none_some time (ap (λ (z : TimedCall). z.returned) (sym b.is) ∙ r))
+      progress b = absurd (none-some time (ap (λ (z : TimedCall). z.returned) (sym b.is) ∙ r))
 
   -- ---- how calls are related
 
@@ -219,7 +210,7 @@ module _ (m : Map) (entries : List Entry) (moments : Moments)
       → x.call.position ≡ y.call.position → x.time < y.time → IsBefore (timed x) (timed y)
   both_read x y i j e l = (
     λ h.
-        (let same : y.time ≡ h.time = some_one y.time h.time h.returned in
+        (let same : y.time ≡ h.time = same_Some y.time h.time h.returned in
         let it = ended_in moments x (reading_of m entries moments all x i).among in
         absurd (omega (arith, same, h.before, it.before, l))),
     λ h.
@@ -247,7 +238,7 @@ module _ (m : Map) (entries : List Entry) (moments : Moments)
         let g : x.begun.time ≡ b.call.begun.time =
         h.began ∙ ap (λ (z : TimedCall). z.began) b.is in
         let one = ended_one x b.call (reading_of m entries moments all x i).among b.among c g in
-        absurd (no_both (is_change x.call)
+        absurd (differ (is_change x.call)
         (subst (λ (z : Ended). is_change z.call ≡ true) (sym one) b.change)
         (reading_of m entries moments all x i).plain)))
         (λ b.

@@ -2,12 +2,13 @@
 -- Serves `laws.made_calls_are_linearizable`.
 use Rattle.std.proofs.Common.{◌≡◌, ◌≢◌, ◌⊎◌, ℕ, zero, suc, ◌+◌, ◌<◌, ◌≤◌, ◌==◌, true, false, List, [], ◌∷◌, length, slice_get, Some, refl, ap, ◌∙◌, subst, inl, inr, ⊎_elim, arith}
 use Rattle.std.proofs.lemmas.Bool.Decides.{eqb_tells}
+use Rattle.std.proofs.lemmas.Option.{same_Some}
 use Rattle.ist_core.specs.declared.calls.Call.{Call}
 use Rattle.ist_core.specs.Elements.{Among, Each}
 use Rattle.ist_core.specs.Changes.{Entry}
 use Rattle.ist_core.specs.Standing.{entry_by, entries_by}
-use Rattle.ist_core.proofs.ElementLemmas.{each-among}
-use Rattle.laws_real_time.proofs.PairLemmas.{Pairwise, each_of}
+use Rattle.ist_core.proofs.ElementLemmas.{each-among, each_of}
+use Rattle.laws_real_time.proofs.PairLemmas.{Pairwise}
 
 module _ (number : ℕ) where
   -- the call's entry is at its position, in entries that begin at an offset
@@ -33,7 +34,7 @@ module _ (number : ℕ) where
       at (inr e) = inr (e.1, rw e.0 refl)
 
   -- no fewer with one more entry
-  count_rises : (entry : Entry) (entries : List Entry)
+  pub count_rises : (entry : Entry) (entries : List Entry)
       → length (entries_by number entries) ≤ length (entries_by number (entry ∷ entries))
   count_rises entry entries =
       ⊎_elim (λ e. omega (arith, e.1)) (λ e. omega (arith, e.1)) (owner_cases entry entries)
@@ -66,9 +67,6 @@ module _ (number : ℕ) where
       past_first entry entries offset later
       (each-among (IsAtIndex (entry ∷ entries) offset) later calls all i) (omega arith)))
 
-  some_one : (e f : Entry) → Some e ≡ Some f → e ≡ f
-  some_one e f h = cc
-
   -- there are as many entries as calls
   pub calls_fit : (entries : List Entry) (offset : ℕ) (calls : List Call)
       → Pairwise (λ a b. a.position < b.position) calls → Each (IsAtIndex entries offset) calls
@@ -97,7 +95,7 @@ module _ (number : ℕ) where
       at zero e one both =
           let few = one rest in
           let first : entry ≡ entry_by number call =
-          some_one entry (entry_by number call)
+          same_Some entry (entry_by number call)
           (subst (λ n. slice_get (entry ∷ entries) n ≡ Some (entry_by number call)) e all.0.entry) in
           ⊎_elim (λ h. omega (arith, h.1, few))
           (λ h. absurd (h.0 (ap (λ (x : Entry). x.owner) first))) (owner_cases entry entries)
@@ -121,7 +119,7 @@ module _ (number : ℕ) where
       none k = cc
   has_one (entry ∷ entries) zero e h o =
       ⊎_elim (λ t. omega (arith, t.1))
-      (λ t. absurd (t.0 (ap (λ (x : Entry). x.owner) (some_one entry e h) ∙ o)))
+      (λ t. absurd (t.0 (ap (λ (x : Entry). x.owner) (same_Some entry e h) ∙ o)))
       (owner_cases entry entries)
   has_one (entry ∷ entries) (suc i) e h o =
       let some = has_one entries i e h o in
@@ -138,11 +136,11 @@ module _ (number : ℕ) where
   only_one (entry ∷ entries) few zero zero e f h k o q = refl
   only_one (entry ∷ entries) few zero (suc j) e f h k o q =
       ⊎_elim (λ t. (let some = has_one entries j f k q in absurd (omega (arith, t.1, some, few))))
-      (λ t. absurd (t.0 (ap (λ (x : Entry). x.owner) (some_one entry e h) ∙ o)))
+      (λ t. absurd (t.0 (ap (λ (x : Entry). x.owner) (same_Some entry e h) ∙ o)))
       (owner_cases entry entries)
   only_one (entry ∷ entries) few (suc i) zero e f h k o q =
       ⊎_elim (λ t. (let some = has_one entries i e h o in absurd (omega (arith, t.1, some, few))))
-      (λ t. absurd (t.0 (ap (λ (x : Entry). x.owner) (some_one entry f k) ∙ q)))
+      (λ t. absurd (t.0 (ap (λ (x : Entry). x.owner) (same_Some entry f k) ∙ q)))
       (owner_cases entry entries)
   only_one (entry ∷ entries) few (suc i) (suc j) e f h k o q =
       let more = count_rises entry entries in
@@ -197,7 +195,7 @@ module _ (number : ℕ) where
           record { call = call; among = inl refl; position_is = omega arith }
       at zero (suc j) is k one both =
           let first : entry ≡ entry_by number call =
-          some_one entry (entry_by number call)
+          same_Some entry (entry_by number call)
           (subst (λ n. slice_get (entry ∷ entries) n ≡ Some (entry_by number call)) is all.0.entry) in
           ⊎_elim
           (λ t. later j (one rest (omega (arith, t.1, few)) j e k o))
@@ -208,7 +206,7 @@ module _ (number : ℕ) where
           let fit = calls_fit entries (offset + 1) (call ∷ calls) rise (past, rest) in
           ⊎_elim
           (λ t. absurd (omega (arith, t.1, few, fit)))
-          (λ t. absurd (t.0 (ap (λ (x : Entry). x.owner) (some_one entry e k) ∙ o)))
+          (λ t. absurd (t.0 (ap (λ (x : Entry). x.owner) (same_Some entry e k) ∙ o)))
           (owner_cases entry entries)
       at (suc n) (suc j) is k one both =
           let position = all.0.position_is in

@@ -2,7 +2,7 @@
 use Rattle.std.proofs.Common.{◌≡◌, ◌≢◌, ◌⊎◌, ℕ, ◌≤◌, ◌==◌, Bool, true, false, List, [], ◌∷◌, take, length, Option, Some, None, refl, sym, ap, ◌∙◌, subst, inl, inr, arith}
 use Rattle.std.proofs.lemmas.Bool.Decides.{eqb_tells}
 use Rattle.std.proofs.lemmas.List.{take-append-le, take_all}
-use Rattle.std.proofs.lemmas.Option.{slice_get_within}
+use Rattle.std.proofs.lemmas.Option.{slice_get_within, none-some}
 use Rattle.ist_core.specs.declared.calls.Call.{Call}
 use Rattle.ist_core.specs.declared.commands.Command.{Command}
 use Rattle.ist_core.specs.declared.pairs.Pair.{Pair}
@@ -13,7 +13,7 @@ use Rattle.ist_core.specs.Logs.{Log, GoesOn, same_log}
 use Rattle.ist_core.specs.Lawful.{Lawful}
 use Rattle.ist_core.specs.Changes.{Entry, changes_of, map_after_entries}
 use Rattle.ist_core.specs.Standing.{is_change, entry_by, entries_by, position_after}
-use Rattle.ist_core.proofs.ElementLemmas.{each_append, each-among}
+use Rattle.ist_core.proofs.ElementLemmas.{each_append, each-among, each_of}
 use Rattle.ist_core.proofs.PrefixLemmas.{goes_on_more}
 use Rattle.laws_histories.proofs.ChangeLemmas.{changes_on, changes_rise, get_left, read_on}
 use Rattle.laws_histories.proofs.ContentLemmas.{told_at}
@@ -25,7 +25,6 @@ use Rattle.laws_real_time.specs.Joining.{LinearizesTo}
 use Rattle.laws_real_time.specs.Timing.{IsInTime}
 use Rattle.laws_real_time.specs.Making.{calls_returned, changes_by, HasMadeChanges}
 use Rattle.laws_real_time.specs.Keeping.{moment_now, NotesPrefix, KeepsTime, IsPlacedCall}
-use Rattle.laws_real_time.proofs.PairLemmas.{each_of}
 use Rattle.laws_real_time.proofs.MomentLemmas.{ended_in, begun_in, IsInCall, begun_now, begun_before, in_call_cases}
 use Rattle.laws_real_time.proofs.AccountLemmas.{accounted_linearizes}
 use Rattle.laws_real_time.proofs.ChangeCountLemmas.{changes_low}
@@ -170,9 +169,6 @@ module _ (pairs : List Pair) (words : ℕ) where
             (own begun (sym (in_call_own number moment moments t.1) ∙ i))
         at number begun i (inr t) = began_other number begun t.1 i
 
-  none_some : (b : Begun) → None ≡ Some b → ⊥
-  none_some b e = cc
-
   -- a call begins
   pub begins_keep : (log : Log) (moments : Moments) (caller : ℕ) (command : Option Command)
       → in_call caller moments ≡ None
@@ -213,7 +209,7 @@ module _ (pairs : List Pair) (words : ℕ) where
       (subst (Each (IsInTime (map_of pairs) (told log)))
       (sym (ended_same now moments (gives_up_ends_none (in_call caller moments) (length moments) now)))
       k.placed)
-      (λ b e. absurd (none_some b e))
+      (λ b e. absurd (none-some b e))
     where
       now : Moment
       now = moment_now pairs words log caller GivesUp
@@ -240,7 +236,7 @@ module _ (pairs : List Pair) (words : ℕ) where
         },
         tt,
       )))
-      (λ b e. absurd (none_some b e))
+      (λ b e. absurd (none-some b e))
     where
       now : Moment
       now = moment_now pairs words log caller (Returns call)

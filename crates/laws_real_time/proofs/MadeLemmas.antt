@@ -8,12 +8,12 @@ use Rattle.ist_core.specs.Map.{Map}
 use Rattle.ist_core.specs.Elements.{Among, Each}
 use Rattle.ist_core.specs.Changes.{Entry}
 use Rattle.ist_core.specs.Standing.{is_change, entry_by, entries_by}
-use Rattle.ist_core.proofs.ElementLemmas.{each-among, among-filter, among_filter}
+use Rattle.ist_core.proofs.ElementLemmas.{each-among, among-filter, among_filter, each_of}
 use Rattle.ist_core.proofs.PieceLemmas.{slice_get-drop, slice_get-take}
 use Rattle.laws_real_time.specs.Moments.{Moments, Begun, in_call, Ended, ended}
 use Rattle.laws_real_time.specs.Timing.{IsInTime, IsOfEnded, IsOfBegun}
 use Rattle.laws_real_time.specs.Making.{calls_returned, changes_by, HasMadeChanges, none_since, one_since, AreAccounted}
-use Rattle.laws_real_time.proofs.PairLemmas.{Pairwise, each_of, pairwise_filter, pairwise_map, pairwise_gives, among-map}
+use Rattle.laws_real_time.proofs.PairLemmas.{Pairwise, pairwise_filter, pairwise_map, pairwise_gives, among-map}
 use Rattle.laws_real_time.proofs.MomentLemmas.{begun_in, ended_in, ended_before, AreApartInTime, same_call, comes_first, comes_later, ended_apart, ended_in_order}
 use Rattle.laws_real_time.proofs.CountLemmas.{IsAtIndex, IsFound, only_one, entry_found}
 use Rattle.laws_real_time.proofs.ChangeCountLemmas.{changes_rise}

@@ -6,18 +6,19 @@ use Rattle.ist_core.specs.Map.{Map}
 use Rattle.ist_core.specs.Elements.{Among}
 use Rattle.ist_core.specs.Changes.{Entry, map_at, map_after_entries}
 use Rattle.ist_core.specs.Standing.{is_change, entry_by}
-use Rattle.ist_core.proofs.ElementLemmas.{each-among, among_filter}
+use Rattle.ist_core.proofs.ElementLemmas.{each-among, among_filter, each_of}
 use Rattle.laws_real_time.specs.Moments.{Moments, in_call, Ended, ended}
 use Rattle.laws_real_time.specs.RealTime.{TimedCall, timed, returned_calls, IsInProgress, Precedes, IsSameCall, AreOnce, KeepRealTime, IsLinearizable}
 use Rattle.laws_real_time.specs.Joining.{LinearizesTo}
 use Rattle.laws_real_time.specs.Timing.{AreInTime}
-use Rattle.laws_real_time.proofs.PairLemmas.{Pairwise, each_of, each_map, pairwise_filter, among_map}
+use Rattle.laws_real_time.proofs.PairLemmas.{Pairwise, each_map, pairwise_filter}
 use Rattle.laws_real_time.proofs.ChangeCountLemmas.{changes_rise}
 use Rattle.laws_real_time.proofs.MomentLemmas.{begun_in, ended_in, ended_before, AreApartInTime, same_call, comes_first, comes_later, ended_apart, ended_in_order}
 use Rattle.laws_real_time.proofs.WeaveLemmas.{weave, IsSpot, owns, reads, woven_at, weave_pairs, owner_at, reading_among}
 use Rattle.laws_real_time.proofs.ReplyLemmas.{LeavesMap, reading_leaves, weave_replied, weave_leads}
 use Rattle.laws_real_time.proofs.OwnerLemmas.{readings, IsByEnded, IsByBegun, OwnsChange, placed_of, same_entry, HasOwners, the_owners, reading_of}
 use Rattle.laws_real_time.proofs.CallTimeLemmas.{IsBefore, apart, both_read, read_first, to_past}
+use Rattle.laws_histories.proofs.ItemLemmas.{among_map}
 
 module _ (m : Map) (entries : List Entry) (moments : Moments)
     (all : AreInTime m entries moments) where

@@ -8,7 +8,7 @@ use Rattle.ist_core.specs.declared.pairs.Pair.{Pair}
 use Rattle.ist_core.specs.declared.states.ChangeRow.{ChangeRow}
 use Rattle.ist_core.specs.declared.states.InnerRow.{InnerRow}
 use Rattle.ist_core.specs.Elements.{Distinct, Each}
-use Rattle.ist_core.specs.Growing.{AllGrow, StatusGoesOn, is_closed, is_finished, is_marked, status_stays}
+use Rattle.ist_core.specs.Growing.{AllGrow}
 use Rattle.ist_core.specs.Lawful.{CanOpen, EachEnabled, state_of}
 use Rattle.ist_core.specs.Logs.{Happened, Log, Resolves}
 use Rattle.ist_core.specs.Pieces.{Change, Inner, Piece, size_of, with_status}
@@ -17,15 +17,17 @@ use Rattle.ist_core.specs.StartLayout.{start}
 use Rattle.ist_core.specs.Statuses.{marked_word, open_word}
 use Rattle.ist_core.proofs.ElementLemmas.{each-among}
 use Rattle.ist_core.proofs.GrowingLemmas.{change_there, inner_there}
-use Rattle.ist_core.proofs.PlaceLemmas.{Claimed, claimed_apart, claimed_within, no_piece, placed, size_positive}
+use Rattle.ist_core.proofs.PlaceLemmas.{Claimed, claimed_apart, claimed_within, placed, size_positive}
 use Rattle.ist_core.proofs.RoomLemmas.{next_within, words_same}
 use Rattle.ist_core.proofs.RowLemmas.{changed_at-same}
-use Rattle.ist_core.proofs.SlotLemmas.{same_inner}
 use Rattle.ist_core.proofs.SlotStepLemmas.{install_stands}
 use Rattle.ist_core.proofs.StepLemmas.{holds_installed}
 use Rattle.ist_core.proofs.YesLemmas.{distinct_below}
+use Rattle.ist_core.proofs.OptionLemmas.{no_value, same_inner}
+use Rattle.ist_core.proofs.FreezingLemmas.{closed_on}
+use Rattle.ist_core.proofs.FateLemmas.{grow_after}
 use Rattle.laws_links.proofs.ChangeLemmas.{install_free}
-use Rattle.laws_links.proofs.InductionLemmas.{grow_after, sound_after}
+use Rattle.laws_links.proofs.InductionLemmas.{sound_after}
 use Rattle.laws_links.proofs.ResolvedLemmas.{resolved_gone}
 use Rattle.laws_stability.specs.Progress.{most_progress, progress}
 
@@ -47,13 +49,6 @@ data Counted (t : Snapshot) (log : Log) (number : ℕ) : Type 0 where
   of_mark : (node : ℕ) (r : InnerRow) → t.pieces node ≡ Some (Inner r) → r.status ≢ open_word
       → number ≡ node → Counted t log number
 
--- a status that isn't open stays so
-still_shut : (old new : ℕ) → StatusGoesOn old new → old ≢ open_word → new ≢ open_word
-still_shut old new (status_stays e) shut is = shut (sym e ∙ is)
-still_shut old new (is_marked e f) shut is = shut e
-still_shut old new (is_finished k e f) shut is = absurd (omega arith)
-still_shut old new (is_closed k e f) shut is = shut e
-
 counted_on : (t u : Snapshot) → AllGrow t.pieces u.pieces → (log : Log) (event : Event)
     (number : ℕ) → Counted t log number → Counted u (event ∷ log) number
 counted_on t u g log event number (of_install base r e is) =
@@ -64,7 +59,7 @@ counted_on t u g log event number (of_resolve base r e before is) =
     of_resolve base on.0 on.1 (inr before) is
 counted_on t u g log event number (of_mark node r e shut is) =
     let on = inner_there t.pieces u.pieces g node r e in
-    of_mark node on.0 on.1 (still_shut r.status on.0.status on.2.status shut) is
+    of_mark node on.0 on.1 (closed_on r.status on.0.status on.2.status shut) is
 
 each_on : (t u : Snapshot) → AllGrow t.pieces u.pieces → (log : Log) (event : Event)
     (xs : List ℕ) → Each (Counted t log) xs → Each (Counted u (event ∷ log)) xs
@@ -104,7 +99,7 @@ module _ (pairs : List Pair) (words : ℕ) (opens : CanOpen pairs words) where
       → EachEnabled (start pairs words) (Install caller base rows ∷ log)
       → Counted (state_of pairs words log) log base → ⊥
   fresh_install log caller base rows h (of_install other r e is) =
-      no_piece ((state_of pairs words log).pieces base) (Change r)
+      no_value ((state_of pairs words log).pieces base) (Change r)
       (install_free (start pairs words) log caller base rows h.1 (sound_after pairs words log h.0))
       (subst (λ b. (state_of pairs words log).pieces b ≡ Some (Change r))
       (sym is) e)
@@ -113,7 +108,7 @@ module _ (pairs : List Pair) (words : ℕ) (opens : CanOpen pairs words) where
       ((placed pairs words log h.0).held record { caller = caller; base = base; size = 9 }
       (holds_installed (start pairs words) log caller base rows h.1).0) is
   fresh_install log caller base rows h (of_mark node r e shut is) =
-      no_piece ((state_of pairs words log).pieces base) (Inner r)
+      no_value ((state_of pairs words log).pieces base) (Inner r)
       (install_free (start pairs words) log caller base rows h.1 (sound_after pairs words log h.0))
       (subst (λ b. (state_of pairs words log).pieces b ≡ Some (Inner r)) (sym is) e)
 

@@ -38,10 +38,10 @@ use Rattle.laws_stability.specs.Words.{FindsItsWord}
 use Rattle.laws_stability.proofs.HoldingLemmas.{rows_later}
 use Rattle.laws_stability.proofs.IdealLemmas.{ideal_put, root_put}
 use Rattle.laws_stability.proofs.LaterLemmas.{done_before, known_later}
-use Rattle.laws_stability.proofs.SetLemmas.{set_by}
 use Rattle.laws_stability.proofs.SlotWordLemmas.{finds, slot_later, slot_of_row}
 use Rattle.ist_core.proofs.ShownLemmas.{row_word}
 use Rattle.ist_core.proofs.PrefixLemmas.{goes_on_by}
+use Rattle.ist_core.proofs.SettingLemmas.{set_by}
 
 -- a Draw of a caller is its own event
 draws_own : (caller rebuild part : ℕ) (event : Event) → Draws caller rebuild part event

@@ -1,11 +1,11 @@
 -- Okays, Decides and Resolves stay enabled under events of others. Serves their clauses.
-use Rattle.std.proofs.Common.{Bool, List, None, Some, ap, arith, false, if◌then◌else◌, refl, subst, sym, true, ℕ, ⊎_elim, ◌*◌, ◌+◌, ◌∙◌, ◌≡◌, ◌≢◌}
+use Rattle.std.proofs.Common.{Bool, List, None, Some, ap, false, if◌then◌else◌, refl, subst, sym, true, ℕ, ⊎_elim, ◌*◌, ◌+◌, ◌∙◌, ◌≡◌, ◌≢◌}
 use Rattle.std.proofs.lemmas.Bool.Decides.{eqb_tells}
 use Rattle.ist_core.specs.declared.events.Event.TheVariants.{Decide, Okay, Resolve}
 use Rattle.ist_core.specs.declared.pairs.Pair.{Pair}
 use Rattle.ist_core.specs.declared.states.ChangeRow.{ChangeRow}
 use Rattle.ist_core.specs.Deciding.{CanDecide, CanOkay, CanResolve, MayBe}
-use Rattle.ist_core.specs.Growing.{AllGrow, ChangeGrows, StatusGoesOn, is_closed, is_finished, is_marked, status_stays}
+use Rattle.ist_core.specs.Growing.{AllGrow, ChangeGrows}
 use Rattle.ist_core.specs.Lawful.{CanOpen, EachEnabled, state_of}
 use Rattle.ist_core.specs.Logs.{GoesOn, Log, Okays}
 use Rattle.ist_core.specs.Pieces.{Change, Inner, as_change}
@@ -19,7 +19,7 @@ use Rattle.ist_core.specs.Writing.{place_of_status, touch_of_okay, touch_of_reso
 use Rattle.ist_core.proofs.FateLemmas.{enabled_before, grow_between}
 use Rattle.ist_core.proofs.GrowingLemmas.{change_there, inner_there}
 use Rattle.ist_core.proofs.PlaceLemmas.{anchor_free}
-use Rattle.ist_core.proofs.SlotLemmas.{no_row, same_inner}
+use Rattle.ist_core.proofs.SlotLemmas.{no_row}
 use Rattle.laws_links.proofs.ChangeLemmas.{undecided_stands}
 use Rattle.laws_stability.specs.Meanwhile.{IsStillUndecided}
 use Rattle.ist_core.specs.Shown.{IsShown}
@@ -28,14 +28,8 @@ use Rattle.laws_stability.proofs.LaterLemmas.{known_later}
 use Rattle.laws_stability.proofs.SlotWordLemmas.{finds, slot_later}
 use Rattle.ist_core.proofs.ShownLemmas.{row_word}
 use Rattle.ist_core.proofs.PrefixLemmas.{happened_later}
-
--- a status that isn't open is never open again
-closed_on : (old new : ℕ) → StatusGoesOn old new → old ≢ open_word → new ≢ open_word
-closed_on old new (status_stays e) closed is = closed (sym e ∙ is)
-closed_on old new (is_marked a b) closed is = closed a
-closed_on old new (is_finished k a b) closed is =
-    let odd : new ≡ 4 * k + 3 = b in absurd (omega arith)
-closed_on old new (is_closed k a b) closed is = closed a
+use Rattle.ist_core.proofs.OptionLemmas.{same_inner}
+use Rattle.ist_core.proofs.FreezingLemmas.{closed_on}
 
 -- if the node of a change in its slot isn't open, it is never open again
 closed_later : (t u : Snapshot) → AllGrow t.pieces u.pieces → u.pieces anchor ≡ None
@@ -54,9 +48,6 @@ closed_later t u g free node i word (in_row r p at) closed (row_is s e is) =
 module _ (pairs : List Pair) (words : ℕ) (opens : CanOpen pairs words) (earlier log : Log)
     (on : GoesOn earlier log)
     (h : EachEnabled (start pairs words) log) where
-  grows : AllGrow (state_of pairs words earlier).pieces (state_of pairs words log).pieces
-  grows = grow_between pairs words earlier log h on
-
   -- the change after the longer log
   change_later : (base : ℕ) (r : ChangeRow) → (state_of pairs words earlier).pieces base ≡ Some
       (Change r)
@@ -64,7 +55,7 @@ module _ (pairs : List Pair) (words : ℕ) (opens : CanOpen pairs words) (earlie
       × ChangeGrows r s
   change_later base r e =
       change_there (state_of pairs words earlier).pieces
-      (state_of pairs words log).pieces grows base r e
+      (state_of pairs words log).pieces (grow_between pairs words earlier log h on) base r e
 
   -- an outcome stays possible
   outcome_later : (base : ℕ) (old new : ChangeRow) (said : Bool)
@@ -75,7 +66,7 @@ module _ (pairs : List Pair) (words : ℕ) (opens : CanOpen pairs words) (earlie
   outcome_later base old new false e none same may =
       let before = enabled_before (start pairs words) earlier log on h in
       subst (λ n. ¬ (IsOpen (state_of pairs words log) n)) (sym same)
-      (closed_later (state_of pairs words earlier) (state_of pairs words log) grows
+      (closed_later (state_of pairs words earlier) (state_of pairs words log) (grow_between pairs words earlier log h on)
       (anchor_free pairs words log h)
       old.node old.index (word_of (ChangeAt base))
       (undecided_stands pairs words opens earlier before base old e none) may)
@@ -135,7 +126,7 @@ module _ (pairs : List Pair) (words : ℕ) (opens : CanOpen pairs words) (earlie
   open_later node (anchor_is a) has = anchor_is a
   open_later node (row_is r e is) has =
       let it = inner_there (state_of pairs words earlier).pieces
-      (state_of pairs words log).pieces grows node r e in
+      (state_of pairs words log).pieces (grow_between pairs words earlier log h on) node r e in
       let out : node ≢ anchor = λ a. no_row (state_of pairs words log).pieces node it.0
       (anchor_free pairs words log h) a it.1 in
       ⊎_elim (λ same. absurd (out same.1))

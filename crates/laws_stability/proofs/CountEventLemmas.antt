@@ -1,6 +1,6 @@
 -- A Count stays enabled under events of others, if none decides a put or remove of its caller yes.
 -- Serves its clause.
-use Rattle.std.proofs.Common.{List, Option, Some, [], ap, inl, inr, option_map, refl, subst, sym, true, ℕ, ⊎_elim, ◌++◌, ◌∙◌, ◌∷◌, ◌≡◌, ◌≢◌}
+use Rattle.std.proofs.Common.{List, Some, [], ap, inl, inr, option_map, refl, subst, sym, true, ℕ, ⊎_elim, ◌++◌, ◌∙◌, ◌∷◌, ◌≡◌, ◌≢◌}
 use Rattle.std.proofs.lemmas.Bool.Decides.{eqb_tells}
 use Rattle.ist_core.specs.declared.events.Event.{Event}
 use Rattle.ist_core.specs.declared.events.Event.TheVariants.{Count, Decide}
@@ -13,21 +13,23 @@ use Rattle.ist_core.specs.Lawful.{EachEnabled, state_of}
 use Rattle.ist_core.specs.Links.{WasOnChain}
 use Rattle.ist_core.specs.Logs.{Counts, Happened, Log}
 use Rattle.laws_links.proofs.DecisionLemmas.{Decides}
-use Rattle.ist_core.specs.Pieces.{Change, Piece, with_decision}
+use Rattle.ist_core.specs.Pieces.{Change, with_decision}
 use Rattle.ist_core.specs.Rebuilding.{IsUpdate}
 use Rattle.ist_core.specs.Snapshots.{Snapshot}
 use Rattle.ist_core.specs.StartLayout.{start}
 use Rattle.ist_core.specs.Statuses.{decided_yes, undecided}
 use Rattle.ist_core.proofs.GrowingLemmas.{change_there}
 use Rattle.ist_core.proofs.RowLemmas.{changed_at-same}
-use Rattle.laws_links.proofs.InductionLemmas.{grow_after}
 use Rattle.laws_stability.specs.Meanwhile.{NoneAccepted}
 use Rattle.ist_core.specs.Authors.{Later, whose, no_more, one_more}
 use Rattle.ist_core.proofs.CallerLemmas.{known_step}
+use Rattle.ist_core.proofs.OptionLemmas.{same_change}
+use Rattle.ist_core.proofs.PrefixLemmas.{happened_left}
+use Rattle.ist_core.proofs.FateLemmas.{grow_after}
 use Rattle.laws_stability.proofs.OwnLemmas.{Was, own_was}
 
 -- a Count of a caller is its own event
-counts_own : (caller node : ℕ) (event : Event) → Counts caller node event
+pub counts_own : (caller node : ℕ) (event : Event) → Counts caller node event
     → whose event ≡ Caller caller
 counts_own caller node (Count c n) is = ap Caller is.0
 counts_own caller node _ is = absurd is
@@ -39,10 +41,6 @@ record IsYes (t : Snapshot) (base : ℕ) : Type 0 where
   change : ChangeRow
   published : t.pieces base ≡ Some (Change change)
   decision : change.decision ≡ decided_yes
-
-one_change : (o : Option Piece) (a b : ChangeRow) → o ≡ Some (Change a) → o ≡ Some (Change b)
-    → a ≡ b
-one_change o a b f k = cc
 
 yes_grows : (t u : Snapshot) → AllGrow t.pieces u.pieces → (base : ℕ) → IsYes t base → IsYes u base
 yes_grows t u g base y =
@@ -65,7 +63,7 @@ blank_same : (t u : Snapshot) → AllGrow t.pieces u.pieces → (base : ℕ) (x 
     → t.pieces base ≡ Some (Change x) → u.pieces base ≡ Some (Change y) → blank x ≡ blank y
 blank_same t u g base x y e f =
     let it = change_there t.pieces u.pieces g base x e in
-    sym it.2.others ∙ ap blank (one_change (u.pieces base) it.0 y it.1 f)
+    sym it.2.others ∙ ap blank (same_change (u.pieces base) it.0 y it.1 f)
 
 -- a put or remove of the caller stays one
 update_grows : (t u : Snapshot) → AllGrow t.pieces u.pieces → (caller base : ℕ)
@@ -112,11 +110,6 @@ happened_back t u caller (event ∷ log) back (inl now) =
     inl (says_back t u caller event (λ b d. back b (inl d)) now)
 happened_back t u caller (event ∷ log) back (inr old) =
     inr (happened_back t u caller log (λ b d. back b (inr d)) old)
-
-happened_left : (P : Event → Type 0) (more log : Log) → Happened P more → Happened P (more ++ log)
-happened_left P [] log is = absurd is
-happened_left P (event ∷ more) log (inl now) = inl now
-happened_left P (event ∷ more) log (inr old) = inr (happened_left P more log old)
 
 module _ (pairs : List Pair) (words : ℕ) where
   -- the change of a Decide with yes is decided yes after it
@@ -167,7 +160,7 @@ module _ (pairs : List Pair) (words : ℕ) where
         let own : was.old.owner ≡ caller = ap (λ y. y.owner) (sym was.grew.others) ∙ owner in
         let yes = yes_now log (Decide c base true) h base (refl, refl) in
         let is : up.change ≡ yes.change =
-        one_change ((state_of pairs words (Decide c base true ∷ log)).pieces base) up.change
+        same_change ((state_of pairs words (Decide c base true ∷ log)).pieces base) up.change
         yes.change up.published yes.published in
         ⊎_elim
         (λ pending.

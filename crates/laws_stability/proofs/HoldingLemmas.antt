@@ -1,17 +1,16 @@
 -- What a caller holds stays while others make events. Serves each clause on events that take held
 -- rows.
-use Rattle.std.proofs.Common.{Bool, List, None, Option, Some, [], ap, false, filter, if◌then◌else◌, inl, inr, length, map, not, refl, subst, sym, true, ℕ, ⊎_elim, ◌++◌, ◌==◌, ◌∙◌, ◌∷◌, ◌≡◌, ◌≢◌}
+use Rattle.std.proofs.Common.{Bool, List, [], ap, false, filter, if◌then◌else◌, inl, inr, length, map, not, refl, subst, sym, true, ℕ, ⊎_elim, ◌++◌, ◌==◌, ◌∙◌, ◌∷◌, ◌≡◌, ◌≢◌}
 use Rattle.std.specs.List.{list_any}
 use Rattle.std.proofs.lemmas.Bool.Decides.{eqb_tells}
+use Rattle.std.proofs.lemmas.Bool.{not-false, ne_eqb}
 use Rattle.ist_core.specs.declared.events.Event.{Event}
 use Rattle.ist_core.specs.declared.events.Event.TheVariants.{Install, Lose, Place, Reserve, Resolve, Root}
 use Rattle.ist_core.specs.declared.events.Who.TheVariants.{Caller}
 use Rattle.ist_core.specs.declared.lists.HeldRow.{HeldRow}
 use Rattle.ist_core.specs.declared.lists.Row.{Row}
 use Rattle.ist_core.specs.declared.pairs.Pair.{Pair}
-use Rattle.ist_core.specs.declared.states.ChangeRow.{ChangeRow}
-use Rattle.ist_core.specs.After.{resolved}
-use Rattle.ist_core.specs.Building.{CanLose, HoldsSizes}
+use Rattle.ist_core.specs.Building.{HoldsSizes}
 use Rattle.ist_core.specs.Elements.{Among}
 use Rattle.ist_core.specs.Enabled.{Enabled}
 use Rattle.ist_core.specs.Lawful.{EachEnabled, state_of}
@@ -19,44 +18,14 @@ use Rattle.ist_core.specs.Logs.{Log, state}
 use Rattle.ist_core.specs.Pieces.{as_change}
 use Rattle.ist_core.specs.Snapshots.{HoldsRow, HoldsRows, Snapshot, bases_of, sizes_held, without}
 use Rattle.ist_core.specs.StartLayout.{start}
-use Rattle.ist_core.proofs.ElementLemmas.{among-filter, among_filter, each-among}
+use Rattle.ist_core.proofs.ElementLemmas.{among-filter, among_filter}
 use Rattle.ist_core.proofs.MoveLemmas.{HeldLieApart}
-use Rattle.ist_core.proofs.PublishingLemmas.{among_bases, row_among}
+use Rattle.ist_core.proofs.PublishingLemmas.{among_bases}
 use Rattle.laws_links.proofs.InductionLemmas.{sound_after}
 use Rattle.ist_core.specs.Authors.{Later, whose, no_more, one_more}
+use Rattle.ist_core.proofs.HoldingLemmas.{rows_holder, lost_holder, held-resolved}
 
 -- ---- who holds a held row
-
--- a held row at a base of rows that a caller holds is that caller's
-rows_holder : (t : Snapshot) (caller : ℕ) (rows : List Row) → HeldLieApart t → HoldsRows t caller rows
-    → (h : HeldRow) → Among h t.held → Among h.base (bases_of rows) → h.caller ≡ caller
-rows_holder t caller rows s held h i among =
-    let it = row_among h.base rows among in
-    ap (λ x. x.caller)
-    (s.once h record { caller = caller; base = it.0.base; size = length it.0.words } i
-    (each-among (λ x. HoldsRow t caller x.base (length x.words)) it.0 rows held it.1) (sym it.2))
-
--- the same for bases with sizes
-sizes_holder : (t : Snapshot) (caller : ℕ) (bases sizes : List ℕ) → HeldLieApart t
-    → HoldsSizes t caller bases sizes → (h : HeldRow) → Among h t.held → Among h.base bases
-    → h.caller ≡ caller
-sizes_holder t caller [] sizes s held h i among = absurd among
-sizes_holder t caller (base ∷ bases) [] s held h i among = absurd held
-sizes_holder t caller (base ∷ bases) (size ∷ sizes) s held h i (inl e) =
-    ap (λ x. x.caller) (s.once h record { caller = caller; base = base; size = size } i held.0 e)
-sizes_holder t caller (base ∷ bases) (size ∷ sizes) s held h i (inr more) =
-    sizes_holder t caller bases sizes s held.1 h i more
-
--- what is lost is the caller's own
-lost_holder : (t : Snapshot) (log : Log) (caller : ℕ) (bases : List ℕ) → HeldLieApart t
-    → CanLose t log caller bases → (h : HeldRow) → Among h t.held → Among h.base bases
-    → h.caller ≡ caller
-lost_holder t log caller bases s can h i among =
-    ⊎_elim
-    (λ p. sizes_holder t caller (p.pair ∷ []) (_ ∷ []) s (p.held, tt) h i
-    (subst (Among h.base) p.bases_are among))
-    (λ b. sizes_holder t caller bases b.sizes s b.held h i among)
-    can.cause
 
 -- ---- lists
 
@@ -79,14 +48,6 @@ filter_last : {A : Type 0} (p : A → Bool) (xs : List A) (x : A) → p x ≡ fa
 filter_last p [] x e = ap (λ b. if b then x ∷ [] else []) e
 filter_last p (y ∷ xs) x e = ap (λ ys. if p y then y ∷ ys else ys) (filter_last p xs x e)
 
-untrue : (b : Bool) → not b ≡ false → b ≡ true
-untrue true e = refl
-untrue false e = sym e
-
--- another caller than this one fails the test for this one
-other_caller : (a b : ℕ) → a ≢ b → (a == b) ≡ false
-other_caller a b ne = ⊎_elim (λ same. absurd (ne same.1)) (λ other. other.0) (eqb_tells a b)
-
 -- ---- what others leave
 
 -- the rows of a caller are none of those at these bases, which are another's
@@ -99,12 +60,8 @@ own_kept t number caller bases other holder =
     t.held
     (λ h i out.
     let at = holder h i
-    (among_bases h.base bases (untrue (list_any (λ base. base == h.base) bases) out)) in
-    other_caller h.caller number (λ e. other (sym at ∙ e)))
-
-held-resolved : (t : Snapshot) (change : Option ChangeRow) → (resolved t change).held ≡ t.held
-held-resolved t None = refl
-held-resolved t (Some change) = refl
+    (among_bases h.base bases (not-false (list_any (λ base. base == h.base) bases) out)) in
+    ne_eqb h.caller number (λ e. other (sym at ∙ e)))
 
 -- an event of another leaves what a caller holds, in its order
 own_step : (first : Snapshot) (log : Log) (event : Event) → Enabled first log event
@@ -126,7 +83,7 @@ own_step first log (Lose caller bases) can s number other =
 own_step first log (Reserve caller base size) can s number other =
     filter_last (λ h. h.caller == number) (state first log).held
     record { caller = caller; base = base; size = size }
-    (other_caller caller number (λ e. other (ap Caller e)))
+    (ne_eqb caller number (λ e. other (ap Caller e)))
 own_step first log (Resolve caller change) can s number other =
     ap (filter (λ h. h.caller == number))
     (held-resolved (state first log) (as_change ((state first log).pieces change)))

@@ -10,6 +10,7 @@ use Rattle.ist_core.specs.Leaves.{PlacedLeaf}
 use Rattle.ist_core.specs.Pieces.{Inner, Leaf, Piece, Pieces, inner_of, with_inners, with_row}
 use Rattle.ist_core.specs.References.{Ref}
 use Rattle.ist_core.specs.Snapshots.{bases_of}
+use Rattle.ist_core.proofs.OptionLemmas.{no_value}
 use Rattle.laws_links.proofs.NewTreeLemmas.{StandInOther, ideal_kept, top_kept}
 
 -- a row after rows are put is one of them, whatever was there before, or was there before
@@ -46,15 +47,12 @@ module _ (ps qs : Pieces) (rows : List Row)
       ⊎_elim (λ put. put) (λ stood. stood.1 ∙ leaf base r stood.0)
       (put_or_stood ps qs rows base (Leaf r) e)
 
-  clash : (o : Option Piece) (p : Piece) → o ≡ None → o ≡ Some p → ⊥
-  clash o p e f = cc
-
   -- a row that is put in the first is also put in the second
   inner_put : (base : ℕ) (p : Piece) → Among base (bases_of rows)
       → with_inners ps rows base ≡ Some p
       → with_inners qs rows base ≡ Some p
   inner_put base p own e =
-      ⊎_elim (λ put. put) (λ stood. absurd (clash (ps base) p (free base own) stood.0))
+      ⊎_elim (λ put. put) (λ stood. absurd (no_value (ps base) p (free base own) stood.0))
       (put_or_stood ps qs rows base p e)
 
   -- what is in the first of the leaves and of the rows is also in the second

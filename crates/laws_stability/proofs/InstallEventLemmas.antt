@@ -1,27 +1,25 @@
 -- An Install stays enabled under events of others. Serves its clause.
-use Rattle.std.proofs.Common.{List, Some, ap, arith, inl, inr, length, slice_get, subst, sym, ℕ, ⊎_elim, ◌∙◌, ◌≡◌, ◌≢◌, ◌≤◌}
+use Rattle.std.proofs.Common.{List, Some, ap, inl, inr, length, slice_get, subst, sym, ℕ, ⊎_elim, ◌∙◌, ◌≡◌, ◌≢◌, ◌≤◌}
 use Rattle.ist_core.specs.declared.events.Event.TheVariants.{Install}
 use Rattle.ist_core.specs.declared.events.Who.TheVariants.{Caller}
 use Rattle.ist_core.specs.declared.lists.Row.{Row}
 use Rattle.ist_core.specs.declared.pairs.Pair.{Pair}
 use Rattle.ist_core.specs.declared.states.ChangeRow.{ChangeRow}
-use Rattle.ist_core.specs.declared.states.InnerRow.{InnerRow}
 use Rattle.ist_core.specs.declared.states.RebuildRow.{RebuildRow}
-use Rattle.ist_core.specs.Arithmetic.{child_count, limit}
-use Rattle.ist_core.specs.Growing.{AllGrow, InnerGrows}
+use Rattle.ist_core.specs.Growing.{AllGrow}
 use Rattle.ist_core.specs.Installing.{CanInstall, ComesByKey, Finishes, FitsKind, Starts, a_finish, a_pair, a_put, a_remove, a_start}
 use Rattle.ist_core.specs.Lawful.{CanOpen, EachEnabled, state_of}
 use Rattle.ist_core.specs.Links.{Leads, Linked}
 use Rattle.ist_core.specs.Logs.{GoesOn, Log}
 use Rattle.ist_core.specs.Pieces.{Rebuild}
-use Rattle.ist_core.specs.Rebuilding.{IsBuilt, IsDue}
+use Rattle.ist_core.specs.Rebuilding.{IsBuilt}
 use Rattle.ist_core.specs.References.{InnerAt, ref_of, unset_word}
-use Rattle.ist_core.specs.Slots.{IsChildFor, SlotHolds, in_row, of_anchor, of_row}
+use Rattle.ist_core.specs.Slots.{SlotHolds, in_row}
 use Rattle.ist_core.specs.Snapshots.{Snapshot}
 use Rattle.ist_core.specs.StartLayout.{start}
 use Rattle.ist_core.specs.Writing.{first_change, touch_of}
 use Rattle.ist_core.proofs.FateLemmas.{enabled_before, grow_between}
-use Rattle.ist_core.proofs.GrowingLemmas.{inner_there, rebuild_there, get_alike}
+use Rattle.ist_core.proofs.GrowingLemmas.{inner_there, rebuild_there, get_alike, due_later, child_remains}
 use Rattle.ist_core.proofs.NamingLemmas.{InnerHere, RootNames}
 use Rattle.ist_core.proofs.OrderLemmas.{names}
 use Rattle.ist_core.proofs.PlaceLemmas.{anchor_free}
@@ -36,25 +34,6 @@ use Rattle.laws_stability.proofs.LaterLemmas.{known_later}
 use Rattle.laws_stability.proofs.OwnLemmas.{unrefused_later}
 use Rattle.laws_stability.proofs.SetLemmas.{set_later}
 use Rattle.laws_stability.proofs.SlotWordLemmas.{finds, slot_later, slot_of_row}
-
--- the child for a key stays the child for it
-child_for_later : (t u : Snapshot) → AllGrow t.pieces u.pieces → (node key i : ℕ)
-    → IsChildFor t node key i
-    → IsChildFor u node key i
-child_for_later t u g node key i (of_anchor a b) = of_anchor a b
-child_for_later t u g node key i (of_row r e is) =
-    let it = inner_there t.pieces u.pieces g node r e in
-    of_row it.0 it.1 (is ∙ ap (λ keys. child_count keys key) (sym it.2.keys))
-
--- a row that is due stays due
-due_later : (old new : InnerRow) → InnerGrows old new → IsDue old → IsDue new
-due_later old new g due =
-    let more = g.count in
-    subst (λ n. limit n ≤ new.count) (sym g.size)
-    (le_on (limit old.size) old.count new.count due more)
-  where
-    le_on : (a b c : ℕ) → a ≤ b → b ≤ c → a ≤ c
-    le_on a b c x y = omega arith
 
 -- a list of the same length had an element at each index at which the other has one
 get_back : (xs ys : List ℕ) (i x : ℕ) → length ys ≡ length xs → slice_get ys i ≡ Some x
@@ -81,7 +60,7 @@ module _ (pairs : List Pair) (words : ℕ) (opens : CanOpen pairs words) {earlie
   by_key_later change c =
       record {
         led = ever_later (start pairs words) (λ t. Leads t change.key change.node) on c.led;
-        index = child_for_later (state_of pairs words earlier)
+        index = child_remains (state_of pairs words earlier)
             (state_of pairs words log) grows change.node change.key
             change.index c.index;
       }

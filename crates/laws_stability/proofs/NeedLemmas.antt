@@ -1,5 +1,6 @@
 -- What the stability law asks for is needed. Serves `laws.premises_are_needed`.
-use Rattle.std.proofs.Common.{List, Option, Some, ap, sym, ℕ, ◌∙◌, ◌≡◌}
+use Rattle.std.proofs.Common.{List, Some, ap, sym, ℕ, ◌∙◌, ◌≡◌}
+use Rattle.std.proofs.lemmas.Option.{same_Some}
 use Rattle.ist_core.specs.declared.events.Event.{Event}
 use Rattle.ist_core.specs.declared.lists.Row.{Row}
 use Rattle.ist_core.specs.declared.pairs.Pair.{Pair}
@@ -12,24 +13,16 @@ use Rattle.ist_core.specs.Installing.{CanInstall}
 use Rattle.ist_core.specs.Lawful.{CanOpen, EachEnabled, state_of}
 use Rattle.ist_core.specs.Logs.{GoesOn, Log, state}
 use Rattle.ist_core.specs.Marking.{CanPass}
-use Rattle.ist_core.specs.Pieces.{Change, Piece}
 use Rattle.ist_core.specs.Snapshots.{Snapshot}
 use Rattle.ist_core.specs.StartLayout.{start}
 use Rattle.ist_core.specs.Writing.{first_change}
 use Rattle.ist_core.proofs.GrowingLemmas.{change_there}
-use Rattle.ist_core.proofs.SlotLemmas.{same_inner}
+use Rattle.ist_core.proofs.OptionLemmas.{same_change, same_inner}
 use Rattle.laws_stability.specs.Meanwhile.{IsMarked, IsStillUndecided, NoneRefused}
 use Rattle.laws_stability.specs.Stability.{AddsNothing}
 use Rattle.laws_stability.specs.Words.{FindsItsWord}
 use Rattle.laws_stability.proofs.FoundWordLemmas.{finds_own}
 use Rattle.laws_stability.proofs.TouchLemmas.{touch_stays}
-
-one_change : (o : Option Piece) (a b : ChangeRow) → o ≡ Some (Change a) → o ≡ Some (Change b)
-    → a ≡ b
-one_change o a b f k = cc
-
-one_first : (a b : ChangeRow) → Some a ≡ Some b → a ≡ b
-one_first a b e = cc
 
 -- an event that is enabled after both logs finds its word
 pub word_needed : (pairs : List Pair) (words : ℕ) → CanOpen pairs words → (earlier log : Log)
@@ -55,8 +48,8 @@ pub none_refused : (first : Snapshot) (t : Snapshot) (log : Log) (caller base : 
 none_refused first t log caller base rows g can change is at old new p own on e refused =
     let u = state first log in
     let it = change_there t.pieces u.pieces g at old p.published in
-    let same : it.0 ≡ new = one_change (u.pieces at) it.0 new it.1 e in
-    let change_is : change ≡ can.change = one_first change can.change
+    let same : it.0 ≡ new = same_change (u.pieces at) it.0 new it.1 e in
+    let change_is : change ≡ can.change = same_Some change can.change
     (sym is ∙ ap first_change can.rows_are) in
     let owner : new.owner ≡ caller = ap (λ x. x.owner) (sym same) ∙ ap (λ x. x.owner) it.2.others
     ∙ own in
@@ -67,7 +60,7 @@ none_refused first t log caller base rows g can change is at old new p own on e 
 -- if an Okay is enabled, its change is undecided
 pub undecided_needed : (t : Snapshot) (caller base : ℕ) → CanOkay t caller base → IsStillUndecided t base
 undecided_needed t caller base can change e =
-    ap (λ x. x.decision) (one_change (t.pieces base) change can.change e can.pending.published)
+    ap (λ x. x.decision) (same_change (t.pieces base) change can.change e can.pending.published)
     ∙ can.pending.unset
 
 -- if a Pass is enabled, its node is marked

@@ -37,9 +37,6 @@ called_later t u g on node (after_rebuild above i word rebuild passed is has) =
 
 module _ (pairs : List Pair) (words : ℕ) (earlier log : Log) (on : GoesOn earlier log)
     (h : EachEnabled (start pairs words) log) where
-  grows : AllGrow (state_of pairs words earlier).pieces (state_of pairs words log).pieces
-  grows = grow_between pairs words earlier log h on
-
   -- the node's row after the longer log
   row_later : (node : ℕ) (r : InnerRow) → (state_of pairs words earlier).pieces node ≡ Some
       (Inner r)
@@ -47,7 +44,7 @@ module _ (pairs : List Pair) (words : ℕ) (earlier log : Log) (on : GoesOn earl
       × (length s.slots ≡ length r.slots)
   row_later node r e =
       let it = inner_there (state_of pairs words earlier).pieces
-      (state_of pairs words log).pieces grows node r e in
+      (state_of pairs words log).pieces (grow_between pairs words earlier log h on) node r e in
       (it.0, it.1, it.2.slots)
 
   -- a Mark stays enabled if the node is open
@@ -65,7 +62,7 @@ module _ (pairs : List Pair) (words : ℕ) (earlier log : Log) (on : GoesOn earl
         row_open =
             sym (row_word pairs words log h node 0 it.0.status (Inner it.0) it.1 refl _ _ has refl);
         called = called_later (state_of pairs words earlier)
-            (state_of pairs words log) grows on node can.called;
+            (state_of pairs words log) (grow_between pairs words earlier log h on) on node can.called;
       }
 
   -- a Finish stays enabled if the node is marked
@@ -85,7 +82,7 @@ module _ (pairs : List Pair) (words : ℕ) (earlier log : Log) (on : GoesOn earl
         marked = sym
             (row_word pairs words log h node 0 it.0.status (Inner it.0) it.1 refl _ _ has refl);
         passed = passed_later (state_of pairs words earlier)
-            (state_of pairs words log) grows on node 0 keys
+            (state_of pairs words log) (grow_between pairs words earlier log h on) on node 0 keys
             can.row.slots it.0.slots it.2 can.passed;
       }
 

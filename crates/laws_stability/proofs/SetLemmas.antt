@@ -1,40 +1,24 @@
 -- A slot that is set stays set: no event puts Unset into a slot. Serves the clause on Install.
-use Rattle.std.proofs.Common.{Bool, List, Some, ap, arith, false, if◌then◌else◌, subst, sym, true, ℕ, ⊎_elim, ◌*◌, ◌+◌, ◌==◌, ◌∙◌, ◌∷◌, ◌≡◌, ◌≢◌}
+use Rattle.std.proofs.Common.{Bool, List, false, if◌then◌else◌, subst, sym, true, ℕ, ⊎_elim, ◌*◌, ◌+◌, ◌==◌, ◌∙◌, ◌∷◌, ◌≡◌, ◌≢◌}
 use Rattle.ist_core.specs.declared.events.Event.{Event}
 use Rattle.ist_core.specs.declared.events.Event.TheVariants.{Install, Place, Resolve}
 use Rattle.ist_core.specs.declared.pairs.Pair.{Pair}
 use Rattle.ist_core.specs.declared.states.ChangeRow.{ChangeRow}
 use Rattle.ist_core.specs.After.{side_of}
-use Rattle.ist_core.specs.Installing.{HasRoomFor, nothing, same_key}
 use Rattle.ist_core.specs.Lawful.{CanOpen, EachEnabled, state_of}
 use Rattle.ist_core.specs.Logs.{GoesOn, Log, one_event, same_log}
-use Rattle.ist_core.specs.References.{ChangeAt, Ref, Unset, ref_of, unset_word, word_of}
+use Rattle.ist_core.specs.References.{ChangeAt, unset_word, word_of}
 use Rattle.ist_core.specs.Slots.{SlotHolds}
 use Rattle.ist_core.specs.Snapshots.{Snapshot}
 use Rattle.ist_core.specs.StartLayout.{start}
 use Rattle.ist_core.specs.Statuses.{decided_yes}
 use Rattle.ist_core.proofs.PlaceLemmas.{anchor_free}
-use Rattle.ist_core.proofs.ReferenceLemmas.{ref_of-unset}
 use Rattle.ist_core.proofs.SlotStepLemmas.{WritesSlot, WritesNoSlot, install_writes, place_writes, resolve_writes, slot_stays}
+use Rattle.ist_core.proofs.SettingLemmas.{change_set, room_set}
 use Rattle.laws_links.proofs.FormLemmas.{IsFormed, of_finish, of_leaf_put, of_pair_put, of_remove, of_start}
 use Rattle.laws_links.proofs.FormedLemmas.{changes_are_formed}
 use Rattle.laws_links.proofs.InductionLemmas.{sound_after}
-
--- a word that reads as anything but Unset isn't Unset
-pub set_by : (word : ℕ) (ref : Ref) → ref_of word ≡ Some ref → ref ≢ Unset → word ≢ unset_word
-set_by word ref is other e = other (one (sym is ∙ ap ref_of e ∙ ref_of-unset))
-  where
-    one : Some ref ≡ Some Unset → ref ≡ Unset
-    one q = cc
-
--- the word of a change isn't Unset
-change_set : (base : ℕ) → word_of (ChangeAt base) ≢ unset_word
-change_set base e = let is : base * 8 + 3 ≡ 7 = e in omega arith
-
--- what a put takes away isn't Unset
-room_set : (t : Snapshot) (key word : ℕ) → HasRoomFor t key word → word ≢ unset_word
-room_set t key word (nothing e) = set_by word _ e (λ q. cc)
-room_set t key word (same_key leaf e h) = set_by word _ e (λ q. cc)
+pub use Rattle.ist_core.proofs.SettingLemmas.{set_by}
 
 -- neither side of a change is Unset
 sides_set : (t : Snapshot) (change : ChangeRow) → IsFormed t change

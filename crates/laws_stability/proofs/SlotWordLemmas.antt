@@ -17,8 +17,9 @@ use Rattle.ist_core.specs.Writing.{Touch, place_in, place_of_slot, touch_of}
 use Rattle.ist_core.proofs.FateLemmas.{enabled_before, grow_between}
 use Rattle.ist_core.proofs.GrowingLemmas.{inner_there, get_alike}
 use Rattle.ist_core.proofs.PlaceLemmas.{anchor_free}
-use Rattle.ist_core.proofs.SlotLemmas.{no_row, same_inner}
+use Rattle.ist_core.proofs.SlotLemmas.{no_row}
 use Rattle.ist_core.specs.Shown.{IsShown}
+use Rattle.ist_core.proofs.OptionLemmas.{same_inner}
 use Rattle.laws_stability.specs.Words.{FindsItsWord}
 use Rattle.laws_stability.proofs.WordLemmas.{slot_word}
 

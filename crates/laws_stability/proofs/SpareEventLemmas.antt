@@ -89,9 +89,6 @@ module _ (pairs : List Pair) (words : ℕ) (opens : CanOpen pairs words) {earlie
     (caller : ℕ)
     (later : Later (Caller caller) earlier log)
     (h : EachEnabled (start pairs words) log) where
-  grows : AllGrow (state_of pairs words earlier).pieces (state_of pairs words log).pieces
-  grows = grow_between pairs words earlier log h (goes_on_by later)
-
   -- a Reserve stays enabled if the first free word is the same
   pub reserve_stays : (base size : ℕ) → CanReserve (state_of pairs words earlier) caller base size
       → FindsItsWord (state_of pairs words earlier) (state_of pairs words log)
@@ -117,7 +114,7 @@ module _ (pairs : List Pair) (words : ℕ) (opens : CanOpen pairs words) {earlie
               building = can.fair.building;
               spare = can.fair.spare;
               merge = can.fair.merge;
-              builds = builds_later t u grows same next can.fair.building can.fair.builds;
+              builds = builds_later t u (grow_between pairs words earlier log h (goes_on_by later)) same next can.fair.building can.fair.builds;
               few = can.fair.few;
               one_each = can.fair.one_each;
             };
@@ -127,7 +124,7 @@ module _ (pairs : List Pair) (words : ℕ) (opens : CanOpen pairs words) {earlie
       → LosesPair (state_of pairs words log) caller bases
   pair_later bases p =
       let it = inner_there (state_of pairs words earlier).pieces
-      (state_of pairs words log).pieces grows p.node p.row p.published in
+      (state_of pairs words log).pieces (grow_between pairs words earlier log h (goes_on_by later)) p.node p.row p.published in
       record {
         pair = p.pair;
         bases_are = p.bases_are;
@@ -146,7 +143,7 @@ module _ (pairs : List Pair) (words : ℕ) (opens : CanOpen pairs words) {earlie
         held = bases_later pairs words caller later h bases b.sizes b.held;
         once = b.once;
         building = building_later (state_of pairs words earlier)
-            (state_of pairs words log) grows b.sizes b.building;
+            (state_of pairs words log) (grow_between pairs words earlier log h (goes_on_by later)) b.sizes b.building;
         beaten = beaten_later caller b.sizes later b.beaten;
       }
 

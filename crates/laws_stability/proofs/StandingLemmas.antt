@@ -17,6 +17,7 @@ use Rattle.ist_core.proofs.PlaceLemmas.{anchor_free}
 use Rattle.ist_core.proofs.SlotLemmas.{slot_once}
 use Rattle.laws_links.proofs.LinkLemmas.{open_linked}
 use Rattle.laws_links.proofs.UntouchedLemmas.{not_the_anchor}
+use Rattle.laws_links.proofs.ReturnLemmas.{one_inner}
 use Rattle.laws_stability.specs.Standing.{StandsAtRow, by_change, by_rebuild, its_own}
 
 -- a row's word is no change's, and set
@@ -25,9 +26,6 @@ no_change row base e = cc
 
 is_set : (row : ℕ) → InnerAt row ≢ Unset
 is_set row e = cc
-
-same_row : (a b : ℕ) → Some (InnerAt a) ≡ Some (InnerAt b) → a ≡ b
-same_row a b e = cc
 
 -- what a word that reads as the row stands for
 stands_for : (t : Snapshot) (node i word row : ℕ) (ref : Option Ref) → ref_of word ≡ ref
@@ -39,7 +37,7 @@ stands_for t node i word row (Some (RebuildAt base)) is named reads =
     by_rebuild base is record {
       row = named.row;
       published = named.published;
-      target_is = same_row named.row.target row (sym (ap rebuild_reads named.published) ∙ reads);
+      target_is = one_inner named.row.target row (sym (ap rebuild_reads named.published) ∙ reads);
     }
 stands_for t node i word row (Some Empty) is named reads = absurd (cc)
 stands_for t node i word row (Some Unset) is named reads = absurd (cc)

@@ -22,10 +22,12 @@ use Rattle.ist_core.proofs.NamingLemmas.{SlotNames, slot_names}
 use Rattle.ist_core.proofs.OrderLemmas.{names}
 use Rattle.ist_core.proofs.ParentLemmas.{one_home}
 use Rattle.ist_core.proofs.PlaceLemmas.{anchor_free}
-use Rattle.ist_core.proofs.SlotLemmas.{same_inner, slot_once}
+use Rattle.ist_core.proofs.SlotLemmas.{slot_once}
 use Rattle.ist_core.proofs.SlotStepLemmas.{place_writes, slot_stays}
+use Rattle.ist_core.proofs.OptionLemmas.{same_inner}
+use Rattle.ist_core.proofs.FateLemmas.{grow_after}
 use Rattle.laws_links.proofs.ComesLemmas.{status_comes}
-use Rattle.laws_links.proofs.InductionLemmas.{grow_after, sound_after}
+use Rattle.laws_links.proofs.InductionLemmas.{sound_after}
 use Rattle.laws_links.proofs.OriginLemmas.{StatusComes, finished_now, is_new, marked_now, status_was}
 use Rattle.laws_links.proofs.CalledLemmas.{closed_is_called}
 use Rattle.laws_links.proofs.ReplacedLemmas.{replaced_unlinked, target_named}

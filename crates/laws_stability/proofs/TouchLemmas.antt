@@ -7,7 +7,6 @@ use Rattle.ist_core.specs.declared.pairs.Pair.{Pair}
 use Rattle.ist_core.specs.declared.states.ChangeRow.{ChangeRow}
 use Rattle.ist_core.specs.After.{side_of}
 use Rattle.ist_core.specs.Enabled.{Enabled}
-use Rattle.ist_core.specs.Growing.{AllGrow}
 use Rattle.ist_core.specs.Lawful.{EachEnabled, state_of}
 use Rattle.ist_core.specs.Logs.{GoesOn, Log}
 use Rattle.ist_core.specs.Pieces.{as_change, as_rebuild}
@@ -18,8 +17,8 @@ use Rattle.ist_core.specs.Statuses.{decided_yes, open_word}
 use Rattle.ist_core.specs.Writing.{Touch, place_of_slot, place_of_status, touch_in_root, touch_of, touch_of_okay, touch_of_place, touch_of_resolve}
 use Rattle.ist_core.proofs.FateLemmas.{grow_between}
 use Rattle.ist_core.proofs.GrowingLemmas.{change_there, rebuild_there}
+use Rattle.ist_core.proofs.SettingLemmas.{set_by}
 use Rattle.laws_stability.specs.Stability.{AddsNothing}
-use Rattle.laws_stability.proofs.SetLemmas.{set_by}
 use Rattle.laws_stability.proofs.SlotWordLemmas.{place_later}
 
 -- a touch of a slot, by its place
@@ -32,9 +31,6 @@ side decision from to = if decision == decided_yes then to else from
 
 module _ (pairs : List Pair) (words : ℕ) (earlier log : Log) (on : GoesOn earlier log)
     (h : EachEnabled (start pairs words) log) where
-  grows : AllGrow (state_of pairs words earlier).pieces (state_of pairs words log).pieces
-  grows = grow_between pairs words earlier log h on
-
   -- a touch of a slot stays
   slot_touch : (node i word found left : ℕ) → SlotHolds (state_of pairs words earlier) node i word
       → touch_at (place_of_slot (state_of pairs words log) node i) found left
@@ -65,14 +61,14 @@ module _ (pairs : List Pair) (words : ℕ) (earlier log : Log) (on : GoesOn earl
       can.rows_are)
   touch_stays (Okay caller base) can adds =
       let it = change_there (state_of pairs words earlier).pieces
-      (state_of pairs words log).pieces grows base can.change can.pending.published in
+      (state_of pairs words log).pieces (grow_between pairs words earlier log h on) base can.change can.pending.published in
       ap (λ o. touch_of_okay (as_change o)) it.1
       ∙ ap (λ n. touch_at (place_of_status n) open_word open_word) (ap (λ x. x.node) it.2.others)
       ∙ sym (ap (λ o. touch_of_okay (as_change o)) can.pending.published)
   touch_stays (Resolve caller base) can adds =
       let t = state_of pairs words earlier in
       let u = state_of pairs words log in
-      let it = change_there t.pieces u.pieces grows base can.change can.published in
+      let it = change_there t.pieces u.pieces (grow_between pairs words earlier log h on) base can.change can.published in
       let node : it.0.node ≡ can.change.node = ap (λ x. x.node) it.2.others in
       let index : it.0.index ≡ can.change.index = ap (λ x. x.index) it.2.others in
       let left : side_of it.0 ≡ side_of can.change =
@@ -89,7 +85,7 @@ module _ (pairs : List Pair) (words : ℕ) (earlier log : Log) (on : GoesOn earl
   touch_stays (Place caller rebuild i word rows) can adds =
       let t = state_of pairs words earlier in
       let u = state_of pairs words log in
-      let it = rebuild_there t.pieces u.pieces grows rebuild can.row can.published in
+      let it = rebuild_there t.pieces u.pieces (grow_between pairs words earlier log h on) rebuild can.row can.published in
       let set : can.row.root ≢ unset_word = set_by can.row.root (InnerAt can.root) can.root_is
       (λ q. cc) in
       ap (λ o. touch_of_place u (as_rebuild o) i word) it.1
