@@ -17,6 +17,7 @@ use Rattle.ist_core.specs.Shown.{shown_next}
 use Rattle.ist_core.specs.declared.events.Who.TheVariants.{Caller as CallerOf}
 use Rattle.ist_core.proofs.ElementLemmas.{among_left, among_right}
 use Rattle.ist_core.proofs.RoomLemmas.{words_same}
+use Rattle.ist_core.proofs.ShownLemmas.{next_word}
 use Rattle.ist_rule.specs.declared.view.View.{View}
 use Rattle.ist_rule.specs.Faces.{TokenFace}
 use Rattle.ist_rule.specs.Rule.{IsSound}
@@ -30,7 +31,6 @@ use Rattle.ist_rows.specs.declared.callers.Caller.{Caller}
 use Rattle.ist_rows.specs.Rows.{Spares, spares_of, IsCaller}
 use Rattle.ist_rows.specs.Building.{IsInBuild, HasTaken}
 use Rattle.ist_rows.specs.Block.{HoldsBlock, reservings, AreNext, ReservedAll, HasNoRoom, MayTakeAll}
-use Rattle.ist_rows.proofs.EnterLemmas.{shown_next_is}
 use Rattle.ist_rows.proofs.ReserveLemmas.{read_on}
 use Rattle.ist_rows.proofs.CallerLemmas.{IsCallerIn, caller_later, fair_inner}
 use Rattle.ist_rows.proofs.CallerGoingLemmas.{caller_goes_on}
@@ -189,7 +189,7 @@ can_reserve_all v number old sizes who several room fair =
       make = make_all v.who number old sizes who;
       known = λ log m. ((state_of v.start v.words log).next, shown_next);
       comes = λ log m shown.
-          let is = shown_next_is v.start v.words log m.lawful.enabled next_place old shown refl in
+          let is = next_word v.start v.words log m.lawful.enabled next_place old shown refl in
           let all = words_same v.start v.words m.lawful.opens log in
           subst (λ n. ComeAt v.start v.words log (reservings number n sizes) next_place n
           (n + sum sizes)) (sym is) (fair log m (omega arith));

@@ -3,6 +3,7 @@
 use Rattle.std.proofs.Common.{◌≡◌, ◌≢◌, ℕ, ◌+◌, ◌<◌, ◌≤◌, ◌⊎◌, ◌==◌, ◌||◌, not, Bool, true, false, if◌then◌else◌, List, [], ◌∷◌, ◌++◌, map, filter, Some, None, refl, sym, ap, ap₂, ◌∙◌, subst, inl, inr, ⊎_elim, append-nil, arith}
 use Rattle.std.proofs.lemmas.Bool.Decides.{eqb_tells}
 use Rattle.std.proofs.lemmas.List.Elements.{filter-append}
+use Rattle.std.proofs.lemmas.Bool.{ne_eqb}
 use Rattle.ist_core.specs.declared.pairs.Pair.{Pair}
 use Rattle.ist_core.specs.declared.lists.HeldRow.{HeldRow}
 use Rattle.ist_core.specs.declared.ports.Full.{Full}
@@ -59,10 +60,6 @@ caller_goes_on who token c g =
     it in
     record { mine = goes_on_who g ∙ c.mine; rows = there.rows; builds = there.builds }
 
--- a test of a base with one that differs
-pub base_differs : (base x : ℕ) → base ≢ x → (base == x) ≡ false
-base_differs base x ne = ⊎_elim (λ k. absurd (ne k.1)) (λ k. k.0) (eqb_tells base x)
-
 -- a base equals itself by the test
 pub base_same : (base : ℕ) → (base == base) ≡ true
 base_same base = ⊎_elim (λ k. k.0) (λ k. absurd (k.1 refl)) (eqb_tells base base)
@@ -77,16 +74,16 @@ pub spare_else : (own : Spares) (kind : Kind) (base x : ℕ) → row_of kind own
     → is_spare (with_spare kind base own) x ≡ is_spare own x
 spare_else own Leaf base x none ne =
     ap (λ a. a || (is_base own.pair x || (is_base own.change x || is_base own.rebuild x)))
-    (base_differs base x ne ∙ sym (ap (λ o. is_base o x) none))
+    (ne_eqb base x ne ∙ sym (ap (λ o. is_base o x) none))
 spare_else own PairKind base x none ne =
     ap (λ a. is_base own.leaf x || (a || (is_base own.change x || is_base own.rebuild x)))
-    (base_differs base x ne ∙ sym (ap (λ o. is_base o x) none))
+    (ne_eqb base x ne ∙ sym (ap (λ o. is_base o x) none))
 spare_else own Change base x none ne =
     ap (λ a. is_base own.leaf x || (is_base own.pair x || (a || is_base own.rebuild x)))
-    (base_differs base x ne ∙ sym (ap (λ o. is_base o x) none))
+    (ne_eqb base x ne ∙ sym (ap (λ o. is_base o x) none))
 spare_else own Rebuild base x none ne =
     ap (λ a. is_base own.leaf x || (is_base own.pair x || (is_base own.change x || a)))
-    (base_differs base x ne ∙ sym (ap (λ o. is_base o x) none))
+    (ne_eqb base x ne ∙ sym (ap (λ o. is_base o x) none))
 
 -- the new row is spare
 pub spare_here : (own : Spares) (kind : Kind) (base : ℕ) → is_spare (with_spare kind base own) base ≡ true

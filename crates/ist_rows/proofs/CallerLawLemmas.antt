@@ -15,12 +15,13 @@ use Rattle.ist_core.specs.declared.events.Who.TheVariants.{Caller as CallerOf}
 use Rattle.ist_rule.specs.Conditions.{IsResolved}
 use Rattle.ist_rule.specs.Faces.{TokenFace}
 use Rattle.ist_rule.specs.Going.{WentOn}
-use Rattle.ist_rule.specs.Learning.{now, Logged, LoggedLoad}
+use Rattle.ist_rule.specs.Learning.{now, Logged, LoggedLoad, Turned, searching}
 use Rattle.ist_rule.specs.Rule.{IsSound}
 use Rattle.ist_rule.proofs.CallLemmas.{installs_not}
 use Rattle.ist_rule.proofs.LaterLemmas.{later-goes_on}
 use Rattle.ist_rule.proofs.UndecidedLemmas.{resolved_on}
 use Rattle.ist_rule.proofs.WentOnLemmas.{later_by-goes_on, went_who, went_now, went_lawful}
+use Rattle.ist_rule.proofs.SearchedOnLemmas.{searching_on}
 use Rattle.ist_rows.specs.declared.callers.Caller.{Caller}
 use Rattle.ist_rows.specs.declared.kinds.Kind.{Kind}
 use Rattle.ist_rows.specs.Rows.{spares_of, is_spare, held_by, build_sizes, IsCaller}
@@ -30,8 +31,9 @@ use Rattle.ist_rows.proofs.BuildLemmas.{ComesAfter}
 use Rattle.ist_rows.proofs.BuildingLemmas.{all_stuck_on}
 use Rattle.ist_rows.proofs.CallerLemmas.{IsCallerIn, caller_later}
 use Rattle.ist_rows.proofs.GivenRowsLemmas.{sizes_given, caller_given}
-use Rattle.ist_rows.proofs.HeldAfterLemmas.{own_number, held_by_own, held_by_went, after_between, caller_between}
+use Rattle.ist_rows.proofs.HeldAfterLemmas.{held_by_own, held_by_went, after_between, caller_between}
 use Rattle.ist_rows.proofs.HeldListLemmas.{held_by_later}
+use Rattle.ist_rows.proofs.CallerGoingLemmas.{base_same}
 
 -- ---- many events
 
@@ -56,7 +58,7 @@ row_went v w g h mine i =
     (among-filter (λ (x : HeldRow). x.caller == h.caller) h (now w).held
     (subst (Among h) (sym same)
     (among_filter (λ (x : HeldRow). x.caller == h.caller) h (now v).held i
-    (own_number h.caller)))).0
+    (base_same h.caller)))).0
 
 -- a caller whose token went on by events that keep rows is still a caller
 pub caller_went : (who : Caller) (token : TokenFace) → IsCaller who
@@ -209,3 +211,12 @@ module _ (old new : Caller) (kinds : List Kind) (event : Event) (bases : List �
       (build_sizes (now new.token.view) n (without_rows kinds (spares_of old)))) (sym without.number)
       (subst (λ x. AreStuck x (build_sizes x old.number (without_rows kinds (spares_of old))))
       (sym m.now_is) is))
+
+-- a caller that began a search is still a caller
+pub caller_begun : (who : Caller) (token : TokenFace) → IsCaller who
+    → Turned who.token.view (searching who.token.view) token.view → IsCaller (record who { token = token })
+caller_begun who token c t =
+    let n = token.view.searches in
+    caller_went (record who { token = record who.token { view = record who.token.view { searches = n } } })
+    token record { mine = c.mine; rows = c.rows; builds = c.builds }
+    (searching_on KeepsRows who.token.view token.view t).went

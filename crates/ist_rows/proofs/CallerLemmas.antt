@@ -1,6 +1,7 @@
 -- Callers across the steps of their tokens. Serves `enter`, `reserve` and `fill`.
 use Rattle.std.proofs.Common.{◌≡◌, ℕ, ◌≤◌, ◌⊎◌, ◌==◌, ◌||◌, not, Bool, true, false, List, [], ◌∷◌, ◌++◌, map, filter, Option, Some, None, refl, sym, ap, ◌∙◌, subst, le_refl, inl, inr, ⊎_elim, arith}
 use Rattle.std.proofs.lemmas.Bool.Decides.{eqb_tells}
+use Rattle.std.proofs.lemmas.Option.{same_Some}
 use Rattle.ist_core.specs.declared.pairs.Pair.{Pair}
 use Rattle.ist_core.specs.declared.lists.HeldRow.{HeldRow}
 use Rattle.ist_core.specs.Elements.{Among, Each, Distinct}
@@ -161,16 +162,13 @@ module _ (pairs : List Pair) (words : ℕ) (log : Log) (enabled : EachEnabled (s
             (λ g i. sub g (inr i)),
       )
 
-  some_one : (a b : ℕ) → Some a ≡ Some b → a ≡ b
-  some_one a b e = cc
-
   -- spare rows of one size are one
   one_size : (g h : HeldRow) → Among g spares → Among h spares → g.size ≡ h.size → g.base ≡ h.base
   one_size g h i j same =
       let a = spare_words g i in
       let b = spare_words h j in
       let kinds = kind_of_words a.0 b.0 (sym a.2 ∙ same ∙ b.2) in
-      some_one g.base h.base (sym a.1 ∙ ap (λ k. row_of k own) kinds ∙ b.1)
+      same_Some g.base h.base (sym a.1 ∙ ap (λ k. row_of k own) kinds ∙ b.1)
 
   -- spare rows with distinct bases have distinct sizes
   pub once_each : (xs : List HeldRow) → ((h : HeldRow) → Among h xs → Among h spares)

@@ -1,22 +1,20 @@
 -- Entering: when it may be made, and what the new caller is. Serves `enter`.
 use Rattle.std.proofs.Common.{◌≡◌, ◌≢◌, ℕ, ◌+◌, ◌<◌, ◌≤◌, ◌⊎◌, ◌&&◌, ◌==◌, nat_lt, not, true, false, if◌then◌else◌, List, [], ◌∷◌, map, filter, Some, None, refl, sym, ap, ap₂, ◌∙◌, subst, le_refl, inl, inr, arith}
 use Rattle.std.proofs.lemmas.Bool.Decides.{eqb_tells, nat_tests}
-use Rattle.ist_core.specs.declared.pairs.Pair.{Pair as PairOf}
 use Rattle.ist_core.specs.declared.lists.HeldRow.{HeldRow}
 use Rattle.ist_core.specs.declared.events.Event.TheVariants.{Enter}
-use Rattle.ist_core.specs.RowLayout.{first_row, next_place, callers_place}
+use Rattle.ist_core.specs.RowLayout.{callers_place}
 use Rattle.ist_core.specs.Elements.{Among}
 use Rattle.ist_core.specs.StartLayout.{start}
 use Rattle.ist_core.specs.Fairness.{AreBuilds, no_build}
 use Rattle.ist_core.specs.Logs.{Log}
 use Rattle.ist_core.specs.Enabled.{CanEnter, caller_limit}
-use Rattle.ist_core.specs.Lawful.{EachEnabled, state_of}
-use Rattle.ist_core.proofs.PlaceLemmas.{placed, claimed_within, next_after_fixed}
-use Rattle.ist_core.specs.Pieces.{Piece, size_of}
+use Rattle.ist_core.specs.Lawful.{state_of}
 use Rattle.ist_rule.specs.declared.view.View.{View}
 use Rattle.ist_core.specs.declared.events.Who.TheVariants.{Maker, Caller as CallerOf, Note}
 use Rattle.ist_core.specs.Authors.{Later, IsIdleIn}
-use Rattle.ist_core.specs.Shown.{IsShown, shown_next, shown_callers, shown_status, shown_slot, shown_row, shown_free}
+use Rattle.ist_core.specs.Shown.{shown_callers}
+use Rattle.ist_core.proofs.ShownLemmas.{callers_word}
 use Rattle.ist_rule.specs.Rule.{IsSound}
 use Rattle.ist_rule.specs.Learning.{now, logging, Logged}
 use Rattle.ist_rule.specs.Conditions.{MayCome, CanAdd}
@@ -30,38 +28,6 @@ use Rattle.ist_rows.specs.Rows.{held_by, spares_of, row_of, is_spare, IsCaller}
 use Rattle.ist_rows.specs.Entering.{HasEntered}
 
 -- ---- what is shown at the fixed places
-
-module _ (pairs : List PairOf) (words : ℕ) (log : Log)
-    (enabled : EachEnabled (start pairs words) log) where
-  -- no row lies at a fixed place
-  row_above : (base : ℕ) (p : Piece) → (state_of pairs words log).pieces base ≡ Some p
-      → first_row ≤ base
-  row_above base p e = (claimed_within pairs words log base (size_of p) enabled
-      ((placed pairs words log enabled).published base p e)).after_fixed
-
-  -- the word at the first place is the first free word
-  pub shown_next_is : (place word : ℕ) → IsShown (state_of pairs words log) place word
-      → place ≡ next_place → word ≡ (state_of pairs words log).next
-  shown_next_is _ _ shown_next e = refl
-  shown_next_is _ _ shown_callers e = absurd (omega arith)
-  shown_next_is _ _ shown_status e = absurd (omega arith)
-  shown_next_is _ _ shown_slot e = absurd (omega arith)
-  shown_next_is _ _ (shown_row base p k there at) e = let low =
-      row_above base p there in absurd (omega arith)
-  shown_next_is _ _ (shown_free far in_it) e = let low =
-      next_after_fixed pairs words log enabled in absurd (omega arith)
-
-  -- the word at its place is the number of callers
-  pub shown_callers_is : (place word : ℕ) → IsShown (state_of pairs words log) place word
-      → place ≡ callers_place → word ≡ (state_of pairs words log).callers
-  shown_callers_is _ _ shown_next e = absurd (omega arith)
-  shown_callers_is _ _ shown_callers e = refl
-  shown_callers_is _ _ shown_status e = absurd (omega arith)
-  shown_callers_is _ _ shown_slot e = absurd (omega arith)
-  shown_callers_is _ _ (shown_row base p k there at) e = let low =
-      row_above base p there in absurd (omega arith)
-  shown_callers_is _ _ (shown_free far in_it) e = let low =
-      next_after_fixed pairs words log enabled in absurd (omega arith)
 
 -- ---- entering
 
@@ -80,7 +46,7 @@ can_enter v s who given few =
       make = λ found. record { mine = sym who; stored = tt; allowed = given };
       known = λ log m. ((state_of v.start v.words log).callers, shown_callers);
       comes = λ log m found shown.
-          let is = shown_callers_is v.start v.words log m.lawful.enabled callers_place found shown
+          let is = callers_word v.start v.words log m.lawful.enabled callers_place found shown
           refl in
           let made = made_there v s who log m in
           record {
@@ -89,7 +55,7 @@ can_enter v s who given few =
                 (sym is);
           };
       fits = λ log m found shown.
-          let is = shown_callers_is v.start v.words log m.lawful.enabled callers_place found shown
+          let is = callers_word v.start v.words log m.lawful.enabled callers_place found shown
           refl in
           let made = made_there v s who log m in
           omega arith;

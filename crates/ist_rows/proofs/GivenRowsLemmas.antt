@@ -2,6 +2,7 @@
 -- `laws.given_rows_go`.
 use Rattle.std.proofs.Common.{◌≡◌, ℕ, ◌⊎◌, ◌==◌, ◌||◌, not, Bool, true, false, if◌then◌else◌, List, [], ◌∷◌, map, filter, Some, None, refl, sym, ap, ap₂, ◌∙◌, subst, inl, inr, ⊎_elim}
 use Rattle.std.specs.List.{list_any}
+use Rattle.std.proofs.lemmas.Option.{none-some}
 use Rattle.ist_core.specs.declared.events.Event.{Event}
 use Rattle.ist_core.specs.declared.lists.HeldRow.{HeldRow}
 use Rattle.ist_core.specs.declared.pairs.Pair.{Pair}
@@ -25,12 +26,10 @@ use Rattle.ist_rows.specs.CallerLaws.{GivesUp, AreBasesOf, without_row, without_
 use Rattle.ist_rows.proofs.BuildLemmas.{builds_on}
 use Rattle.ist_rows.proofs.CallerLemmas.{IsCallerIn, kind_of_words}
 use Rattle.ist_rows.proofs.CallerGoingLemmas.{base_same, or_any}
-use Rattle.ist_rows.proofs.HeldAfterLemmas.{filter_at, held_by_own, held_after-given, after_between}
+use Rattle.ist_rows.proofs.HeldAfterLemmas.{held_by_own, held_after-given, after_between}
+use Rattle.ist_rows.proofs.HeldListLemmas.{filter_here}
 
 -- ---- rows of kinds
-
-none_some : (base : ℕ) → None ≡ Some base → ⊥
-none_some base e = cc
 
 -- without the row of one kind there is no row of it, and the rows of the others are the same
 row_without : (kind other : Kind) (own : Spares)
@@ -163,14 +162,14 @@ builds_left kinds own bases a (h ∷ held) =
     at rest true e =
         let k = kind_given kinds own bases a h.base (among_bases h.base bases e) in
         ap (filter (λ g. not (is_spare (without_rows kinds own) g.base)))
-        (filter_at (λ (g : HeldRow). not (list_any (λ x. x == g.base) bases)) h held false
+        (filter_here (λ (g : HeldRow). not (list_any (λ x. x == g.base) bases)) h held false
         (ap not e))
         ∙ rest
-        ∙ sym (filter_at (λ (g : HeldRow). not (is_spare own g.base)) h held false
+        ∙ sym (filter_here (λ (g : HeldRow). not (is_spare own g.base)) h held false
         (ap not (spare_of k.0 own h.base k.2)))
     at rest false e =
         ap (filter (λ g. not (is_spare (without_rows kinds own) g.base)))
-        (filter_at (λ (g : HeldRow). not (list_any (λ x. x == g.base) bases)) h held true
+        (filter_here (λ (g : HeldRow). not (list_any (λ x. x == g.base) bases)) h held true
         (ap not e))
         ∙ ap₂ (λ v ys. if not v then h ∷ ys else ys)
         (spare_left kinds own bases a h.base e) rest
@@ -207,7 +206,7 @@ module _ (pairs : List Pair) (words : ℕ) (log : Log) (event : Event)
       record { caller = number; base = base; size = kind_words kind }
       (c.rows k.0 base k.2) (c.rows kind base was) refl in
       let one : k.0 ≡ kind = kind_of_words k.0 kind (ap (λ (h : HeldRow). h.size) same) in
-      absurd (none_some base
+      absurd (none-some base
       (sym (row_gone kinds own kind (subst (λ x. Among x kinds) one k.1)) ∙ e))
 
   -- each row that is left is held
@@ -231,7 +230,7 @@ module _ (pairs : List Pair) (words : ℕ) (log : Log) (event : Event)
   caller_given =
       record {
         rows = λ kind base e.
-            ⊎_elim (λ n. absurd (none_some base (sym n ∙ e)))
+            ⊎_elim (λ n. absurd (none-some base (sym n ∙ e)))
             (λ same. row_held kind base e (sym same ∙ e)) (row_left kinds own kind);
         builds = builds_on (state_of pairs words log) (state_of pairs words (event ∷ log))
             (after_between pairs words log (event ∷ log) lawful (one_event event same_log)) _

@@ -21,21 +21,18 @@ use Rattle.ist_core.proofs.ElementLemmas.{among-filter, among_filter}
 use Rattle.ist_core.proofs.FateLemmas.{grow_between}
 use Rattle.ist_core.proofs.RoomLemmas.{words_same}
 use Rattle.ist_core.specs.declared.events.Who.TheVariants.{Caller as CallerOf}
+use Rattle.ist_core.proofs.HoldingLemmas.{held-resolved}
 use Rattle.ist_rule.proofs.HeldBetweenLemmas.{next_between}
-use Rattle.ist_rule.proofs.HeldLemmas.{held-resolved}
 use Rattle.ist_rows.specs.Kinds.{kind_words}
 use Rattle.ist_rows.specs.Rows.{Spares, is_spare, held_by}
 use Rattle.ist_rows.specs.CallerLaws.{KeepsRows, held_after, GivesUp}
 use Rattle.ist_rows.proofs.BuildLemmas.{ComesAfter, builds_on}
 use Rattle.ist_rows.proofs.CallerLemmas.{IsCallerIn}
-use Rattle.ist_rows.proofs.HeldListLemmas.{held_by_step}
+use Rattle.ist_rows.proofs.HeldListLemmas.{held_by_step, filter_here}
+use Rattle.ist_rows.proofs.CallerGoingLemmas.{base_same}
+pub use Rattle.ist_rows.proofs.CallerGoingLemmas.{base_same as own_number}
 
 -- ---- lists
-
--- a filter, by what its test says of the first element
-pub filter_at : {A : Type 0} (p : A → Bool) (x : A) (xs : List A) (b : Bool) → p x ≡ b
-    → filter p (x ∷ xs) ≡ (if b then x ∷ filter p xs else filter p xs)
-filter_at p x xs b e = ap (λ v. if v then x ∷ filter p xs else filter p xs) e
 
 -- two filters, in either order
 pub filter_swap : {A : Type 0} (p q : A → Bool) (xs : List A)
@@ -46,18 +43,18 @@ filter_swap p q (x ∷ xs) = at (filter_swap p q xs) (p x) refl (q x) refl
     at : filter p (filter q xs) ≡ filter q (filter p xs) → (a : Bool) → p x ≡ a → (b : Bool)
         → q x ≡ b → filter p (filter q (x ∷ xs)) ≡ filter q (filter p (x ∷ xs))
     at rest true e true f =
-        ap (filter p) (filter_at q x xs true f) ∙ filter_at p x (filter q xs) true e
-        ∙ ap (λ ys. x ∷ ys) rest ∙ sym (filter_at q x (filter p xs) true f)
-        ∙ ap (filter q) (sym (filter_at p x xs true e))
+        ap (filter p) (filter_here q x xs true f) ∙ filter_here p x (filter q xs) true e
+        ∙ ap (λ ys. x ∷ ys) rest ∙ sym (filter_here q x (filter p xs) true f)
+        ∙ ap (filter q) (sym (filter_here p x xs true e))
     at rest true e false f =
-        ap (filter p) (filter_at q x xs false f) ∙ rest ∙ sym (filter_at q x (filter p xs) false f)
-        ∙ ap (filter q) (sym (filter_at p x xs true e))
+        ap (filter p) (filter_here q x xs false f) ∙ rest ∙ sym (filter_here q x (filter p xs) false f)
+        ∙ ap (filter q) (sym (filter_here p x xs true e))
     at rest false e true f =
-        ap (filter p) (filter_at q x xs true f) ∙ filter_at p x (filter q xs) false e ∙ rest
-        ∙ ap (filter q) (sym (filter_at p x xs false e))
+        ap (filter p) (filter_here q x xs true f) ∙ filter_here p x (filter q xs) false e ∙ rest
+        ∙ ap (filter q) (sym (filter_here p x xs false e))
     at rest false e false f =
-        ap (filter p) (filter_at q x xs false f) ∙ rest
-        ∙ ap (filter q) (sym (filter_at p x xs false e))
+        ap (filter p) (filter_here q x xs false f) ∙ rest
+        ∙ ap (filter q) (sym (filter_here p x xs false e))
 
 -- ---- one event
 
@@ -146,10 +143,6 @@ after_between pairs words old log lawful g =
       grow = grow_between pairs words old log lawful.enabled g;
     }
 
--- a number is found equal to itself
-pub own_number : (n : ℕ) → (n == n) ≡ true
-own_number n = ⊎_elim (λ k. k.0) (λ k. absurd (k.1 refl)) (eqb_tells n n)
-
 -- if a caller holds the same rows, its rows are what they were
 pub caller_between : (pairs : List Pair) (words : ℕ) (old log : Log) (number : ℕ) (own : Spares)
     → Lawful pairs words log → GoesOn old log
@@ -163,7 +156,7 @@ caller_between pairs words old log number own lawful g same c =
           (among-filter (λ (h : HeldRow). h.caller == number) row (state_of pairs words log).held
           (subst (Among row) (sym same)
           (among_filter (λ (h : HeldRow). h.caller == number) row (state_of pairs words old).held
-          (c.rows kind base e) (own_number number)))).0;
+          (c.rows kind base e) (base_same number)))).0;
       builds = builds_on (state_of pairs words old) (state_of pairs words log)
           (after_between pairs words old log lawful g) _
           (subst (λ held. AreBuilds (state_of pairs words old)

@@ -21,7 +21,7 @@ use Rattle.ist_core.proofs.SoundLemmas.{sound}
 use Rattle.ist_core.proofs.StartLemmas.{sound_start}
 use Rattle.ist_core.specs.declared.events.Who.TheVariants.{Caller}
 use Rattle.ist_core.specs.Authors.{no_more, one_more, whose, Later}
-use Rattle.ist_rule.proofs.HeldLemmas.{rows_holder, lost_holder, held-resolved}
+use Rattle.ist_core.proofs.HoldingLemmas.{rows_holder, lost_holder, held-resolved}
 use Rattle.ist_rows.specs.Rows.{held_by}
 
 -- ---- lists

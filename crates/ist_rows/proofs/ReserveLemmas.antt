@@ -12,6 +12,7 @@ use Rattle.ist_core.proofs.RoomLemmas.{next_within, words_same}
 use Rattle.ist_rule.specs.declared.view.View.{View}
 use Rattle.ist_core.specs.declared.events.Who.TheVariants.{Caller}
 use Rattle.ist_core.specs.Shown.{shown_next}
+use Rattle.ist_core.proofs.ShownLemmas.{next_word}
 use Rattle.ist_rule.specs.Rule.{IsSound}
 use Rattle.ist_rule.specs.Learning.{now, GoesOnTo, Looked}
 use Rattle.ist_rule.specs.Conditions.{CanExchange}
@@ -23,7 +24,6 @@ use Rattle.ist_rule.proofs.WentOnLemmas.{goes_on_lawful, goes_on_now, goes_on_we
 use Rattle.ist_rule.specs.Watching.{number_of}
 use Rattle.ist_rows.specs.Fairly.{MayTake, reserving}
 use Rattle.ist_rows.specs.Rows.{HasReadNext, Reserved}
-use Rattle.ist_rows.proofs.EnterLemmas.{shown_next_is}
 
 -- ---- what a reserving leaves
 
@@ -74,7 +74,7 @@ can_reserve v number old size s who room fair =
       make = record { mine = sym who; stored = tt; allowed = tt };
       known = λ log m. ((state_of v.start v.words log).next, shown_next);
       comes = λ log m shown.
-          let is = shown_next_is v.start v.words log m.lawful.enabled next_place old shown refl in
+          let is = next_word v.start v.words log m.lawful.enabled next_place old shown refl in
           let all = words_same v.start v.words m.lawful.opens log in
           let low = s.is_true.low number who in
           let more = callers_later v.start v.words v.log log m.later in

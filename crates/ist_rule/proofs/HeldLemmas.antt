@@ -1,23 +1,20 @@
 -- What callers hold, when others make events. Serves the conjuncts `owns` and `unborn`, and stores.
-use Rattle.std.proofs.Common.{◌≡◌, ◌≢◌, ℕ, zero, suc, List, [], ◌∷◌, length, Option, Some, None, refl, sym, ap, ◌∙◌, subst, inl, inr, ⊎_elim}
+use Rattle.std.proofs.Common.{◌≡◌, ◌≢◌, ℕ, zero, suc, List, [], ◌∷◌, length, Some, refl, sym, ap, ◌∙◌, subst, ⊎_elim}
 use Rattle.ist_core.specs.declared.pairs.Pair.{Pair}
-use Rattle.ist_core.specs.declared.lists.Row.{Row}
 use Rattle.ist_core.specs.declared.lists.HeldRow.{HeldRow}
 use Rattle.ist_core.specs.declared.states.ChangeRow.{ChangeRow}
 use Rattle.ist_core.specs.declared.events.Event.{Event}
 use Rattle.ist_core.specs.declared.events.Event.TheVariants.{Reserve, Install, Resolve, Root, Place, Lose}
 use Rattle.ist_core.specs.Elements.{Among, Each}
 use Rattle.ist_core.specs.Pieces.{Change}
-use Rattle.ist_core.specs.Snapshots.{Snapshot, bases_of, HoldsRow, HoldsRows}
+use Rattle.ist_core.specs.Snapshots.{Snapshot, bases_of}
 use Rattle.ist_core.specs.After.{resolved}
 use Rattle.ist_core.specs.StartLayout.{start, rows_within, rows_from, placed_parts}
 use Rattle.ist_core.specs.Logs.{Log, state}
-use Rattle.ist_core.specs.Building.{HoldsSizes, CanLose}
 use Rattle.ist_core.specs.Enabled.{Enabled}
 use Rattle.ist_core.specs.Lawful.{EachEnabled, state_of}
 use Rattle.ist_core.proofs.ElementLemmas.{among-append, among_left, each-among}
 use Rattle.ist_core.proofs.PieceLemmas.{among-pieces_of}
-use Rattle.ist_core.proofs.PublishingLemmas.{row_among}
 use Rattle.ist_core.proofs.MoveLemmas.{HeldLieApart, without-fate}
 use Rattle.ist_core.proofs.ShapedLemmas.{each-flat_map}
 use Rattle.ist_core.proofs.SoundLemmas.{sound, moves_or_reserves}
@@ -28,49 +25,9 @@ use Rattle.ist_core.specs.Authors.{no_more, one_more, whose, Later, IsIdleIn}
 use Rattle.ist_rule.specs.Standings.{IsBetween}
 use Rattle.ist_rule.proofs.ChangeLemmas.{NoChange}
 use Rattle.ist_rule.proofs.CallLemmas.{installs_not, between_on}
+pub use Rattle.ist_core.proofs.HoldingLemmas.{held-resolved, rows_holder, lost_holder}
 
 -- ---- what others leave
-
--- a held row at a base of rows that a caller holds is that caller's
-pub rows_holder : (t : Snapshot) (caller : ℕ) (rows : List Row) → HeldLieApart t
-    → HoldsRows t caller rows → (h : HeldRow) → Among h t.held
-    → Among h.base (bases_of rows) → h.caller ≡ caller
-rows_holder t caller rows s held h i among =
-    let it = row_among h.base rows among in
-    ap (λ x. x.caller) (s.once h record {
-      caller = caller;
-      base = it.0.base;
-      size =
-          length it.0.words;
-    } i (each-among (λ x. HoldsRow t caller x.base (length x.words)) it.0 rows
-    held it.1) (sym it.2))
-
--- the holder of a row among bases with sizes
-sizes_holder : (t : Snapshot) (caller : ℕ) (bases sizes : List ℕ) → HeldLieApart t
-    → HoldsSizes t caller bases sizes → (h : HeldRow) → Among h t.held
-    → Among h.base bases → h.caller ≡ caller
-sizes_holder t caller [] sizes s held h i among = absurd among
-sizes_holder t caller (base ∷ bases) [] s held h i among = absurd held
-sizes_holder t caller (base ∷ bases) (size ∷ sizes) s held h i (inl e) =
-    ap (λ x. x.caller) (s.once h record { caller = caller; base = base; size = size } i held.0 e)
-sizes_holder t caller (base ∷ bases) (size ∷ sizes) s held h i (inr more) =
-    sizes_holder t caller bases sizes s held.1 h i more
-
--- what is lost is the caller's own
-pub lost_holder : (t : Snapshot) (log : Log) (caller : ℕ) (bases : List ℕ) → HeldLieApart t
-    → CanLose t log caller bases → (h : HeldRow) → Among h t.held
-    → Among h.base bases → h.caller ≡ caller
-lost_holder t log caller bases s can h i among =
-    ⊎_elim
-    (λ p. sizes_holder t caller (p.pair ∷ []) (_ ∷ []) s (p.held, tt) h i
-    (subst (Among h.base) p.bases_are among))
-    (λ b. sizes_holder t caller bases b.sizes s b.held h i among)
-    can.cause
-
--- a Resolve changes nothing of what is held
-pub held-resolved : (t : Snapshot) (change : Option ChangeRow) → (resolved t change).held ≡ t.held
-held-resolved t None = refl
-held-resolved t (Some change) = refl
 
 -- a held row stays if another makes the event
 pub held_by_others : (first : Snapshot) (log : Log) (event : Event) → Enabled first log event

@@ -32,7 +32,7 @@ use Rattle.ist_rule.proofs.ExchangeLemmas.{shown_there, may_come}
 -- ---- lists
 
 -- what is set is there
-here_set : {A : Type 0} (xs : List A) (i : ℕ) (a b : A) → get_elem? xs i ≡ some a
+pub here_set : {A : Type 0} (xs : List A) (i : ℕ) (a b : A) → get_elem? xs i ≡ some a
     → get_elem? (slice_set xs i b) i ≡ some b
 here_set [] i a b e = absurd (cc)
 here_set (x ∷ xs) zero a b e = refl

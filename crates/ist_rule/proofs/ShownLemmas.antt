@@ -1,6 +1,6 @@
 -- Which words the image of a state fixes, and which it leaves to callers. Serves what the rule says
 -- of words.
-use Rattle.std.proofs.Common.{◌≡◌, ◌≢◌, ℕ, ◌+◌, ◌<◌, ◌≤◌, List, slice_get, slice_set, Some, None, Option, sym, ◌∙◌, subst, ⊎_elim, arith}
+use Rattle.std.proofs.Common.{◌≡◌, ◌≢◌, ℕ, ◌+◌, ◌<◌, ◌≤◌, List, slice_get, slice_set, Some, None, sym, ◌∙◌, subst, ⊎_elim, arith}
 use Rattle.std.proofs.Math.ListN.{length-set}
 use Rattle.ist_core.specs.declared.pairs.Pair.{Pair}
 use Rattle.ist_core.specs.declared.lists.HeldRow.{HeldRow}
@@ -17,10 +17,11 @@ use Rattle.ist_core.specs.Logs.{Log}
 use Rattle.ist_core.specs.Enabled.{Enabled}
 use Rattle.ist_core.specs.Lawful.{EachEnabled, CanOpen, state_of}
 use Rattle.ist_core.proofs.SlotLemmas.{get-set_same, get-set_other}
-use Rattle.ist_core.proofs.PlaceLemmas.{placed, claimed_within, claimed_apart, no_piece}
+use Rattle.ist_core.proofs.PlaceLemmas.{placed, claimed_within, claimed_apart}
 use Rattle.ist_core.proofs.SoundLemmas.{sound}
 use Rattle.ist_core.proofs.StartLemmas.{sound_start}
 use Rattle.ist_core.proofs.TouchLemmas.{touches}
+use Rattle.ist_core.proofs.OptionLemmas.{same_value, no_value}
 
 -- ---- words that the image leaves to callers
 
@@ -59,9 +60,6 @@ get_there xs place word e w = get-set_same xs place w word e
 some_one : {m n : ℕ} → Some m ≡ Some n → m ≡ n
 some_one e = cc
 
-one_touch : (o : Option Touch) (a b : Touch) → o ≡ Some a → o ≡ Some b → a ≡ b
-one_touch o a b e f = cc
-
 module _ (pairs : List Pair) (words : ℕ) (log : Log) (enabled : EachEnabled (start pairs words) log)
   where
     -- the words of held rows are loose
@@ -78,7 +76,7 @@ module _ (pairs : List Pair) (words : ℕ) (log : Log) (enabled : EachEnabled (s
           below = omega arith;
           out = λ base p e j small same.
               ⊎_elim
-              (λ one. no_piece ((state_of pairs words log).pieces base) p
+              (λ one. no_value ((state_of pairs words log).pieces base) p
               (subst (λ b. (state_of pairs words log).pieces b ≡ None) one.0 (s.unpublished h i))
               e)
               (λ two. ⊎_elim (λ le. omega arith) (λ le. omega arith) two.1)
@@ -94,13 +92,13 @@ module _ (pairs : List Pair) (words : ℕ) (log : Log) (enabled : EachEnabled (s
         → ¬ (IsLoose (state_of pairs words log) touch.place)
     touch_tight opens image is event able some touch e loose =
         let one = touches pairs words opens log enabled image is event able some in
-        let here = one_touch (touch_of (state_of pairs words log) event) one.touch touch one.is e in
+        let here = same_value (touch_of (state_of pairs words log) event) one.touch touch one.is e in
         let found : slice_get image touch.place ≡ Some touch.found =
         subst (λ t. slice_get image t.place ≡ Some t.found) here one.found in
         let other : List ℕ = slice_set image touch.place (touch.found + 1) in
         let is' = loose_set (state_of pairs words log) image touch.place (touch.found + 1) loose is in
         let two = touches pairs words opens log enabled other is' event able some in
-        let there = one_touch (touch_of (state_of pairs words log) event) two.touch touch two.is e in
+        let there = same_value (touch_of (state_of pairs words log) event) two.touch touch two.is e in
         let found' : slice_get other touch.place ≡ Some touch.found =
         subst (λ t. slice_get other t.place ≡ Some t.found) there two.found in
         let now = get_there image touch.place touch.found found (touch.found + 1) in

@@ -1,44 +1,24 @@
 -- What one event does to the entries and the undecided changes of one caller. Serves the conjunct
 -- `call` of the rule.
-use Rattle.std.proofs.Common.{◌≡◌, ◌≢◌, ℕ, ◌⊎◌, ◌==◌, Bool, true, false, if◌then◌else◌, List, [], ◌∷◌, ◌++◌, Option, Some, None, refl, sym, ap, ap₂, ◌∙◌, inl, inr, append-nil}
+use Rattle.std.proofs.Common.{◌≡◌, ◌≢◌, ℕ, ◌⊎◌, ◌==◌, Bool, true, false, if◌then◌else◌, List, [], ◌∷◌, ◌++◌, Option, Some, None, refl, ap, ◌∙◌, inl, inr, append-nil}
 use Rattle.std.proofs.lemmas.Bool.Decides.{eqb_tells}
 use Rattle.std.proofs.lemmas.List.Elements.{filter-append}
 use Rattle.ist_core.specs.declared.commands.Command.{Command}
-use Rattle.ist_core.specs.declared.commands.Command.TheVariants.{Put, Remove}
 use Rattle.ist_core.specs.declared.pairs.Pair.{Pair}
 use Rattle.ist_core.specs.declared.states.ChangeRow.{ChangeRow}
 use Rattle.ist_core.specs.declared.events.Event.{Event}
 use Rattle.ist_core.specs.declared.events.Event.TheVariants.{Decide}
-use Rattle.ist_core.specs.Statuses.{put_kind, remove_kind}
 use Rattle.ist_core.specs.StartLayout.{start}
 use Rattle.ist_core.specs.Logs.{Log}
-use Rattle.ist_core.specs.Rebuilding.{IsUpdate}
 use Rattle.ist_core.specs.Deciding.{IsPending}
 use Rattle.ist_core.specs.Enabled.{Enabled}
 use Rattle.ist_core.specs.Lawful.{state_of}
 use Rattle.ist_core.specs.Changes.{Entry, changes_of, command_of, reply_of, entry_for, entry_of}
 use Rattle.ist_core.specs.Standing.{entries_by}
+use Rattle.ist_core.proofs.CommandLemmas.{command_update}
 use Rattle.ist_rule.specs.Standings.{IsUndecided}
 
 -- ---- commands and entries
-
--- a change with a command is a put or a remove
-command_update : (r : ChangeRow) (command : Command) → command_of r ≡ Some command → IsUpdate r.kind
-command_update r command e = at (eqb_tells r.kind put_kind) (eqb_tells r.kind remove_kind)
-  where
-    at : (((r.kind == put_kind) ≡ true) × (r.kind ≡ put_kind))
-        ⊎ (((r.kind == put_kind) ≡ false) × (r.kind ≢ put_kind))
-        → (((r.kind == remove_kind) ≡ true) × (r.kind ≡ remove_kind))
-        ⊎ (((r.kind == remove_kind) ≡ false) × (r.kind ≢ remove_kind))
-        → IsUpdate r.kind
-    at (inl k) other = inl k.1
-    at (inr k) (inl m) = inr m.1
-    at (inr k) (inr m) = absurd (none_some
-        (sym (ap₂ (λ p q. if p then Some (Put r.key r.value) else
-        (if q then Some (Remove r.key) else None)) k.0 m.0) ∙ e))
-      where
-        none_some : None ≡ Some command → ⊥
-        none_some f = cc
 
 -- the entries of an owner, of one entry
 one_entry : (number : ℕ) (entry : Entry) (b : Bool) → (entry.owner == number) ≡ b

@@ -12,7 +12,6 @@ use Rattle.ist_core.specs.Snapshots.{Snapshot}
 use Rattle.ist_core.specs.After.{decision_word}
 use Rattle.ist_core.specs.StartLayout.{start}
 use Rattle.ist_core.specs.Logs.{Log, state, Happened, Resolves}
-use Rattle.ist_core.specs.Growing.{ChangeGrows}
 use Rattle.ist_core.specs.Installing.{CanInstall}
 use Rattle.ist_core.specs.Rebuilding.{IsUpdate}
 use Rattle.ist_core.specs.Deciding.{AllResolvedOf}
@@ -26,6 +25,7 @@ use Rattle.ist_core.proofs.SoundLemmas.{sound}
 use Rattle.ist_core.proofs.StartLemmas.{sound_start}
 use Rattle.ist_rule.specs.Standings.{IsUndecided}
 use Rattle.ist_rule.proofs.ChangeLemmas.{ChangeComes, stood, is_installed, change_comes, grows_same_change, grows_undecided}
+use Rattle.laws_histories.proofs.EntryLemmas.{command_stays}
 
 -- ---- changes that are undecided, and changes that are resolved
 
@@ -39,9 +39,6 @@ pub data UndecidedComes (first : Snapshot) (log : Log) (number base : ℕ)
   now_installed : {rows : List Row} (h : CanInstall first log number base rows)
       → IsUpdate h.change.kind → command_of h.change ≡ command
       → UndecidedComes first log number base command (Install number base rows)
-
-same_command : {old new : ChangeRow} → ChangeGrows old new → command_of new ≡ command_of old
-same_command g = ap command_of (g.others)
 
 module _ (pairs : List Pair) (words : ℕ) (log : Log) (event : Event)
     (enabled : EachEnabled (start pairs words) (event ∷ log)) where
@@ -67,11 +64,11 @@ module _ (pairs : List Pair) (words : ℕ) (log : Log) (event : Event)
             owned = sym same.1 ∙ u.owned;
             update = subst IsUpdate same.0 u.update;
           }
-          (sym (same_command g))
+          (sym (command_stays _ _ g))
       at (is_installed {caller = caller} {rows = rows} h g) =
           let same = grows_same_change g in
           by (sym h.owned ∙ sym same.1 ∙ u.owned) h (subst IsUpdate same.0 u.update)
-          (sym (same_command g))
+          (sym (command_stays _ _ g))
         where
           by : {c : ℕ} → c ≡ number → (k : CanInstall first log c base rows)
               → IsUpdate k.change.kind → command_of k.change ≡ command_of u.change

@@ -16,15 +16,17 @@ use Rattle.ist_core.specs.Logs.{Log}
 use Rattle.ist_core.specs.Lawful.{EachEnabled, state_of}
 use Rattle.ist_core.specs.Writing.{place_of_status, place_of_slot, place_in}
 use Rattle.ist_core.proofs.ImageLemmas.{get_below}
-use Rattle.ist_core.proofs.PlaceLemmas.{placed, claimed_within, claimed_apart, one_piece}
+use Rattle.ist_core.proofs.PlaceLemmas.{placed, claimed_within, claimed_apart}
 use Rattle.ist_core.proofs.SoundLemmas.{sound}
 use Rattle.ist_core.proofs.StartLemmas.{sound_start}
 use Rattle.ist_core.proofs.GrowingLemmas.{inner_there}
 use Rattle.ist_core.proofs.StepLemmas.{grow_step}
 use Rattle.ist_core.specs.Shown.{IsShown, shown_next, shown_callers, shown_status, shown_slot, shown_row, shown_free}
+use Rattle.ist_core.proofs.OptionLemmas.{same_value}
 use Rattle.ist_rule.specs.Watching.{IsNode, is_anchor, is_inner, is_change_ref}
 use Rattle.ist_rule.proofs.HeldLemmas.{start_no_change}
 use Rattle.ist_rule.proofs.ChangeLemmas.{ChangeComes, stood, is_installed, change_comes}
+pub use Rattle.ist_core.proofs.IntervalLemmas.{both_true}
 
 -- `Some` is injective
 pub some_one : {A : Type 0} (a b : A) → Some a ≡ Some b → a ≡ b
@@ -65,7 +67,7 @@ module _ (pairs : List Pair) (words : ℕ) (log : Log) (enabled : EachEnabled (s
         ⊎_elim
         (λ one.
         let same : j ≡ k = omega (arith, one.0) in
-        let piece : q ≡ p = one_piece (t.pieces other) q p there
+        let piece : q ≡ p = same_value (t.pieces other) q p there
         (subst (λ b. t.pieces b ≡ Some p) (sym one.0) e) in
         some_one shown word (sym got ∙ ap (λ x. slice_get (words_of x) j) piece ∙ ap
         (slice_get (words_of p)) same ∙ at))
@@ -115,12 +117,6 @@ module _ (pairs : List Pair) (words : ℕ) where
           h.in_slot)
 
 -- ---- tests
-
--- if a conjunction is true, both parts are
-pub both_true : (a b : Bool) → (a && b) ≡ true → (a ≡ true) × (b ≡ true)
-both_true true true e = (refl, refl)
-both_true true false e = absurd (cc)
-both_true false b e = absurd (cc)
 
 -- what a test names
 pub if_some : {A : Type 0} (b : Bool) (x y : A) → (if b then Some x else None) ≡ Some y → (b ≡ true)

@@ -28,13 +28,14 @@ use Rattle.ist_core.specs.declared.events.Who.TheVariants.{Caller}
 use Rattle.ist_core.specs.Authors.{whose, Later}
 use Rattle.ist_core.specs.Shown.{IsShown, shown_status, shown_row}
 use Rattle.ist_core.proofs.PrefixLemmas.{goes_on_by}
+use Rattle.ist_core.proofs.IntervalLemmas.{both_true}
 use Rattle.ist_rule.specs.Rule.{IsSound}
 use Rattle.ist_rule.specs.Learning.{now}
 use Rattle.ist_rule.specs.Conditions.{MayCome, CanMake, LeavesAt, CanLoadAs}
 use Rattle.ist_rule.specs.Watching.{IsNode, is_anchor, is_inner, number_of, waits, okay_of, CanLoadOkay, is_marked, is_change_ref, pass_of, CanLoadPass, past_of, CanLoadPast}
 use Rattle.ist_rule.proofs.GoingOnLemmas.{callers_later}
 use Rattle.ist_rule.proofs.HeldLemmas.{held_later}
-use Rattle.ist_rule.proofs.WatchLemmas.{some_one, shown_in_row, change_node, both_true, if_some, not_true, no_change, status_place_inner, status_place_anchor, place_inner}
+use Rattle.ist_rule.proofs.WatchLemmas.{some_one, shown_in_row, change_node, if_some, not_true, no_change, status_place_inner, status_place_anchor, place_inner}
 
 -- ---- the three loads
 
