@@ -3,15 +3,14 @@ use Rattle.std.proofs.Common.{◌≡◌, ◌≢◌, ℕ, ◌+◌, ◌<◌, ◌�
 use Rattle.std.proofs.lemmas.Bool.Decides.{eqb_tells}
 use Rattle.ist_core.specs.declared.states.InnerRow.{InnerRow}
 use Rattle.ist_core.specs.declared.states.ChangeRow.{ChangeRow}
-use Rattle.ist_core.specs.declared.events.Event.{Event}
 use Rattle.ist_core.specs.declared.events.Event.TheVariants.{Okay, Decide}
 use Rattle.ist_core.specs.RowLayout.{change_decision_offset, change_node_offset}
 use Rattle.ist_core.specs.Statuses.{open_word, undecided, decided_yes}
 use Rattle.ist_core.specs.Pieces.{Inner, Change, as_change}
 use Rattle.ist_core.specs.Snapshots.{Snapshot}
-use Rattle.ist_core.specs.Growing.{AllGrow, StatusGoesOn, status_stays, is_marked, is_finished, is_closed, ChangeGrows}
+use Rattle.ist_core.specs.Growing.{AllGrow, ChangeGrows}
 use Rattle.ist_core.specs.After.{decision_word}
-use Rattle.ist_core.specs.Logs.{Log, GoesOn, same_log, one_event, Happened, Okays}
+use Rattle.ist_core.specs.Logs.{Log, Happened, Okays}
 use Rattle.ist_core.specs.Slots.{IsOpen, anchor_is, row_is}
 use Rattle.ist_core.specs.Deciding.{MayBe}
 use Rattle.ist_core.specs.Lawful.{state_of}
@@ -21,13 +20,16 @@ use Rattle.ist_core.proofs.FateLemmas.{grow_between}
 use Rattle.ist_rule.specs.declared.view.View.{View}
 use Rattle.ist_core.specs.declared.events.Who.TheVariants.{Caller}
 use Rattle.ist_core.specs.Shown.{IsShown, shown_status, shown_row}
+use Rattle.ist_core.proofs.FreezingLemmas.{status_open}
+use Rattle.ist_core.proofs.IntervalLemmas.{both_true}
+use Rattle.ist_core.proofs.PrefixLemmas.{happened_later}
 use Rattle.ist_rule.specs.Rule.{IsSound}
 use Rattle.ist_rule.specs.Learning.{now, made_after, LoadedAs, as_event, as_load}
 use Rattle.ist_rule.specs.Conditions.{MayCome, CanExchange}
 use Rattle.ist_rule.specs.Watching.{IsNode, is_anchor, is_inner, number_of, waits, okay_of}
 use Rattle.ist_rule.proofs.LaterLemmas.{later-goes_on}
 use Rattle.ist_rule.proofs.GoingOnLemmas.{callers_later}
-use Rattle.ist_rule.proofs.WatchLemmas.{shown_in_row, change_node, both_true, if_some, status_place_inner, status_place_anchor}
+use Rattle.ist_rule.proofs.WatchLemmas.{shown_in_row, change_node, if_some, status_place_inner, status_place_anchor}
 use Rattle.ist_dcss.specs.Helping.{MayHelp, Serves}
 use Rattle.ist_dcss.specs.Naming.{settled, okayed, closed, IsField, deciding, IsDecidable}
 use Rattle.ist_rule.specs.Going.{WentOn}
@@ -35,18 +37,6 @@ use Rattle.ist_rule.proofs.WentOnLemmas.{looked_went, logged_load_went, went_now
 use Rattle.ist_dcss.proofs.HelperLemmas.{went_row}
 use Rattle.ist_dcss.proofs.SlotPlaceLemmas.{no_anchor}
 use Rattle.ist_dcss.proofs.FieldLemmas.{field_now}
-
--- what happened in a log happened in each that goes on from it
-pub happened_later : (P : Event → Type 0) (a b : Log) → GoesOn a b → Happened P a → Happened P b
-happened_later P a _ same_log h = h
-happened_later P a _ (one_event {log = log} event g) h = inr (happened_later P a log g h)
-
--- a status that goes on to open was open
-status_open : (a b : ℕ) → StatusGoesOn a b → b ≡ open_word → a ≡ open_word
-status_open a b (status_stays e) o = sym e ∙ o
-status_open a b (is_marked e f) o = e
-status_open a b (is_finished k e f) o = absurd (omega arith)
-status_open a b (is_closed k e f) o = e
 
 -- a node that is open was open
 pub open_before : (t u : Snapshot) → AllGrow t.pieces u.pieces → (node : ℕ) → IsNode t node
@@ -85,7 +75,7 @@ module _ (v : View) (s : IsSound v) (change number : ℕ) (mine : v.who ≡ Call
       → MayBe (state_of v.start v.words log) log change r said
   outcome said (settled set) log m r g unset = absurd (set (sym (g.decided set) ∙ unset))
   outcome _ (okayed h) log m r g unset =
-      happened_later _ v.log log (later-goes_on m.later) h
+      happened_later _ (later-goes_on m.later) h
   outcome _ (closed shut) log m r g unset =
       let u = state_of v.start v.words log in
       λ opened. shut (open_before (now v) u
@@ -136,7 +126,7 @@ open_shown v s node (row_is q e o) =
     (shown_row node (Inner q) 0 e (ap Some o))
 
 -- if a test names an event and none is named, the test fails
-not_named : {A : Type 0} (b : Bool) (x : A) → (if b then Some x else None) ≡ None → b ≡ false
+pub not_named : {A : Type 0} (b : Bool) (x : A) → (if b then Some x else None) ≡ None → b ≡ false
 not_named true x e = absurd (cc)
 not_named false x e = refl
 

@@ -20,12 +20,7 @@ use Rattle.ist_rule.proofs.WentOnLemmas.{looked_went, logged_went, went_now, wen
 use Rattle.ist_dcss.proofs.DecideLemmas.{MayDecide, deciding_is}
 use Rattle.ist_dcss.proofs.HelperLemmas.{went_row}
 use Rattle.ist_dcss.proofs.OutcomeLemmas.{HasFate, fate, okay_seen}
-use Rattle.laws_links.proofs.ChangeLemmas.{yes_has_okay}
-
--- the word of a decision isn't undecided
-pub said_set : (b : Bool) → decision_word b ≢ undecided
-said_set true e = let one : ◌≡◌ {A = ℕ} 1 0 = e in omega arith
-said_set false e = let two : ◌≡◌ {A = ℕ} 2 0 = e in omega arith
+use Rattle.laws_links.proofs.ChangeLemmas.{yes_has_okay, said_something}
 
 -- ---- what the exchange of the decision says
 
@@ -60,7 +55,7 @@ decide_tells v change number said place stood w row there at x =
             record (can.change) { decision = decision_word said },
             piece,
             ap (λ b. if b then decision_word said else stood) (sym k.0),
-            said_set said,
+            said_something said,
           ),
         )
     by_word (inr k) =
@@ -130,7 +125,7 @@ decided_on change v w h said d =
       row = on.0;
       published = on.1;
       decision =
-          on.2.decided (λ e. said_set said (sym d.decision ∙ e)) ∙ d.decision;
+          on.2.decided (λ e. said_something said (sym d.decision ∙ e)) ∙ d.decision;
     }
 
 -- if a change is decided yes, its node was seen open

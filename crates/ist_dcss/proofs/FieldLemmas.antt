@@ -1,6 +1,6 @@
 -- Loads of words of published rows. Serves `field` and `slot_of`.
 use Rattle.std.proofs.Common.{◌≡◌, ◌≢◌, ℕ, ◌+◌, ◌<◌, ◌≤◌, length, slice_get, Some, refl, sym, ap, ap₂, ◌∙◌, subst, arith}
-use Rattle.std.proofs.lemmas.Option.{slice_get-get_or}
+use Rattle.std.proofs.lemmas.Option.{slice_get-get_or, same_Some}
 use Rattle.std.specs.Prelude.{get_or}
 use Rattle.ist_core.specs.declared.states.InnerRow.{InnerRow}
 use Rattle.ist_core.specs.declared.states.ChangeRow.{ChangeRow}
@@ -12,10 +12,11 @@ use Rattle.ist_core.specs.Growing.{ChangeGrows}
 use Rattle.ist_core.specs.Slots.{SlotHolds, in_anchor, in_row}
 use Rattle.ist_core.proofs.GrowingLemmas.{inner_there}
 use Rattle.ist_core.proofs.ImageLemmas.{get_below, get-words_of_slot}
-use Rattle.ist_core.proofs.PlaceLemmas.{placed, claimed_within, one_piece}
+use Rattle.ist_core.proofs.PlaceLemmas.{placed, claimed_within}
 use Rattle.ist_core.proofs.RoomLemmas.{next_within, words_same}
 use Rattle.ist_rule.specs.declared.view.View.{View}
 use Rattle.ist_core.specs.Shown.{IsShown, shown_row}
+use Rattle.ist_core.proofs.OptionLemmas.{same_value}
 use Rattle.ist_rule.specs.Rule.{IsSound}
 use Rattle.ist_rule.specs.Learning.{now, GoesOnTo, Looked}
 use Rattle.ist_rule.proofs.WatchLemmas.{place_inner}
@@ -64,11 +65,7 @@ looked_field v place word w l change offset m less at =
     got at in
     record { row = on.0; published = on.1; is = got ∙ ap Some (sym same) }
 
--- two words that are given are one
-pub some_word : (a b : ℕ) → Some a ≡ Some b → a ≡ b
-some_word a b e = cc
-
-one_change : (p q : ChangeRow) → Change p ≡ Change q → p ≡ q
+pub one_change : (p q : ChangeRow) → Change p ≡ Change q → p ≡ q
 one_change p q e = cc
 
 -- a word of the change's row, by its name
@@ -77,8 +74,8 @@ pub field_now : (v : View) (change offset word : ℕ) → IsField v change offse
     → (row : ChangeRow) → (now v).pieces change ≡ Some (Change row) → word ≡ f row
 field_now v change offset word i f at row there =
     let same : i.row ≡ row = one_change i.row row
-    (one_piece ((now v).pieces change) (Change i.row) (Change row) i.published there) in
-    some_word word (f i.row) (sym i.is ∙ at i.row) ∙ ap f same
+    (same_value ((now v).pieces change) (Change i.row) (Change row) i.published there) in
+    same_Some word (f i.row) (sym i.is ∙ at i.row) ∙ ap f same
 
 -- a word of the change that doesn't change is the same in each later view
 pub field_is : (v : View) (change offset word : ℕ) → IsField v change offset word
@@ -88,8 +85,8 @@ pub field_is : (v : View) (change offset word : ℕ) → IsField v change offset
 field_is v change offset word i f at stays w h row there =
     let on = went_row (Serves change) change v w h i.row i.published in
     let same : on.0 ≡ row = one_change on.0 row
-    (one_piece ((now w).pieces change) (Change on.0) (Change row) on.1 there) in
-    some_word word (f i.row) (sym i.is ∙ at i.row) ∙ sym (stays i.row on.0 on.2) ∙ ap f same
+    (same_value ((now w).pieces change) (Change on.0) (Change row) on.1 there) in
+    same_Some word (f i.row) (sym i.is ∙ at i.row) ∙ sym (stays i.row on.0 on.2) ∙ ap f same
 
 -- ---- the place of a slot
 

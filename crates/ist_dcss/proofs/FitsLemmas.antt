@@ -4,36 +4,27 @@ use Rattle.ist_core.specs.declared.pairs.Pair.{Pair}
 use Rattle.ist_core.specs.declared.lists.Row.{Row}
 use Rattle.ist_core.specs.declared.states.InnerRow.{InnerRow}
 use Rattle.ist_core.specs.declared.states.ChangeRow.{ChangeRow}
-use Rattle.ist_core.specs.Arithmetic.{limit}
 use Rattle.ist_core.specs.References.{ref_of, InnerAt}
 use Rattle.ist_core.specs.Pieces.{Inner, Rebuild}
 use Rattle.ist_core.specs.Snapshots.{Snapshot}
 use Rattle.ist_core.specs.StartLayout.{start}
-use Rattle.ist_core.specs.Growing.{AllGrow, InnerGrows}
+use Rattle.ist_core.specs.Growing.{AllGrow}
 use Rattle.ist_core.specs.Logs.{Log, GoesOn}
 use Rattle.ist_core.specs.Slots.{SlotHolds, in_anchor, in_row}
 use Rattle.ist_core.specs.Links.{Leads}
-use Rattle.ist_core.specs.Rebuilding.{IsDue, IsBuilt}
+use Rattle.ist_core.specs.Rebuilding.{IsBuilt}
 use Rattle.ist_core.specs.Installing.{ComesByKey, FitsKind, a_put, a_pair, a_remove, a_start, a_finish}
 use Rattle.ist_core.specs.Lawful.{EachEnabled, CanOpen, state_of}
-use Rattle.ist_core.proofs.GrowingLemmas.{inner_there, rebuild_there, child_remains}
+use Rattle.ist_core.proofs.GrowingLemmas.{inner_there, rebuild_there, child_remains, due_later}
 use Rattle.ist_core.proofs.FateLemmas.{grow_between, enabled_before}
-use Rattle.ist_core.proofs.ImageLemmas.{get_below}
-use Rattle.ist_core.proofs.SlotLemmas.{same_inner}
+use Rattle.ist_core.proofs.ImageLemmas.{get_below, has_word}
 use Rattle.ist_core.proofs.NamingLemmas.{RootNames}
 use Rattle.ist_core.proofs.OrderLemmas.{names}
 use Rattle.ist_core.specs.declared.states.RebuildRow.{RebuildRow}
 use Rattle.ist_core.proofs.PrefixLemmas.{ever_later}
+use Rattle.ist_core.proofs.OptionLemmas.{same_inner}
 use Rattle.laws_links.proofs.FormLemmas.{leaf_of_grows, room_grows, started_grows}
-use Rattle.ist_dcss.proofs.SlotPlaceLemmas.{word_in}
 use Rattle.ist_dcss.proofs.SetSlotLemmas.{set_later}
-
--- a row that is due is due as it grows
-due_later : (old new : InnerRow) → InnerGrows old new → IsDue old → IsDue new
-due_later old new g due =
-    let more = g.count in
-    let same : limit new.size ≡ limit old.size = ap limit g.size in
-    omega arith
 
 module _ (pairs : List Pair) (words : ℕ) (opens : CanOpen pairs words) (old log : Log)
     (enabled : EachEnabled (start pairs words) log) (on : GoesOn old log) where
@@ -75,7 +66,7 @@ module _ (pairs : List Pair) (words : ℕ) (opens : CanOpen pairs words) (old lo
           let less = get_below s.slots i word at in
           let slots : length it.0.slots ≡ length r.0.slots = it.2.slots in
           let here : length it.0.slots ≡ length s.slots = ap (λ x. length x.slots) same in
-          let got = word_in r.0.slots i (omega arith) in
+          let got = has_word r.0.slots i (omega arith) in
           (got.0, in_row r.0 r.1 got.1)
 
   -- the root of a published rebuild is published

@@ -1,5 +1,6 @@
 -- What an installing says, whether it found its word or another. Serves `install`.
 use Rattle.std.proofs.Common.{◌≡◌, ◌≢◌, ℕ, ◌+◌, ◌*◌, ◌/◌, ◌<◌, List, ◌∷◌, length, slice_get, Some, sym, ap, ap₂, ◌∙◌, subst, arith}
+use Rattle.std.proofs.lemmas.Option.{same_Some}
 use Rattle.ist_core.specs.declared.states.ChangeRow.{ChangeRow}
 use Rattle.ist_core.specs.declared.events.Event.{Event}
 use Rattle.ist_core.specs.declared.events.Event.TheVariants.{Install}
@@ -34,7 +35,6 @@ use Rattle.ist_dcss.specs.declared.decisions.Installed.TheVariants.{Other}
 use Rattle.ist_rule.proofs.WentOnLemmas.{goes_on_now, goes_on_lawful}
 use Rattle.ist_dcss.proofs.SlotPlaceLemmas.{slot_shown, slot_place_later}
 use Rattle.ist_dcss.proofs.InstallLemmas.{held_on, slot_on, own_low, can_install}
-use Rattle.ist_dcss.proofs.FieldLemmas.{some_word}
 
 -- the event that the exchange names
 pub installing_is : (v : View) (f : Filling) (number base new : ℕ) → v.who ≡ Caller number
@@ -44,10 +44,6 @@ installing_is v f number base new who is =
     let number_is : new ≡ base * 8 + 3 = is in
     let at : new / 8 ≡ base = omega arith in
     ap₂ (λ n b. Install n b (rows_of f b)) (ap number_of who) at
-
--- the rows of two changes are of one change
-one_change : (a b : ChangeRow) → Some a ≡ Some b → a ≡ b
-one_change a b e = cc
 
 -- an exchange that found its word installed the change
 pub installed_tells : (v : View) (base : ℕ) (f : Filling) (m : IsInstallable v base f) (u : View)
@@ -60,7 +56,7 @@ installed_tells v base f m u g w l =
     lawful.enabled.1 in
     let t = state_of u.start u.words l.before in
     let is : now w ≡ state_of u.start u.words (event ∷ l.before) = ap now l.view in
-    let same : f.change ≡ can.change = one_change f.change can.change
+    let same : f.change ≡ can.change = same_Some f.change can.change
     (ap first_change can.rows_are) in
     let writes = install_writes (start u.start u.words) l.before m.number base (rows_of f base) can
     (sound_after u.start u.words l.before lawful.enabled.0)
@@ -146,9 +142,9 @@ pub has_loaded : (v : View) (f : Filling) (node index from : ℕ) (a b w : View)
 has_loaded v f node index from a b w g e h i k j =
     record {
       seen = goes_on_more v b w (goes_on_more v a b g h) k;
-      node_is = some_word f.change.node node e;
-      index_is = some_word f.change.index index i;
-      from_is = some_word f.change.from from j;
+      node_is = same_Some f.change.node node e;
+      index_is = same_Some f.change.index index i;
+      from_is = same_Some f.change.from from j;
     }
 
 -- the slot that they name is a slot

@@ -14,7 +14,7 @@ use Rattle.ist_core.specs.Slots.{SlotHolds}
 use Rattle.ist_core.specs.Lawful.{state_of}
 use Rattle.ist_core.specs.Writing.{place_of_slot, touch_of_resolve}
 use Rattle.ist_core.proofs.FateLemmas.{grow_between}
-use Rattle.laws_links.proofs.ChangeLemmas.{unresolved_stands}
+use Rattle.laws_links.proofs.ChangeLemmas.{unresolved_stands, said_something}
 use Rattle.laws_links.proofs.ResolvedLemmas.{resolved_gone}
 use Rattle.ist_rule.specs.declared.view.View.{View}
 use Rattle.ist_core.specs.declared.events.Who.TheVariants.{Caller}
@@ -32,7 +32,6 @@ use Rattle.ist_rule.proofs.WentOnLemmas.{looked_went, logged_went, later_by-goes
 use Rattle.ist_dcss.proofs.HelperLemmas.{went_row}
 use Rattle.ist_dcss.proofs.SlotPlaceLemmas.{change_slot, slot_shown, shown_in_slot, slot_place_later}
 use Rattle.ist_dcss.proofs.FieldLemmas.{field_now}
-use Rattle.ist_dcss.proofs.DecidedLemmas.{said_set}
 use Rattle.ist_dcss.proofs.DecideLemmas.{row_after, number_low}
 
 -- an event resolves the change or doesn't
@@ -219,7 +218,7 @@ may_resolve v change m said d u h place slot w k s side field =
     let all = went_more (Serves change) v u w h k in
     let on = went_row (Serves change) change v w all d.row d.published in
     let more = went_row (Serves change) change u w k slot.row slot.published in
-    let set : d.row.decision ≢ undecided = λ e. said_set said (sym d.decision ∙ e) in
+    let set : d.row.decision ≢ undecided = λ e. said_something said (sym d.decision ∙ e) in
     let is : on.0.decision ≡ decision_word said = on.2.decided set ∙ d.decision in
     let one : on.0 ≡ more.0 = same_row on.0 more.0 on.1 more.1 in
     let node : more.0.node ≡ slot.row.node = ap (λ x. x.node) more.2.others in
@@ -238,7 +237,7 @@ may_resolve v change m said d u h place slot w k s side field =
       mine = went_who (Serves change) v w all ∙ m.mine;
       row = on.0;
       published = on.1;
-      decided = λ e. said_set said (sym is ∙ e);
+      decided = λ e. said_something said (sym is ∙ e);
       at = slot.at ∙ sym moved
           ∙ sym (ap₂ (place_of_slot (now w)) (ap (λ x. x.node) one ∙ node)
           (ap (λ x. x.index) one ∙ index));

@@ -1,11 +1,11 @@
 -- A slot that isn't Unset is never Unset again. Serves what an Install of a finish asks.
-use Rattle.std.proofs.Common.{◌≡◌, ◌≢◌, ℕ, ◌+◌, ◌*◌, ◌⊎◌, ◌==◌, Bool, true, false, if◌then◌else◌, List, ◌∷◌, Some, refl, sym, ap, ◌∙◌, subst, inl, inr, ⊎_elim, arith}
+use Rattle.std.proofs.Common.{◌≡◌, ◌≢◌, ℕ, ◌+◌, ◌*◌, ◌⊎◌, ◌==◌, Bool, true, false, if◌then◌else◌, List, ◌∷◌, Some, refl, sym, ◌∙◌, subst, inl, inr, ⊎_elim}
 use Rattle.ist_core.specs.declared.pairs.Pair.{Pair}
 use Rattle.ist_core.specs.declared.lists.Row.{Row}
 use Rattle.ist_core.specs.declared.states.ChangeRow.{ChangeRow}
 use Rattle.ist_core.specs.declared.events.Event.{Event}
 use Rattle.ist_core.specs.declared.events.Event.TheVariants.{Install, Resolve, Place}
-use Rattle.ist_core.specs.References.{Ref, Unset, ChangeAt, ref_of, word_of, unset_word}
+use Rattle.ist_core.specs.References.{ChangeAt, word_of, unset_word}
 use Rattle.ist_core.specs.Statuses.{decided_yes}
 use Rattle.ist_core.specs.Pieces.{Change}
 use Rattle.ist_core.specs.Snapshots.{Snapshot}
@@ -13,42 +13,33 @@ use Rattle.ist_core.specs.StartLayout.{start}
 use Rattle.ist_core.specs.After.{side_of}
 use Rattle.ist_core.specs.Logs.{Log, GoesOn, same_log, one_event}
 use Rattle.ist_core.specs.Slots.{SlotHolds}
-use Rattle.ist_core.specs.Installing.{HasRoomFor, nothing, same_key, FitsKind, a_put, a_pair, a_remove, a_start, a_finish}
+use Rattle.ist_core.specs.Installing.{FitsKind, a_put, a_pair, a_remove, a_start, a_finish}
 use Rattle.ist_core.specs.Lawful.{EachEnabled, state_of}
 use Rattle.ist_core.proofs.PlaceLemmas.{anchor_free}
-use Rattle.ist_core.proofs.ReferenceLemmas.{ref_of-unset}
 use Rattle.ist_core.proofs.SlotLemmas.{slot_once}
 use Rattle.ist_core.proofs.SlotStepLemmas.{WritesSlot, WritesNoSlot, install_writes, resolve_writes, place_writes, slot_stays}
 use Rattle.ist_core.proofs.FateLemmas.{grow_between}
 use Rattle.ist_core.proofs.GrowingLemmas.{slot_remains}
+use Rattle.ist_core.proofs.SettingLemmas.{change_set, room_set, set_by}
 use Rattle.laws_links.proofs.InductionLemmas.{changes_by, sound_after}
-
--- a word that is read as something else isn't Unset
-not_unset : (word : ℕ) (ref : Ref) → ref_of word ≡ Some ref → (Some ref ≡ Some Unset → ⊥)
-    → word ≢ unset_word
-not_unset word ref is other e = other (sym is ∙ ap ref_of e ∙ ref_of-unset)
 
 -- neither side of the change is Unset
 abbrev pub HasSides : ChangeRow → Type 0
 HasSides x = (x.from ≢ unset_word) × (x.to ≢ unset_word)
 
-room_set : (t : Snapshot) (key word : ℕ) → HasRoomFor t key word → word ≢ unset_word
-room_set t key word (nothing e) = not_unset word _ e (λ f. cc)
-room_set t key word (same_key leaf e h) = not_unset word _ e (λ f. cc)
-
 -- a change of each kind has its sides
 fits_sides : (first : Snapshot) (log : Log) (change : ChangeRow) (fresh : List Row)
     → FitsKind first log change fresh → HasSides change
 fits_sides first log change fresh (a_put h) =
-    (room_set _ change.key change.from h.from, not_unset change.to _ h.to (λ f. cc))
+    (room_set _ change.key change.from h.from, set_by change.to _ h.to (λ q. cc))
 fits_sides first log change fresh (a_pair h) =
-    (not_unset change.from _ h.from (λ f. cc), not_unset change.to _ h.to (λ f. cc))
+    (set_by change.from _ h.from (λ q. cc), set_by change.to _ h.to (λ q. cc))
 fits_sides first log change fresh (a_remove h) =
-    (not_unset change.from _ h.from (λ f. cc), not_unset change.to _ h.to (λ f. cc))
+    (set_by change.from _ h.from (λ q. cc), set_by change.to _ h.to (λ q. cc))
 fits_sides first log change fresh (a_start h) =
-    (not_unset change.from _ h.from (λ f. cc), not_unset change.to _ h.to (λ f. cc))
+    (set_by change.from _ h.from (λ q. cc), set_by change.to _ h.to (λ q. cc))
 fits_sides first log change fresh (a_finish h) =
-    (not_unset change.from _ h.from (λ f. cc), (λ e. h.built.set (sym h.to ∙ e)))
+    (set_by change.from _ h.from (λ q. cc), (λ e. h.built.set (sym h.to ∙ e)))
 
 -- each published change has such sides
 sides : (pairs : List Pair) (words : ℕ) (log : Log) → EachEnabled (start pairs words) log
@@ -66,10 +57,6 @@ side_set x s = at (x.decision == decided_yes)
     at : (b : Bool) → (if b then x.to else x.from) ≢ unset_word
     at true = s.1
     at false = s.0
-
--- the word of a change isn't Unset
-change_set : (base : ℕ) → word_of (ChangeAt base) ≢ unset_word
-change_set base e = let numbers : base * 8 + 3 ≡ 7 = e in omega arith
 
 module _ (pairs : List Pair) (words : ℕ) where
   -- what the slot holds after a write of another word

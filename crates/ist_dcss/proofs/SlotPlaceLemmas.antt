@@ -1,7 +1,5 @@
 -- Where the slot of a change lies, and what is shown there. Serves `slot_of` and `resolve`.
-use Rattle.std.proofs.Common.{◌≡◌, ◌≢◌, ℕ, ◌+◌, ◌<◌, ◌≤◌, List, ◌∷◌, length, slice_get, Some, None, refl, sym, ap, ◌∙◌, subst, arith}
-use Rattle.std.proofs.lemmas.Option.{slice_get-get_or}
-use Rattle.std.specs.Prelude.{get_or}
+use Rattle.std.proofs.Common.{◌≡◌, ◌≢◌, ℕ, ◌+◌, ◌<◌, ◌≤◌, List, ◌∷◌, length, Some, None, refl, sym, ap, ◌∙◌, subst, arith}
 use Rattle.ist_core.specs.declared.pairs.Pair.{Pair}
 use Rattle.ist_core.specs.declared.states.InnerRow.{InnerRow}
 use Rattle.ist_core.specs.declared.states.ChangeRow.{ChangeRow}
@@ -21,13 +19,10 @@ use Rattle.ist_core.proofs.ImageLemmas.{get-words_of_slot}
 use Rattle.ist_core.proofs.PlaceLemmas.{placed, claimed_within, anchor_free, next_after_fixed}
 use Rattle.ist_core.proofs.ShapedLemmas.{shaped}
 use Rattle.ist_core.proofs.GrowingLemmas.{inner_there, slot_remains}
-use Rattle.laws_links.proofs.InductionLemmas.{changes_by, grow_after}
+use Rattle.laws_links.proofs.InductionLemmas.{changes_by}
 use Rattle.ist_core.specs.Shown.{IsShown, shown_next, shown_callers, shown_status, shown_slot, shown_row, shown_free}
+use Rattle.ist_core.proofs.FateLemmas.{grow_after}
 use Rattle.ist_rule.proofs.WatchLemmas.{shown_in_row, place_inner}
-
--- each place of a list has a word
-pub word_in : (xs : List ℕ) (k : ℕ) → k < length xs → (word : ℕ) × (slice_get xs k ≡ Some word)
-word_in xs k low = (get_or xs k 0, slice_get-get_or xs k 0 low)
 
 -- each change has a slot
 pub change_slot : (pairs : List Pair) (words : ℕ) (log : Log) → EachEnabled (start pairs words) log
