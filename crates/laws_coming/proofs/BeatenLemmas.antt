@@ -1,15 +1,13 @@
 -- Where a root was Unset and is set, another's Root of the same sizes lies between. Serves
 -- `laws.builds_come`.
-use Rattle.std.proofs.Common.{◌≡◌, ◌≢◌, ℕ, ◌+◌, ◌*◌, List, ◌∷◌, Some, refl, sym, ap, ◌∙◌, subst, inl, inr, arith}
+use Rattle.std.proofs.Common.{◌≡◌, ◌≢◌, ℕ, ◌+◌, ◌*◌, List, ◌∷◌, Some, refl, sym, ap, ◌∙◌, subst, inl, inr}
 use Rattle.ist_core.specs.declared.events.Event.{Event}
 use Rattle.ist_core.specs.declared.events.Event.TheVariants.{Root, Draw, Place, Lose}
 use Rattle.ist_core.specs.declared.lists.Row.{Row}
 use Rattle.ist_core.specs.declared.pairs.Pair.{Pair}
-use Rattle.ist_core.specs.declared.states.InnerRow.{InnerRow}
 use Rattle.ist_core.specs.declared.states.RebuildRow.{RebuildRow}
 use Rattle.ist_core.specs.References.{unset_word}
-use Rattle.ist_core.specs.Statuses.{finished_word}
-use Rattle.ist_core.specs.Pieces.{Inner, Rebuild}
+use Rattle.ist_core.specs.Pieces.{Rebuild}
 use Rattle.ist_core.specs.Snapshots.{Snapshot, sizes_of}
 use Rattle.ist_core.specs.StartLayout.{start}
 use Rattle.ist_core.specs.Authors.{no_more, one_more, whose, Later}
@@ -21,11 +19,13 @@ use Rattle.ist_core.proofs.AddingLemmas.{held_free}
 use Rattle.laws_links.proofs.ComesLemmas.{rebuild_comes}
 use Rattle.laws_links.proofs.FormLemmas.{finished_with_grows}
 use Rattle.laws_links.proofs.FormedLemmas.{rooted_is_finished}
-use Rattle.laws_links.proofs.InductionLemmas.{grow_after, sound_after}
+use Rattle.laws_links.proofs.InductionLemmas.{sound_after}
 use Rattle.laws_links.proofs.OriginLemmas.{RebuildComes, rebuild_was, is_begun, is_rooted, is_drawn}
 use Rattle.laws_links.proofs.NumberLemmas.{number_is}
 use Rattle.ist_core.specs.declared.events.Who.{Who}
 use Rattle.ist_core.specs.declared.events.Who.TheVariants.{Caller}
+use Rattle.ist_core.proofs.DrawLemmas.{finished_once}
+use Rattle.ist_core.proofs.FateLemmas.{grow_after}
 use Rattle.laws_coming.specs.Builds.{EndsBuild, EndsNone}
 use Rattle.laws_coming.proofs.SizeLemmas.{IsRootSizes, root_sizes, root_sizes_once}
 
@@ -57,20 +57,6 @@ beaten_on number sizes log (Lose c bases) out b = (out, b)
 beaten_on number sizes log _ out b = b
 
 -- ---- roots
-
--- a node is finished with one number
-pub finished_once : (t : Snapshot) (node k n : ℕ) → IsFinishedWith t node k
-    → IsFinishedWith t node n → k ≡ n
-finished_once t node k n a b =
-    let same : a.row ≡ b.row = one a.row b.row a.published b.published in
-    let words : finished_word k ≡ finished_word n =
-    sym a.status ∙ ap (λ r. r.status) same ∙ b.status in
-    let numbers : 4 * k + 3 ≡ 4 * n + 3 = words in
-    omega arith
-  where
-    one : (r s : InnerRow) → t.pieces node ≡ Some (Inner r) → t.pieces node ≡ Some (Inner s)
-        → r ≡ s
-    one r s e f = cc
 
 module _ (pairs : List Pair) (words : ℕ) (opens : CanOpen pairs words) where
   -- the rows of a Root have the sizes of a root over this many keys

@@ -1,6 +1,6 @@
 -- An event that is enabled in the caller's log may be made, whatever others do meanwhile. Serves
 -- `laws.enabled_events_come`.
-use Rattle.std.proofs.Common.{◌≡◌, ℕ, Option, Some, refl, ap, ◌∙◌, subst, sym, arith}
+use Rattle.std.proofs.Common.{◌≡◌, ℕ, Some, refl, ap, ◌∙◌, subst, sym, arith}
 use Rattle.ist_core.specs.declared.events.Event.{Event}
 use Rattle.ist_core.specs.declared.events.Event.TheVariants.{Enter, Reserve, Install, Decide, Resolve, Count, Mark, Finish, Root, Draw, Place}
 use Rattle.ist_core.specs.declared.events.Who.{Who}
@@ -16,6 +16,7 @@ use Rattle.ist_core.specs.Writing.{Touch, touch_of, touch_of_resolve, touch_of_p
 use Rattle.ist_rule.specs.declared.view.View.{View}
 use Rattle.ist_core.specs.Shown.{IsShown}
 use Rattle.ist_core.proofs.PrefixLemmas.{goes_on_by}
+use Rattle.ist_core.proofs.OptionLemmas.{same_value}
 use Rattle.ist_rule.specs.Rule.{IsSound}
 use Rattle.ist_rule.specs.Learning.{now}
 use Rattle.ist_rule.specs.Conditions.{MayCome, CanMake, ComesAt, CanExchange}
@@ -31,9 +32,6 @@ use Rattle.laws_stability.proofs.TouchLemmas.{touch_stays}
 use Rattle.laws_coming.specs.Coming.{IsExchange}
 use Rattle.laws_coming.proofs.KnownLemmas.{IsFast, at_next, in_piece, fast_known, slot_fast}
 
-one_touch : (o : Option Touch) (a b : Touch) → o ≡ Some a → o ≡ Some b → a ≡ b
-one_touch o a b e f = cc
-
 module _ (v : View) (s : IsSound v) where
   -- the place that an enabled exchange touches
   touched : (place old new : ℕ) (event : Event) → ComesAt v v.log event place old new
@@ -41,7 +39,7 @@ module _ (v : View) (s : IsSound v) where
       → IsFast (now v) place
   touched place old new event c touch is fast =
       subst (λ x. IsFast (now v) x.place)
-      (one_touch (touch_of (now v) event) touch record { place = place; found = old; left = new } is
+      (same_value (touch_of (now v) event) touch record { place = place; found = old; left = new } is
       c.touches) fast
 
   place_fast : (place old new : ℕ) (event : Event) → IsExchange event

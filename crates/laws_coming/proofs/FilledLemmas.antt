@@ -24,7 +24,7 @@ use Rattle.ist_core.proofs.AddingLemmas.{held_free}
 use Rattle.ist_core.proofs.FateLemmas.{grow_between}
 use Rattle.ist_core.proofs.GrowingLemmas.{rebuild_there, slot_remains}
 use Rattle.ist_core.proofs.ImageLemmas.{get_below, get-words_of_slot}
-use Rattle.ist_core.proofs.PlaceLemmas.{claimed_apart, claimed_within, one_piece, placed}
+use Rattle.ist_core.proofs.PlaceLemmas.{claimed_apart, claimed_within, placed}
 use Rattle.ist_core.proofs.ShapedLemmas.{shaped}
 use Rattle.laws_links.proofs.FormLemmas.{finished_with_grows}
 use Rattle.laws_links.proofs.FormedLemmas.{rooted_is_finished}
@@ -33,10 +33,11 @@ use Rattle.laws_links.proofs.BuiltLemmas.{root_once}
 use Rattle.laws_links.proofs.NumberLemmas.{number_is}
 use Rattle.ist_core.specs.Shown.{IsShown, shown_next, shown_callers, shown_status, shown_slot, shown_row, shown_free}
 use Rattle.ist_core.proofs.PrefixLemmas.{goes_on_more, goes_on_by}
-use Rattle.ist_core.proofs.DrawLemmas.{same_rebuild}
-use Rattle.laws_stability.proofs.SetLemmas.{set_by}
+use Rattle.ist_core.proofs.OptionLemmas.{same_value, same_rebuild}
+use Rattle.ist_core.proofs.SettingLemmas.{set_by}
+use Rattle.ist_core.proofs.DrawLemmas.{finished_once}
 use Rattle.laws_coming.specs.Builds.{EndsBuild, EndsNone}
-use Rattle.laws_coming.proofs.BeatenLemmas.{beaten_on, finished_once}
+use Rattle.laws_coming.proofs.BeatenLemmas.{beaten_on}
 use Rattle.laws_coming.proofs.KnownLemmas.{same_size}
 use Rattle.laws_coming.proofs.PlacedLemmas.{IsPlaceIn, is_place, filled, part_length, part_sizes}
 
@@ -79,7 +80,7 @@ module _ (pairs : List Pair) (words : ℕ) (prefix log : Log) (on : GoesOn prefi
           let whole = inner_size row in
           ⊎_elim
           (λ one.
-          let here = one_piece ((state_of pairs words log).pieces node) it.0 (Inner row)
+          let here = same_value ((state_of pairs words log).pieces node) it.0 (Inner row)
           (subst (λ b. (state_of pairs words log).pieces b ≡ Some it.0) one.0 it.1) published in
           let old = was_inner p row (subst (Grows p) here it.2) in
           let same_keys = ap length old.2.keys in

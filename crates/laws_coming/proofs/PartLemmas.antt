@@ -30,10 +30,11 @@ use Rattle.ist_rule.specs.declared.view.View.{View}
 use Rattle.ist_core.specs.declared.events.Who.TheVariants.{Caller}
 use Rattle.ist_core.specs.Shown.{IsShown}
 use Rattle.ist_core.proofs.PrefixLemmas.{goes_on_by}
+use Rattle.ist_core.proofs.SettingLemmas.{set_by}
 use Rattle.ist_rule.specs.Rule.{IsSound}
 use Rattle.ist_rule.specs.Learning.{now}
 use Rattle.ist_rule.specs.Conditions.{MayCome, CanMake, StoredAll, CanExchange, LeavesAt, CanExchangeOrLose}
-use Rattle.laws_stability.proofs.SetLemmas.{set_by, set_later}
+use Rattle.laws_stability.proofs.SetLemmas.{set_later}
 use Rattle.laws_stability.proofs.SlotWordLemmas.{place_later, place_of_row}
 use Rattle.laws_stability.proofs.WordLemmas.{slot_word}
 use Rattle.laws_coming.specs.Builds.{IsPartBuilt, WasUnset}

@@ -20,7 +20,7 @@ use Rattle.ist_core.specs.Logs.{Log, state}
 use Rattle.ist_core.specs.Leaves.{PlacedLeaf}
 use Rattle.ist_core.specs.Ideals.{IsIdeal}
 use Rattle.ist_core.specs.Slots.{SlotHolds}
-use Rattle.ist_core.specs.Installing.{HasRoomFor, nothing, same_key, FitsKind, a_put, a_pair, a_remove, a_start, a_finish}
+use Rattle.ist_core.specs.Installing.{FitsKind, a_put, a_pair, a_remove, a_start, a_finish}
 use Rattle.ist_core.specs.Building.{CanPlace}
 use Rattle.ist_core.specs.Lawful.{EachEnabled, state_of}
 use Rattle.ist_core.proofs.LayoutLemmas.{length-parts}
@@ -28,8 +28,8 @@ use Rattle.ist_core.proofs.PlaceLemmas.{anchor_free}
 use Rattle.ist_core.proofs.PublishingLemmas.{ideal_stands}
 use Rattle.ist_core.proofs.SlotLemmas.{slot_once}
 use Rattle.ist_core.proofs.SlotStepLemmas.{WritesSlot, WritesNoSlot, install_writes, place_writes, resolve_writes, slot_stays}
+use Rattle.ist_core.proofs.SettingLemmas.{set_by, change_set, room_set}
 use Rattle.laws_links.proofs.InductionLemmas.{sound_after}
-use Rattle.laws_stability.proofs.SetLemmas.{set_by}
 use Rattle.laws_coming.proofs.SizeLemmas.{ideal_sizes, published_sizes, lengths_of_parts}
 
 -- ---- sizes
@@ -62,14 +62,6 @@ part_sizes ps rows ref part above once free ideal =
     ∙ ideal_sizes (with_inners ps rows) ref part above (bases_of rows) ideal
 
 -- ---- slots
-
--- the word of a change isn't Unset
-change_set : (base : ℕ) → word_of (ChangeAt base) ≢ unset_word
-change_set base e = let is : base * 8 + 3 ≡ 7 = e in omega arith
-
-room_set : (t : Snapshot) (key word : ℕ) → HasRoomFor t key word → word ≢ unset_word
-room_set t key word (nothing e) = set_by word _ e (λ q. cc)
-room_set t key word (same_key leaf e h) = set_by word _ e (λ q. cc)
 
 -- the word that a change takes away isn't Unset
 from_set : (first : Snapshot) (log : Log) (change : ChangeRow) (fresh : List Row)
