@@ -5,7 +5,7 @@ use Rattle.ist_core.specs.References.{Empty, Unset, LeafAt, InnerAt, ChangeAt, R
 use Rattle.ist_core.specs.Logs.{Passes}
 use Rattle.ist_core.specs.Marking.{HasTarget, as_child, after_rebuild, IsFrozen, CountsFor, no_key, one_key}
 use Rattle.ist_core.proofs.NamingLemmas.{SideNames, IsRebuildFor}
-use Rattle.ist_core.proofs.DrawLemmas.{same_rebuild}
+use Rattle.ist_core.proofs.OptionLemmas.{same_rebuild}
 use Rattle.ist_rule.specs.declared.view.View.{View}
 use Rattle.ist_rule.specs.Rule.{IsSound}
 use Rattle.ist_rule.specs.Learning.{now}
@@ -17,6 +17,7 @@ use Rattle.ist_mark.specs.Marking.{to_row, to_target}
 use Rattle.ist_mark.specs.Passing.{HangsBelow, PassedWith}
 use Rattle.ist_mark.proofs.KeepingLemmas.{happened_went}
 use Rattle.ist_mark.proofs.NodeLemmas.{frozen_names, target_inner}
+pub use Rattle.ist_layout.proofs.MeaningLemmas.{word_names as read_as}
 
 -- ---- words
 
@@ -58,12 +59,6 @@ target_below v s node i word rebuild child p is t =
     }
 
 -- ---- the word as it is read
-
--- what the word is read as
-pub read_as : (word : ℕ) (o : Option layout.Ref) (x r : layout.Ref)
-    → option_map ref_meant o ≡ ref_of word → o ≡ Some x → x ≡ r → ref_of word ≡ Some (ref_meant r)
-read_as word o x r e is same =
-    sym e ∙ ap (option_map ref_meant) is ∙ ap (λ y. Some (ref_meant y)) same
 
 -- or as nothing
 pub read_none : (word : ℕ) (o : Option layout.Ref) → option_map ref_meant o ≡ ref_of word

@@ -11,9 +11,9 @@ use Rattle.ist_core.specs.Marking.{HasTarget, CountsFor, no_key, one_key, of_chi
 use Rattle.ist_core.specs.Rebuilding.{IsFinishedWith}
 use Rattle.ist_core.specs.Lawful.{EachEnabled, CanOpen, state_of}
 use Rattle.ist_core.proofs.FrozenLemmas.{passes_agree}
-use Rattle.ist_core.proofs.DrawLemmas.{same_rebuild}
+use Rattle.ist_core.proofs.OptionLemmas.{same_rebuild}
+use Rattle.ist_core.proofs.DrawLemmas.{finished_once}
 use Rattle.laws_links.proofs.FinishedLeafLemmas.{finished_few}
-use Rattle.laws_coming.proofs.BeatenLemmas.{finished_once}
 use Rattle.ist_mark.specs.Passing.{AreCounted, no_slot_yet, one_slot_more}
 
 -- ---- one number

@@ -15,6 +15,7 @@ use Rattle.ist_core.proofs.FateLemmas.{grow_between}
 use Rattle.ist_core.proofs.GrowingLemmas.{inner_there}
 use Rattle.ist_core.proofs.RowLemmas.{changed_at-same}
 use Rattle.ist_core.proofs.ShapedLemmas.{shaped}
+use Rattle.ist_core.proofs.FreezingLemmas.{closed_on}
 use Rattle.laws_links.proofs.FinishedLemmas.{finished_passed}
 use Rattle.laws_links.proofs.FinishedLeafLemmas.{finished_few}
 use Rattle.ist_rule.specs.declared.view.View.{View}
@@ -35,7 +36,7 @@ use Rattle.ist_mark.specs.Passing.{MayFinish, AreCounted}
 use Rattle.ist_mark.proofs.CountLemmas.{counted_all, passed_once}
 use Rattle.ist_mark.proofs.KeepingLemmas.{inner_went, counted_went}
 use Rattle.ist_mark.proofs.MarkLemmas.{before_enabled, status_known}
-use Rattle.ist_mark.proofs.NodeLemmas.{closed_stays, closed_status}
+use Rattle.ist_mark.proofs.NodeLemmas.{closed_status}
 
 -- after a Finish the node is finished
 finished_after : (t : Snapshot) (node keys : ℕ) (r : InnerRow) → t.pieces node ≡ Some (Inner r)
@@ -147,7 +148,7 @@ module _ (v : View) (s : IsSound v) (node keys : ℕ) (m : MayFinish v node keys
               subst (IsFinishedWith (now w) node) one
               record { row = on.0; published = on.1; status = f.1 })
               (closed_status w.start w.words w.log enabled node on.0 on.1
-              (closed_stays m.row.status on.0.status on.2.status m.closed)),
+              (closed_on m.row.status on.0.status on.2.status m.closed)),
         )
 
     -- the event that the exchange names

@@ -18,7 +18,7 @@ use Rattle.ist_rule.proofs.WentOnLemmas.{later_by-goes_on, went_grow, went_who}
 use Rattle.ist_mark.specs.Marking.{MayMark}
 use Rattle.ist_mark.specs.Passing.{IsClosed, MayPass, AreCounted, no_slot_yet, one_slot_more}
 use Rattle.ist_core.proofs.FinishedLemmas.{counts_grows}
-use Rattle.ist_mark.proofs.NodeLemmas.{closed_stays}
+use Rattle.ist_core.proofs.FreezingLemmas.{closed_on}
 
 module _ (P : Event → Type 0) (v w : View) (g : WentOn P v w) where
   -- what happened in the log happened
@@ -37,7 +37,7 @@ module _ (P : Event → Type 0) (v w : View) (g : WentOn P v w) where
       record {
         row = it.0;
         published = it.1;
-        closed = closed_stays c.row.status it.0.status it.2.status c.closed;
+        closed = closed_on c.row.status it.0.status it.2.status c.closed;
       }
 
   -- who might pass its slots may
@@ -49,7 +49,7 @@ module _ (P : Event → Type 0) (v w : View) (g : WentOn P v w) where
         mine = went_who P v w g ∙ m.mine;
         row = it.0;
         published = it.1;
-        closed = closed_stays m.row.status it.0.status it.2.status m.closed;
+        closed = closed_on m.row.status it.0.status it.2.status m.closed;
         degree_is = it.2.degree ∙ m.degree_is;
       }
 

@@ -1,35 +1,28 @@
 -- Nodes that have a cause to be marked, what passed words name, and statuses. Serves `statuses` and
 -- `passing`.
-use Rattle.std.proofs.Common.{◌≡◌, ◌≢◌, ℕ, ◌+◌, ◌*◌, ◌<◌, ◌⊎◌, List, ◌∷◌, [], Option, Some, None, refl, sym, ◌∙◌, subst, inl, inr, ⊎_elim, arith}
+use Rattle.std.proofs.Common.{◌≡◌, ◌≢◌, ℕ, ◌+◌, ◌*◌, ◌<◌, ◌⊎◌, List, ◌∷◌, [], Some, sym, ◌∙◌, subst, inl, inr, ⊎_elim}
 use Rattle.ist_core.specs.declared.events.Event.{Event}
 use Rattle.ist_core.specs.declared.pairs.Pair.{Pair}
 use Rattle.ist_core.specs.declared.states.InnerRow.{InnerRow}
 use Rattle.ist_core.specs.declared.states.RebuildRow.{RebuildRow}
-use Rattle.ist_core.specs.References.{Ref, Empty, Unset, LeafAt, InnerAt, ChangeAt, RebuildAt, ref_of}
+use Rattle.ist_core.specs.References.{Unset, ref_of}
 use Rattle.ist_core.specs.Statuses.{open_word, marked_word, finished_word}
-use Rattle.ist_core.specs.Pieces.{Pieces, Inner, Rebuild}
+use Rattle.ist_core.specs.Pieces.{Inner, Rebuild}
 use Rattle.ist_core.specs.StartLayout.{start}
-use Rattle.ist_core.specs.Growing.{StatusGoesOn, status_stays, is_marked, is_finished, is_closed}
 use Rattle.ist_core.specs.Logs.{Log}
 use Rattle.ist_core.specs.Marking.{IsCalled, as_target, as_child, after_rebuild, IsFrozen, CanPass}
 use Rattle.ist_core.specs.Lawful.{EachEnabled, CanOpen, state_of}
-use Rattle.ist_core.proofs.NamingLemmas.{InnerHere, SlotNames, SideNames, side_grows}
+use Rattle.ist_core.proofs.NamingLemmas.{InnerHere, SideNames, side_grows}
 use Rattle.ist_core.proofs.OrderLemmas.{names}
 use Rattle.ist_core.proofs.ReferenceLemmas.{word_of-ref_of}
+use Rattle.ist_core.proofs.FateLemmas.{grow_after}
 use Rattle.laws_links.proofs.ComesLemmas.{status_comes}
-use Rattle.laws_links.proofs.InductionLemmas.{grow_after}
 use Rattle.laws_links.proofs.OriginLemmas.{StatusComes, status_was, is_new, marked_now, finished_now}
 use Rattle.laws_links.proofs.PassLemmas.{passing}
 use Rattle.laws_links.proofs.QuietLemmas.{start_quiet}
+use Rattle.laws_links.proofs.ReadLemmas.{plain_side}
 
 -- ---- statuses
-
--- a node that isn't open isn't open later
-pub closed_stays : (old new : ℕ) → StatusGoesOn old new → old ≢ open_word → new ≢ open_word
-closed_stays old new (status_stays e) shut is = shut (sym e ∙ is)
-closed_stays old new (is_marked e f) shut is = shut e
-closed_stays old new (is_finished k e f) shut is = let word : new ≡ 4 * k + 3 = f in omega arith
-closed_stays old new (is_closed k e f) shut is = shut e
 
 module _ (pairs : List Pair) (words : ℕ) where
   -- a node that isn't open is marked, or finished with some number
@@ -55,24 +48,13 @@ module _ (pairs : List Pair) (words : ℕ) where
 
 -- ---- words
 
--- a slot word that is no change and is set is a side
-to_side : (ps : Pieces) (node i : ℕ) (o : Option Ref) → SlotNames ps node i o → o ≢ Some Unset
-    → ((change : ℕ) → o ≢ Some (ChangeAt change)) → SideNames ps node i o
-to_side ps node i (Some Unset) h set none = absurd (set refl)
-to_side ps node i (Some (ChangeAt base)) h set none = absurd (none base refl)
-to_side ps node i (Some Empty) h set none = h
-to_side ps node i (Some (LeafAt base)) h set none = h
-to_side ps node i (Some (InnerAt base)) h set none = h
-to_side ps node i (Some (RebuildAt base)) h set none = h
-to_side ps node i None h set none = h
-
 module _ (pairs : List Pair) (words : ℕ) (opens : CanOpen pairs words) where
   -- what a word that may be passed names
   passes_side : (log : Log) → EachEnabled (start pairs words) log → (caller node i word : ℕ)
       → CanPass (state_of pairs words log) caller node i word
       → SideNames (state_of pairs words log).pieces node i (ref_of word)
   passes_side log h caller node i word can =
-      to_side (state_of pairs words log).pieces node i (ref_of word)
+      plain_side (state_of pairs words log).pieces node i (ref_of word)
       ((names pairs words opens log h).rows node (Inner can.row) can.published i word can.in_slot)
       (λ e. can.set (sym (word_of-ref_of word Unset e).same_word)) can.no_change
 

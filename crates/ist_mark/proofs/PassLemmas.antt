@@ -29,16 +29,18 @@ use Rattle.ist_core.proofs.SlotLemmas.{slot_once}
 use Rattle.laws_links.proofs.FinishedLemmas.{finished_slot}
 use Rattle.ist_rule.specs.declared.view.View.{View}
 use Rattle.ist_core.specs.Shown.{IsShown}
+use Rattle.ist_core.proofs.IntervalLemmas.{both_true}
 use Rattle.ist_rule.specs.Rule.{IsSound}
 use Rattle.ist_rule.specs.Learning.{now, Looked, LoggedLoad, LoadedAs, as_event, as_load}
 use Rattle.ist_rule.specs.Watching.{number_of, is_marked, is_change_ref, pass_of, CanLoadPass}
-use Rattle.ist_rule.proofs.WatchLemmas.{both_true, if_some, no_change}
+use Rattle.ist_rule.proofs.WatchLemmas.{if_some, no_change}
 use Rattle.ist_dcss.proofs.FieldLemmas.{row_low}
 use Rattle.ist_dcss.proofs.SlotPlaceLemmas.{slot_shown, no_anchor}
 use Rattle.ist_rule.specs.Going.{WentOn}
 use Rattle.ist_rule.proofs.WentOnLemmas.{logged_load_went, looked_went}
 use Rattle.ist_mark.specs.Marking.{the_node, Marks}
 use Rattle.ist_dcss.specs.Reading.{IsNoChange}
+use Rattle.ist_dcss.proofs.DecideLemmas.{not_named}
 use Rattle.ist_mark.specs.Passing.{MayPass, IsMetAt}
 use Rattle.ist_mark.proofs.KeepingLemmas.{may_pass_went}
 use Rattle.ist_mark.proofs.NodeLemmas.{closed_status}
@@ -99,11 +101,6 @@ module _ (pairs : List Pair) (words : ℕ) (opens : CanOpen pairs words) (log : 
       same_row a b e f = cc
 
 -- ---- what is known after a load
-
--- if a test would name an event and none is named, the test fails
-not_named : {A : Type 0} (b : Bool) (x : A) → (if b then Some x else None) ≡ None → b ≡ false
-not_named true x e = absurd (cc)
-not_named false x e = refl
 
 -- a test of a word that is no change's
 plain_test : (o : Option Ref) → ((change : ℕ) → o ≢ Some (ChangeAt change)) → is_change_ref o ≡ false
