@@ -24,10 +24,10 @@ use Rattle.laws_links.proofs.OriginLemmas.{RebuildComes, rebuild_was, is_begun, 
 use Rattle.laws_links.proofs.NumberLemmas.{number_is}
 use Rattle.ist_core.specs.declared.events.Who.{Who}
 use Rattle.ist_core.specs.declared.events.Who.TheVariants.{Caller}
-use Rattle.ist_core.proofs.DrawLemmas.{finished_once}
 use Rattle.ist_core.proofs.FateLemmas.{grow_after}
 use Rattle.laws_coming.specs.Builds.{EndsBuild, EndsNone}
 use Rattle.laws_coming.proofs.SizeLemmas.{IsRootSizes, root_sizes, root_sizes_once}
+pub use Rattle.ist_core.proofs.DrawLemmas.{finished_once}
 
 -- ---- logs
 
