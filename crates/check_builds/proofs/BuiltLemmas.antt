@@ -1,27 +1,21 @@
 -- Which rows are the rows of an ideal subtree: a row first, then the rows of each part. Serves
 -- `ideals.rt`.
 use Rattle.std.proofs.Common.{◌≡◌, ◌∙◌, ◌≤◌, ◌+◌, ℕ, zero, suc, List, [], ◌∷◌, ◌++◌}
-use Rattle.std.proofs.Common.{length, take, drop, get_or, Option, Some, None, refl, sym, ap, subst}
+use Rattle.std.proofs.Common.{length, take, drop, get_or, Some, None, refl, sym, ap, subst}
 use Rattle.std.proofs.Common.{arith}
+use Rattle.std.proofs.lemmas.List.{nil_from_length}
 use Rattle.ist_core.specs.declared.lists.Row.{Row}
 use Rattle.ist_core.specs.declared.states.InnerRow.{InnerRow}
 use Rattle.ist_core.specs.References.{Ref, Empty, LeafAt, InnerAt, ref_of}
 use Rattle.ist_core.specs.Parts.{parts}
 use Rattle.ist_core.specs.Pieces.{Inner, inner_of}
 use Rattle.ist_core.specs.Leaves.{PlacedLeaf}
+use Rattle.ist_core.proofs.OptionLemmas.{same_value}
 use Rattle.check_fairness.proofs.AfterLemmas.{following, split_first}
 use Rattle.check_builds.specs.Built.{IsTopRow, BuildsRef, builds_none, builds_one, builds_more}
 use Rattle.check_builds.specs.Built.{BuildsAll, BuildsAt, CountsRows, HasTopSlots}
 
-same_ref : (o : Option Ref) (a b : Ref) → o ≡ Some a → o ≡ Some b → a ≡ b
-same_ref o a b e f = cc
-
 -- ---- what a subtree is by the number of its leaves
-
--- a list of length 0 is empty
-pub empty_list : {A : Type 0} (xs : List A) → length xs ≡ 0 → xs ≡ []
-empty_list [] h = refl
-empty_list (x ∷ xs) h = absurd (omega arith)
 
 -- a list of length 1 is its first element
 pub one_list : {A : Type 0} (xs : List A) (x : A) → length xs ≡ 1 → x ≡ get_or xs 0 x → xs ≡ x ∷ []
@@ -74,6 +68,8 @@ many_inverted _ _ _ _ (builds_more {row = row} {rows = rows} r top below) two =
           below;
     }
 
+-- ---- no leaf, or one
+
 -- some elements and then some more
 pub both_taken : {A : Type 0} (xs : List A) (a b : ℕ) → take (a + b) xs ≡ take a xs ++ take b
     (drop a xs)
@@ -87,8 +83,6 @@ both_taken [] (suc a) b = ap (λ n. take n []) (let e : suc a + b ≡ suc (a + b
 both_taken (x ∷ xs) (suc a) b = ap (λ n. take n (x ∷ xs)) (let e : suc a + b ≡ suc (a + b) = omega
     arith in e) ∙ ap (λ ys. x ∷ ys) (both_taken xs a b)
 
--- ---- no leaf, or one
-
 module _ (word : ℕ) (leaves : List PlacedLeaf) (above : ℕ) (rows : List Row) where
   abbrev BuildsHere : List Row → Type 0
   BuildsHere rs = BuildsAt word leaves above rs
@@ -101,10 +95,10 @@ module _ (word : ℕ) (leaves : List PlacedLeaf) (above : ℕ) (rows : List Row)
       ref = Empty;
       names = e;
       builds = subst (λ xs. BuildsRef Empty xs above [])
-          (sym (empty_list leaves h)) builds_none;
+          (sym (nil_from_length leaves h)) builds_none;
     },
     λ used rest is b. ap length (none_inverted b.ref leaves above used b.builds
-        (empty_list leaves h)).1,
+        (nil_from_length leaves h)).1,
   )
 
   -- a word of the one leaf uses no row
@@ -132,7 +126,7 @@ module _ (word : ℕ) (leaves : List PlacedLeaf) (above : ℕ) (rows : List Row)
     first_is used rest is b it =
         let whole : row ∷ following rows ≡ it.row ∷ (it.rest ++ rest) = sym
         (split_first rows row long at) ∙ is ∙ ap (λ xs. xs ++ rest) it.rows_are in
-        let bases : InnerAt base ≡ InnerAt it.row.base = same_ref (ref_of word) (InnerAt base)
+        let bases : InnerAt base ≡ InnerAt it.row.base = same_value (ref_of word) (InnerAt base)
         (InnerAt it.row.base) names (b.names ∙ ap (λ x. Some x) it.ref_is) in (
           head it.row row (it.rest ++ rest) (following rows) (sym whole),
           inner base it.row.base bases,

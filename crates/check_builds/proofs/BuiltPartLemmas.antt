@@ -2,7 +2,8 @@
 -- `ideals.rt`.
 use Rattle.std.proofs.Common.{◌≡◌, ◌≢◌, ◌∙◌, ◌≤◌, ◌<◌, ◌-◌, ◌+◌, ℕ, zero, suc, min, List, [], ◌∷◌}
 use Rattle.std.proofs.Common.{◌++◌, length, take, drop, get_or, Some, None, refl, sym, ap, subst}
-use Rattle.std.proofs.Common.{append_assoc, arith, length-append, length-drop}
+use Rattle.std.proofs.Common.{append_assoc, arith, length-append}
+use Rattle.std.proofs.lemmas.List.{nil_from_length}
 use Rattle.ist_core.specs.declared.lists.Row.{Row}
 use Rattle.ist_core.specs.Arithmetic.{degree, part_len, part_lens}
 use Rattle.ist_core.specs.Parts.{cut, parts}
@@ -12,7 +13,7 @@ use Rattle.check_builds.specs.Built.{part_lens_from, BuildsAll, builds_end, buil
 use Rattle.check_builds.specs.Built.{BuildsAt, CountsRows}
 use Rattle.check_builds.proofs.GatherLemmas.{first_word}
 use Rattle.check_builds.proofs.PartCutLemmas.{from, from-drop, cut_first, cut_last}
-use Rattle.check_builds.proofs.BuiltLemmas.{empty_list, both_taken}
+use Rattle.check_builds.proofs.BuiltLemmas.{both_taken}
 
 -- parts of some leaves, whole
 pub all_parts : (leaves : List PlacedLeaf)
@@ -55,7 +56,7 @@ module _ (n j left : ℕ) (slots : List ℕ) (leaves : List PlacedLeaf) (above :
     -- if no slot and no part is left, none of the rows is needed
     pub parts_end : length slots < 1 → left ≡ 0 → CountsRows AllBuild rows (Some 0)
     parts_end none e =
-        let no_slot = empty_list slots (omega arith) in
+        let no_slot = nil_from_length slots (omega arith) in
         let no_part = cut_last n j left leaves e in (
           subst (λ ws. BuildsAll ws (cut (part_lens_from n j left) leaves) above []) (sym no_slot)
               (subst (λ ps. BuildsAll [] ps above []) (sym no_part) builds_end),

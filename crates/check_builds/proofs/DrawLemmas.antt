@@ -12,7 +12,7 @@ use Rattle.ist_core.specs.Snapshots.{Snapshot}
 use Rattle.ist_core.specs.Logs.{Log, Happened, Draws}
 use Rattle.ist_core.specs.Rebuilding.{IsFinishedWith}
 use Rattle.ist_core.specs.Building.{CanDraw}
-use Rattle.ist_core.proofs.DrawLemmas.{same_rebuild}
+use Rattle.ist_core.proofs.OptionLemmas.{same_rebuild}
 use Rattle.check_fairness.specs.Answers.{FindsGreatest}
 use Rattle.check_events.specs.declared.replicas.Replica.{Replica}
 use Rattle.check_events.specs.Mirroring.{Mirrors}

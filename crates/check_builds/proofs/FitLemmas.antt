@@ -12,8 +12,8 @@ use Rattle.ist_core.specs.Leaves.{PlacedLeaf, HasLeaves}
 use Rattle.ist_core.specs.Rebuilding.{IsStarted, IsFinishedWith}
 use Rattle.ist_core.specs.Building.{IsRoot, root_whole, root_top, CanRoot}
 use Rattle.ist_core.proofs.LeafLemmas.{same_leaves}
-use Rattle.ist_core.proofs.SlotLemmas.{same_inner}
-use Rattle.ist_core.proofs.DrawLemmas.{same_rebuild}
+use Rattle.ist_core.proofs.OptionLemmas.{same_rebuild, same_inner}
+use Rattle.ist_core.proofs.UnderLemmas.{each_mapped}
 use Rattle.check_builds.specs.Standing.{HeldAreFree}
 use Rattle.check_builds.specs.Reading.{Gathers}
 use Rattle.check_builds.specs.Publishing.{MayPublish, HasRootOf}
@@ -21,11 +21,6 @@ use Rattle.check_builds.specs.Built.{IsRootOf, whole, top_alone}
 use Rattle.check_builds.proofs.PublishLemmas.{StandsAsSaid, LeafStands, leaf_kept, held_is_free}
 use Rattle.check_builds.proofs.PublishLemmas.{rows_stand, leaves_stand, builds_ideal}
 use Rattle.check_builds.proofs.PublishLemmas.{ideal_builds}
-
-each_mapped : {A : Type 0} (P Q : A → Type 0) (xs : List A) → ((x : A) → P x → Q x) → Each P xs
-    → Each Q xs
-each_mapped P Q [] f h = tt
-each_mapped P Q (x ∷ xs) f h = (f x h.0, each_mapped P Q xs f h.1)
 
 -- ---- roots
 

@@ -12,7 +12,7 @@ use Rattle.ist_core.specs.Leaves.{PlacedLeaf, HasLeaves}
 use Rattle.ist_core.specs.Building.{CanPlace}
 use Rattle.ist_core.proofs.LeafLemmas.{same_leaves}
 use Rattle.ist_core.proofs.RisingLemmas.{each_of_cut, part_of_each}
-use Rattle.ist_core.proofs.DrawLemmas.{same_rebuild}
+use Rattle.ist_core.proofs.OptionLemmas.{same_rebuild}
 use Rattle.check_events.specs.Mirroring.{RowHolds}
 use Rattle.check_builds.specs.Standing.{HeldAreFree}
 use Rattle.check_builds.specs.Reading.{Gathers}

@@ -9,7 +9,7 @@ use Rattle.ist_core.specs.Snapshots.{Snapshot}
 use Rattle.ist_core.specs.Logs.{Log, state}
 use Rattle.ist_core.specs.Links.{WasOnChain}
 use Rattle.ist_core.specs.Deciding.{CanCount}
-use Rattle.ist_core.proofs.FreezingLemmas.{same_change}
+use Rattle.ist_core.proofs.OptionLemmas.{same_change}
 use Rattle.check_fairness.specs.Answers.{Holds}
 use Rattle.check_events.specs.declared.pasts.LastUpdate.{LastUpdate}
 use Rattle.check_events.specs.declared.replicas.Replica.{Replica}

@@ -10,8 +10,7 @@ use Rattle.ist_core.specs.Logs.{Log}
 use Rattle.ist_core.specs.Slots.{IsOpen, anchor_is, row_is, SlotHolds, in_anchor, in_row}
 use Rattle.ist_core.specs.References.{ChangeAt, word_of}
 use Rattle.ist_core.specs.Deciding.{MayBe, CanOkay, CanDecide, CanResolve}
-use Rattle.ist_core.proofs.SlotLemmas.{same_inner}
-use Rattle.ist_core.proofs.FreezingLemmas.{same_change}
+use Rattle.ist_core.proofs.OptionLemmas.{same_change, same_inner}
 use Rattle.check_events.specs.Mirroring.{RowHolds}
 use Rattle.check_fairness.proofs.AnswerLemmas.{is_equal}
 

@@ -132,11 +132,6 @@ module _ {A : Type 0} where
       at again true = (h.0, again)
       at again false = again
 
-  -- what is so of whatever is among the elements is so of each
-  pub each_from : (P : A → Type 0) (xs : List A) → ((x : A) → Among x xs → P x) → Each P xs
-  each_from P [] f = tt
-  each_from P (x ∷ xs) f = (f x (inl refl), each_from P xs (λ y i. f y (inr i)))
-
   -- a filter keeps a first element that passes
   pub kept_yes : (test : A → Bool) (x : A) (xs : List A) → test x ≡ true
       → filter test (x ∷ xs) ≡ x ∷ filter test xs

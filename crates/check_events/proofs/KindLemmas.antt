@@ -1,6 +1,6 @@
 -- What the code tests of a change, by its kind, is what the conditions say. Serves `kinds.rt`.
-use Rattle.std.proofs.Common.{◌≡◌, ◌↔◌, ◌∙◌, ◌≢◌, ℕ, IsTrue, nat_eq, List, [], ◌∷◌, length, Option}
-use Rattle.std.proofs.Common.{Some, refl, sym, subst, arith, eq-eqb}
+use Rattle.std.proofs.Common.{◌≡◌, ◌↔◌, ◌∙◌, ◌≢◌, ℕ, IsTrue, nat_eq, List, [], ◌∷◌, Option}
+use Rattle.std.proofs.Common.{Some, sym, subst, eq-eqb}
 use Rattle.ist_core.specs.declared.states.ChangeRow.{ChangeRow}
 use Rattle.ist_core.specs.declared.lists.Row.{Row}
 use Rattle.ist_core.specs.References.{Ref, Empty, LeafAt, InnerAt, RebuildAt, ref_of}
@@ -66,11 +66,6 @@ pub key_is : (first : Snapshot) (log : Log) (change : ChangeRow) → WasLedTo fi
     change.node
     → IsChildFor (state first log) change.node change.key change.index ↔ ComesByKey first log change
 key_is first log change led = ((λ c. record { led = led; index = c }), (λ h. h.index))
-
--- no rows
-pub empty_rows : (rows : List Row) → length rows ≡ 0 → rows ≡ []
-empty_rows [] n = refl
-empty_rows (x ∷ xs) n = absurd (omega arith)
 
 -- ---- puts and removes
 

@@ -11,10 +11,10 @@ use Rattle.std.specs.Ordering.{nat_cmp}
 use Rattle.ist_core.specs.declared.lists.HeldRow.{HeldRow}
 use Rattle.ist_core.specs.Elements.{Among, Each}
 use Rattle.ist_core.specs.Snapshots.{without}
-use Rattle.ist_core.proofs.ElementLemmas.{each-among, among-filter}
+use Rattle.ist_core.proofs.ElementLemmas.{each-among, among-filter, each_of}
 use Rattle.check_events.specs.declared.held.HeldTable.{HeldTable}
 use Rattle.check_events.specs.Holding.{by_base, listed_rows, of_caller, BasesRise, TableHolds}
-use Rattle.check_events.proofs.HeldLemmas.{tells, found_at, each_from, kept_yes, kept_no, kept_swap}
+use Rattle.check_events.proofs.HeldLemmas.{tells, found_at, kept_yes, kept_no, kept_swap}
 
 -- ---- without one base
 
@@ -59,7 +59,7 @@ module _ (b : ℕ) where
           ⊎ ((is_at (nat_cmp b) h.base ≡ false) × (b ≢ h.base))
           → remove_entry (is_at (nat_cmp b)) (by_base (h ∷ hs)) ≡ by_base (without (b ∷ []) (h ∷ hs))
       at again (inl k) =
-          let apart : Each (λ g. b ≢ g.base) hs = each_from _ hs
+          let apart : Each (λ g. b ≢ g.base) hs = each_of _ hs
           (λ g i s. let low = each-among (λ x. h.base < x.base) g hs r.0 i in
           let same = k.1 in absurd (omega arith)) in
           ap (λ z. if z then by_base hs else (h.base, h) ∷ out b (by_base hs)) k.0
@@ -72,7 +72,7 @@ module _ (b : ℕ) where
   -- if no row is found at the base, all stay
   pub none_goes : (held : List HeldRow) → BasesRise held
       → lookup (is_at (nat_cmp b)) (by_base held) ≡ None → without (b ∷ []) held ≡ held
-  none_goes held r none = all_stay held (each_from _ held
+  none_goes held r none = all_stay held (each_of _ held
       (λ h i s. let found = found_at held h r i in
       let same = ap (λ k. lookup (is_at (nat_cmp k)) (by_base held)) s in
       absurd (clash (sym none ∙ same ∙ found))))
@@ -86,7 +86,7 @@ module _ (b : ℕ) where
       → of_caller caller (without (b ∷ []) held) ≡ of_caller caller held
   others_stay held row r found caller ne =
       kept_swap (λ h. h.caller == caller) stays held
-      ∙ all_stay (of_caller caller held) (each_from _ (of_caller caller held)
+      ∙ all_stay (of_caller caller held) (each_of _ (of_caller caller held)
       (λ h i s. absurd (other h (among-filter (λ x. x.caller == caller) h held i) s)))
     where
       is : (h : HeldRow) → ((eqb h.caller caller ≡ true) × (h.caller ≡ caller))

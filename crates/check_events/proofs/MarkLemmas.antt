@@ -1,5 +1,5 @@
 -- What the code tests of a marked node is what the conditions say. Serves `marking.rt`.
-use Rattle.std.proofs.Common.{◌≡◌, ◌↔◌, ◌∙◌, ◌<◌, ◌≤◌, ◌+◌, ◌-◌, ◌^◌, ℕ, List, [], ◌∷◌, length, take, drop, Option, Some, None, option_map, refl, sym, ap, subst, arith}
+use Rattle.std.proofs.Common.{◌≡◌, ◌↔◌, ◌∙◌, ◌<◌, ◌≤◌, ◌+◌, ◌-◌, ◌^◌, ℕ, List, [], ◌∷◌, length, take, drop, Option, Some, None, refl, sym, ap, subst, arith}
 use Rattle.std.proofs.lemmas.List.{take_all}
 use Rattle.std.specs.Ordering.{nat_cmp}
 use Rattle.std.specs.BTreeMap as tree
@@ -13,12 +13,10 @@ use Rattle.ist_core.specs.Snapshots.{Snapshot}
 use Rattle.ist_core.specs.Logs.{Log}
 use Rattle.ist_core.specs.Rebuilding.{IsFinishedWith}
 use Rattle.ist_core.specs.Marking.{IsCalled, CanMark, CountsFor, no_key, one_key, of_child, of_target, ArePassed, past_end, one_passed}
-use Rattle.ist_core.proofs.SlotLemmas.{same_inner}
-use Rattle.ist_core.proofs.DrawLemmas.{same_rebuild}
+use Rattle.ist_core.proofs.OptionLemmas.{same_rebuild, same_inner}
 use Rattle.check_events.specs.Passing.{PassCounts, TargetFinishedWith}
 use Rattle.check_events.specs.Remembering.{KnowsPasses, pair_key}
 use Rattle.ist_layout.specs.declared.references.Ref as layout
-use Rattle.ist_layout.specs.Meanings.{ref_meant}
 use Rattle.check_fairness.specs.Answers.{FindsOne}
 use Rattle.check_fairness.proofs.AnswerLemmas.{finds_one, finds_same}
 
@@ -118,12 +116,6 @@ counts_rebuild t ref rebuild k e =
     out _ k i (of_target {rebuild = o} {target = n} h f) =
         let same : o ≡ rebuild = cc in
         subst (λ x. TargetFinishedWith t x k) same record { target = n; of = h; finished = f }
-
--- a word that is read as a reference names the one that is meant
-pub word_names : (word : ℕ) (o : Option layout.Ref) (x r : layout.Ref)
-    → option_map ref_meant o ≡ ref_of word → o ≡ Some x → x ≡ r → ref_of word ≡ Some (ref_meant r)
-word_names word o x r e is same =
-    sym e ∙ ap (option_map ref_meant) is ∙ ap (λ y. Some (ref_meant y)) same
 
 module _ (t : Snapshot) (ref : Option Ref) where
   -- an empty reference counts for 0 keys only

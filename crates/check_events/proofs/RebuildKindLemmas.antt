@@ -1,5 +1,5 @@
 -- What the code tests of a change that starts or finishes a rebuild is what the conditions say. Serves `kinds.rt`.
-use Rattle.std.proofs.Common.{◌≡◌, ◌↔◌, ◌≢◌, ℕ, zero, suc, List, [], ◌∷◌, slice_get, Some, refl}
+use Rattle.std.proofs.Common.{◌≡◌, ◌↔◌, ◌≢◌, ℕ, suc, List, [], ◌∷◌, slice_get, Some, refl}
 use Rattle.std.proofs.Common.{sym, ap, subst, arith, inl, inr}
 use Rattle.ist_core.specs.declared.states.InnerRow.{InnerRow}
 use Rattle.ist_core.specs.declared.states.ChangeRow.{ChangeRow}
@@ -14,8 +14,8 @@ use Rattle.ist_core.specs.Slots.{SlotHolds, in_anchor, in_row}
 use Rattle.ist_core.specs.Rebuilding.{IsStarted, IsBuilt}
 use Rattle.ist_core.specs.Installing.{Starts, Finishes, new_rebuild}
 use Rattle.ist_core.proofs.ReferenceLemmas.{word_of-ref_of}
-use Rattle.ist_core.proofs.SlotLemmas.{same_inner}
-use Rattle.ist_core.proofs.DrawLemmas.{same_rebuild}
+use Rattle.ist_core.proofs.OptionLemmas.{same_rebuild, same_inner}
+use Rattle.ist_core.proofs.ElementLemmas.{get_among}
 use Rattle.check_events.specs.Kinds.{MayBeRebuilt, IsFinishOf}
 use Rattle.check_events.proofs.KindLemmas.{one_target, one_renewal}
 
@@ -109,11 +109,6 @@ module _ (t : Snapshot) (change : ChangeRow) (fresh : List Row) where
   )
 
 -- ---- built roots
-
-get_among : (xs : List ℕ) (i x : ℕ) → slice_get xs i ≡ Some x → Among x xs
-get_among [] i x e = cc
-get_among (y ∷ ys) zero x e = inl (let k : y ≡ x = cc in sym k)
-get_among (y ∷ ys) (suc i) x e = inr (get_among ys i x e)
 
 among_get : (xs : List ℕ) (x : ℕ) → Among x xs → (i : ℕ) × (slice_get xs i ≡ Some x)
 among_get [] x a = absurd a

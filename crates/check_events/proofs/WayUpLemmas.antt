@@ -16,7 +16,8 @@ use Rattle.ist_core.specs.Slots.{SlotHolds, in_anchor, in_row, IsChildFor, of_an
 use Rattle.ist_core.specs.Links.{IsChild, Linked, at_anchor, below, Chain, no_row, one_row, Leads}
 use Rattle.ist_core.specs.Links.{from_anchor, down, WasLinked, WasOnChain, WasLedTo}
 use Rattle.ist_core.proofs.ElementLemmas.{among-append, among_left, among_right}
-use Rattle.ist_core.proofs.SlotLemmas.{same_inner}
+use Rattle.ist_core.proofs.OptionLemmas.{same_inner}
+use Rattle.ist_core.proofs.ChainLemmas.{leads_linked, chain_linked}
 use Rattle.check_events.specs.declared.pasts.Slot.{Slot}
 use Rattle.check_events.specs.Mirroring.{HasChildFor}
 use Rattle.check_events.specs.Remembering.{KnowsSlots}
@@ -49,14 +50,6 @@ is_moment first [] = refl
 is_moment first (event ∷ log) = inl refl
 
 -- ---- ways at one moment
-
-leads_linked : (t : Snapshot) (key n : ℕ) → Leads t key n → Linked t n
-leads_linked t key _ from_anchor = at_anchor
-leads_linked t key _ (down {node = p} i l f c) = below i (leads_linked t key p l) c
-
-chain_linked : (t : Snapshot) (n : ℕ) (rows : List ℕ) → Chain t n rows → Linked t n
-chain_linked t _ _ no_row = at_anchor
-chain_linked t _ _ (one_row {node = p} {rows = rs} i ch c) = below i (chain_linked t p rs ch) c
 
 -- an anchor's child is child 0, and a row's child is by its keys
 pub child_of_row : (t : Snapshot) (node key i : ℕ) → ¬ ((node ≡ anchor) × (i ≡ 0))

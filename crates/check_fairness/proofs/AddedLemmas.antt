@@ -51,13 +51,3 @@ more_added b a d = (
   (λ k. d.1 (⊎_elim (λ h. inl (a.0 h)) inr (b.0 k))),
   (λ k. b.1 (⊎_elim (λ h. inl (a.1 h)) inr (d.0 k))),
 )
-
--- a flag that was tested the other way round
-pub not_set : (b : Bool) → not b ≡ true → b ≡ false
-not_set true e = absurd (true≢false (sym e))
-not_set false e = refl
-
--- a test whose negation fails succeeds
-pub is_set : (b : Bool) → not b ≡ false → b ≡ true
-is_set true e = refl
-is_set false e = absurd (true≢false e)

@@ -5,15 +5,12 @@ use Rattle.std.proofs.lemmas.Bool.Decides.{eqb_tells}
 use Rattle.std.specs.Ordering.{nat_cmp}
 use Rattle.std.specs.BTreeMap as tree
 use Rattle.std.specs.BTreeMap.{BTreeMap}
+use Rattle.std.proofs.lemmas.Option.{same_Some}
 use Rattle.ist_core.specs.Snapshots.{Snapshot}
 use Rattle.ist_core.specs.Links.{IsChild}
 use Rattle.check_events.specs.declared.pasts.Slot.{Slot}
 use Rattle.check_state.specs.Hanging.{HasSlot, AddsSlots, HangsOnce}
 use Rattle.check_state.proofs.TableLemmas.{updated_here, updated_other}
-
--- a slot in an entry is the one that is found there
-the_slot : (a b : Slot) → Some a ≡ Some b → a ≡ b
-the_slot a b e = cc
 
 module _ (t : Snapshot) where
   -- ---- some slots
@@ -77,7 +74,7 @@ module _ (t : Snapshot) where
                 → ◌≡◌ {A = Option Slot} (Some record { node = a; index = b })
                 (Some record { node = x; index = y }) → (a ≡ x) × (b ≡ y)
             some_slot a b x y e =
-                let same = the_slot record { node = a; index = b } record { node = x; index = y } e
+                let same = same_Some record { node = a; index = b } record { node = x; index = y } e
                 in (ap (λ s. s.node) same, ap (λ s. s.index) same)
 
             to_slot : (a b x y : ℕ) → a ≡ x → b ≡ y

@@ -39,7 +39,7 @@ use Rattle.ist_core.specs.Lawful.{Lawful, EachEnabled, CanOpen, state_of}
 use Rattle.ist_core.proofs.GrowingLemmas.{rebuild_there}
 use Rattle.ist_core.proofs.NamingLemmas.{SlotNames, SideNames, IsRebuildFor, slot_grows}
 use Rattle.ist_core.proofs.OrderLemmas.{names}
-use Rattle.ist_core.proofs.DrawLemmas.{same_rebuild}
+use Rattle.ist_core.proofs.OptionLemmas.{same_rebuild}
 use Rattle.check_fairness.specs.Answers.{Holds}
 use Rattle.check_events.specs.Remembering.{KnowsCalls}
 use Rattle.check_state.specs.Remembered.{StartsRebuild}

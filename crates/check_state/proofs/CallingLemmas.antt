@@ -6,7 +6,7 @@ use Rattle.ist_core.specs.Statuses.{start_kind}
 use Rattle.ist_core.specs.Pieces.{Change}
 use Rattle.ist_core.specs.Snapshots.{Snapshot}
 use Rattle.ist_core.specs.Marking.{HasTarget}
-use Rattle.ist_core.proofs.FreezingLemmas.{same_change}
+use Rattle.ist_core.proofs.OptionLemmas.{same_change}
 use Rattle.check_events.specs.Passing.{TargetFinishedWith}
 use Rattle.check_state.specs.Remembered.{StartsFinished}
 use Rattle.check_state.specs.Calls.{StartCalls, WordCalls, names_row, names_rebuild}

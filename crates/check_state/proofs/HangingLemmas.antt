@@ -9,15 +9,13 @@ use Rattle.ist_core.specs.Snapshots.{Snapshot}
 use Rattle.ist_core.specs.Slots.{SlotHolds, in_anchor, in_row, logical}
 use Rattle.ist_core.specs.Links.{IsChild, Linked, below}
 use Rattle.ist_core.specs.Leaves.{HasLeaves, row_here, no_slot}
-use Rattle.ist_core.proofs.SlotLemmas.{no_row, slot_once, same_inner}
+use Rattle.ist_core.proofs.SlotLemmas.{no_row, slot_once}
+use Rattle.ist_core.proofs.OptionLemmas.{same_inner}
 use Rattle.check_builds.specs.Reading.{IsReadingOf}
 use Rattle.check_builds.specs.declared.readings.Reading.{Reading}
 use Rattle.check_builds.specs.declared.readings.Reading.TheVariants.{Nothing, OneLeaf, OneRow, Other}
 use Rattle.check_state.specs.Hanging.{Hangs, hangs_here, hangs_below}
-
--- two references to inner rows are one
-one_row_at : (o : Option Ref) (a b : ℕ) → o ≡ Some (InnerAt a) → o ≡ Some (InnerAt b) → a ≡ b
-one_row_at o a b e f = cc
+use Rattle.check_events.proofs.KindLemmas.{one_target}
 
 -- a place below the end has a word
 stands_at : (xs : List ℕ) (i : ℕ) → i < length xs → slice_get xs i ≡ Some (slice_index_or xs i 0)
@@ -30,12 +28,6 @@ pub word_at : (words slots : List ℕ) (i : ℕ) → words ≡ slots → i < len
     → slice_get slots i ≡ Some (slice_index_or words i 0)
 word_at words slots i e low = subst (λ ws. slice_get ws i ≡ Some (slice_index_or words i 0)) e
     (stands_at words i low)
-
--- a place that has a word is below the end
-pub place_low : (xs : List ℕ) (i w : ℕ) → slice_get xs i ≡ Some w → i < length xs
-place_low [] i w h = absurd (let none : ⊥ = cc in none)
-place_low (x ∷ xs) zero w h = omega arith
-place_low (x ∷ xs) (suc i) w h = let low = place_low xs i w h in omega arith
 
 -- ---- at one moment
 
@@ -78,7 +70,7 @@ module _ (t : Snapshot) where
     -- a slot has one child
     pub one_child : (node i a b : ℕ) → IsChild t node i a → IsChild t node i b → a ≡ b
     one_child node i a b c d =
-        one_row_at (logical t.pieces c.word) a b c.reads (child_at node i c.word b c.holds d)
+        one_target (logical t.pieces c.word) a b c.reads (child_at node i c.word b c.holds d)
 
     -- what hangs in or below a slot is its child there, or hangs in or below a slot of the child
     pub hangs_split : (node i row under j child : ℕ) → IsChild t node i row

@@ -15,7 +15,9 @@ use Rattle.ist_core.specs.Logs.{Log, same_log, one_event}
 use Rattle.ist_core.specs.Links.{IsChild, Linked}
 use Rattle.ist_core.specs.Lawful.{CanOpen, EachEnabled, state_of}
 use Rattle.ist_core.proofs.RowLemmas.{changed_at-same}
-use Rattle.ist_core.proofs.FreezingLemmas.{same_change}
+use Rattle.ist_core.proofs.OptionLemmas.{same_change}
+use Rattle.ist_core.proofs.PrefixLemmas.{ever_now}
+use Rattle.ist_core.proofs.YesLemmas.{same_base}
 use Rattle.laws_links.proofs.ChildLemmas.{read_child}
 use Rattle.laws_links.proofs.LinkLemmas.{yes_linked_after}
 use Rattle.laws_links.proofs.ReadEventLemmas.{decide_reads}
@@ -26,12 +28,7 @@ use Rattle.check_events.specs.Remembering.{WasChild, KnowsSlots}
 use Rattle.check_state.specs.Hanging.{Hangs, Brings, BringsInPlace, HasSlot, AddsSlots, HangsOnce}
 use Rattle.check_state.proofs.HangingLemmas.{hangs_child, hangs_linked}
 use Rattle.check_state.proofs.LinkingLemmas.{HangsNew, linked_child_back}
-use Rattle.check_state.proofs.SlotTableLemmas.{ever_now, hangs_once, knows, of_linked}
-
--- a Decide names one change
-same_base : (caller base by other : ℕ) → Decide caller base true ≡ Decide by other true
-    → base ≡ other
-same_base caller base by other e = cc
+use Rattle.check_state.proofs.SlotTableLemmas.{hangs_once, knows, of_linked}
 
 -- a no is no yes
 pub no_is_no_yes : (caller base by other : ℕ) → Decide caller base false ≢ Decide by other true

@@ -19,6 +19,7 @@ use Rattle.std.proofs.Common.{
   inr,
   ⊎_elim,
 }
+use Rattle.std.proofs.lemmas.Option.{same_Some}
 use Rattle.ist_core.specs.declared.pairs.Pair.{Pair}
 use Rattle.ist_core.specs.declared.states.ChangeRow.{ChangeRow}
 use Rattle.ist_core.specs.declared.events.Event.{Event}
@@ -47,6 +48,7 @@ use Rattle.ist_core.proofs.NamingLemmas.{RootNames}
 use Rattle.ist_core.proofs.OrderLemmas.{names}
 use Rattle.ist_core.proofs.PlaceLemmas.{anchor_free}
 use Rattle.ist_core.proofs.ReferenceLemmas.{ref_of-unset}
+use Rattle.ist_core.proofs.FateLemmas.{grow_after}
 use Rattle.laws_links.proofs.ChildLemmas.{
   IsReadBy,
   child_read,
@@ -63,7 +65,6 @@ use Rattle.laws_links.proofs.FormLemmas.{
   of_start,
 }
 use Rattle.laws_links.proofs.FormedLemmas.{changes_are_formed}
-use Rattle.laws_links.proofs.InductionLemmas.{grow_after}
 use Rattle.laws_links.proofs.ReadEventLemmas.{decide_reads}
 use Rattle.laws_links.proofs.ReadLemmas.{FillsSlot, ReadsAs, Turns, filled_by, reads_once, turned_by}
 use Rattle.laws_links.proofs.ReadStepLemmas.{
@@ -77,16 +78,9 @@ use Rattle.laws_links.proofs.ReadStepLemmas.{
   was_row,
 }
 use Rattle.laws_links.proofs.ContentLemmas.{linked_set}
-use Rattle.laws_links.proofs.ReturnLemmas.{leads_back}
+use Rattle.laws_links.proofs.ReturnLemmas.{leads_back, one_inner}
 use Rattle.check_state.specs.Hanging.{Hangs, hangs_here}
 use Rattle.check_state.proofs.HangingLemmas.{hangs_on}
-
--- two references to inner rows are one, and a reference is no other
-one_inner : (a b : ℕ) → Some (InnerAt a) ≡ Some (InnerAt b) → a ≡ b
-one_inner a b e = cc
-
-one_ref : (a b : Ref) → Some a ≡ Some b → a ≡ b
-one_ref a b e = cc
 
 module _ (pairs : List Pair) (words : ℕ) (opens : CanOpen pairs words) where
   -- the state after a log
@@ -190,7 +184,7 @@ module _ (pairs : List Pair) (words : ℕ) (opens : CanOpen pairs words) where
           leads_grows t u (grow_after pairs words log (Decide caller base true) h)
           (RebuildAt f.rebuild) f.row.target (leads_rebuild t.pieces f.rebuild f.row f.published) in
           let same = one_inner f.row.target child (sym now ∙ leads_to (RebuildAt f.rebuild) f.to) in
-          let here = one_ref was (InnerAt f.row.target) (sym from ∙ f.from) in
+          let here = same_Some was (InnerAt f.row.target) (sym from ∙ f.from) in
           inl
           (read_child t node i child was old
           (ap (λ x. past_rebuild t.pieces (Some x)) here ∙ ap (λ m. Some (InnerAt m)) same))

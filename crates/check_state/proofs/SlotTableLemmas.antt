@@ -1,6 +1,6 @@
 -- What a table of slots says of a lawful log, and what follows from its entries. Serves
 -- `linking.rt`.
-use Rattle.std.proofs.Common.{◌≡◌, ◌↔◌, ◌≤◌, ℕ, List, [], ◌∷◌, Option, Some, None, refl, sym, subst, inl, inr, ⊎_elim, arith}
+use Rattle.std.proofs.Common.{◌≡◌, ◌↔◌, ◌≤◌, ℕ, List, [], ◌∷◌, Option, Some, None, refl, sym, subst, inr, ⊎_elim, arith}
 use Rattle.std.proofs.lemmas.Grind.{common_steps}
 use Rattle.std.specs.Ordering.{nat_cmp}
 use Rattle.std.specs.BTreeMap as tree
@@ -9,7 +9,7 @@ use Rattle.ist_core.specs.declared.pairs.Pair.{Pair}
 use Rattle.ist_core.specs.RowLayout.{anchor}
 use Rattle.ist_core.specs.Snapshots.{Snapshot}
 use Rattle.ist_core.specs.StartLayout.{start}
-use Rattle.ist_core.specs.Logs.{Log, GoesOn, same_log, one_event, Ever, state}
+use Rattle.ist_core.specs.Logs.{Log, GoesOn, same_log}
 use Rattle.ist_core.specs.Links.{IsChild, Linked, at_anchor, below}
 use Rattle.ist_core.specs.Lawful.{CanOpen, EachEnabled, state_of}
 use Rattle.ist_core.proofs.FateLemmas.{enabled_before}
@@ -19,25 +19,11 @@ use Rattle.ist_core.proofs.NamingLemmas.{WordsName}
 use Rattle.ist_core.proofs.OrderLemmas.{names, child_above}
 use Rattle.ist_core.proofs.PlaceLemmas.{anchor_free}
 use Rattle.ist_core.proofs.SlotLemmas.{anchor_slot}
-use Rattle.ist_core.proofs.PrefixLemmas.{goes_on_more}
+use Rattle.ist_core.proofs.PrefixLemmas.{goes_on_more, ever_from}
 use Rattle.check_events.specs.declared.pasts.Slot.{Slot}
 use Rattle.check_events.specs.Remembering.{WasChild, SlotsRise, KnowsSlots}
 use Rattle.check_state.specs.Hanging.{Hangs, hangs_here, HasSlot, AddsSlots, HangsOnce}
 use Rattle.check_state.proofs.HangingLemmas.{hangs_child, hangs_linked, hangs_on}
-
--- what held at some moment held after a prefix of the log
-ever_before : (first : Snapshot) (P : Snapshot → Type 0) (log : Log) → Ever first P log
-    → (earlier : Log) × GoesOn earlier log × P (state first earlier)
-ever_before first P [] h = ([], same_log, h)
-ever_before first P (event ∷ log) (inl h) = (event ∷ log, same_log, h)
-ever_before first P (event ∷ log) (inr h) =
-    let it = ever_before first P log h in (it.0, one_event event it.1, it.2)
-
--- what is so now was so at some moment
-pub ever_now : (first : Snapshot) (P : Snapshot → Type 0) (log : Log) → P (state first log)
-    → Ever first P log
-ever_now first P [] h = h
-ever_now first P (event ∷ log) h = inl h
 
 -- ---- no entries
 
@@ -82,7 +68,7 @@ module _ (pairs : List Pair) (words : ℕ) (opens : CanOpen pairs words) where
         one = one_parent pairs words opens log log same_log h;
         told = λ node i child slot c e.
             let was =
-            ever_before (start pairs words)
+            ever_from (start pairs words)
             (λ u. Linked u slot.node × IsChild u slot.node slot.index child) earlier
             (of child slot e) in
             let same =
@@ -118,7 +104,7 @@ module _ (pairs : List Pair) (words : ℕ) (opens : CanOpen pairs words) where
       → AreOfLinked slots log → SlotsRise slots
   rises log h slots of child slot e =
       let was =
-      ever_before (start pairs words)
+      ever_from (start pairs words)
       (λ u. Linked u slot.node × IsChild u slot.node slot.index child) log (of child slot e) in
       let all = enabled_before (start pairs words) was.0 log was.1 h in (
         linked_high was.0 all slot.node was.2.0,

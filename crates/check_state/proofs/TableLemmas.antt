@@ -241,12 +241,6 @@ module _ (m n : BTreeMap ℕ ℕ) (log : Log) (caller node index word : ℕ) (kn
 
 -- ---- outcomes
 
--- what is so of the value of a look-up says more
-pub if_some : {X : Type 0} {P Q : X → Type 0} (o : Option X) → ((x : X) → P x → Q x) → IfSome o P
-    → IfSome o Q
-if_some (Some x) f h = f x h
-if_some None f h = tt
-
 -- an empty set holds nothing
 pub holds_none : (set : BTreeSet ℕ) (x : ℕ) → set.keys ≡ [] → ¬ (Holds set x)
 holds_none set x empty h =

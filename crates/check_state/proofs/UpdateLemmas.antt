@@ -33,19 +33,12 @@ use Rattle.ist_core.specs.Deciding.{IsUpdateOf, SaysYes}
 use Rattle.ist_core.specs.StartLayout.{start}
 use Rattle.ist_core.specs.Lawful.{Lawful, EachEnabled, state_of}
 use Rattle.ist_core.proofs.GrowingLemmas.{change_there}
+use Rattle.ist_core.proofs.PrefixLemmas.{happened_left}
 use Rattle.check_events.specs.declared.pasts.LastUpdate.{LastUpdate}
 use Rattle.check_events.specs.Remembering.{IsUncounted, LacksCount, KnowsUpdates}
 use Rattle.check_state.specs.Entries.{Renews, CountsIn}
 use Rattle.check_state.proofs.StartedLemmas.{rows_grow}
-use Rattle.check_state.proofs.YesLemmas.{
-  in_later,
-  in_between,
-  ChangeHere,
-  update_stays,
-  update_before,
-  yes_kept,
-  last_is,
-}
+use Rattle.check_state.proofs.YesLemmas.{in_between, ChangeHere, update_stays, update_before, yes_kept, last_is}
 
 -- the caller's entry, if there is one
 abbrev pub entry : BTreeMap ℕ LastUpdate → ℕ → Option LastUpdate
@@ -144,7 +137,7 @@ module _ (pairs : List Pair) (words : ℕ) where
               → IsUpdateOf (table (event ∷ log)) caller b → IsUpdateOf (table log) caller b
           was b d =
               let said = Decides b true in
-              let then = in_later said it.later (Decide it.by base true ∷ it.earlier) d in
+              let then = happened_left said it.later (Decide it.by base true ∷ it.earlier) d in
               was_update b (subst (Happened said) (sym it.log_is) then)
 
       -- so an update is uncounted after the event exactly if it was before and isn't counted now

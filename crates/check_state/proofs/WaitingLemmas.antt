@@ -41,6 +41,7 @@ use Rattle.ist_core.specs.Snapshots.{Snapshot}
 use Rattle.ist_core.specs.Slots.{logical}
 use Rattle.ist_core.specs.Links.{IsChild}
 use Rattle.ist_core.proofs.ElementLemmas.{among-append, among_left, among_right}
+use Rattle.ist_core.proofs.ImageLemmas.{get_below}
 use Rattle.check_events.specs.declared.pasts.Slot.{Slot}
 use Rattle.check_state.specs.declared.linking.Link.{Link}
 use Rattle.check_state.specs.Hanging.{
@@ -54,7 +55,7 @@ use Rattle.check_state.specs.Hanging.{
   AddsSlots,
   HangsOnce,
 }
-use Rattle.check_state.proofs.HangingLemmas.{hangs_split, first_child, child_by_word, child_within, place_low}
+use Rattle.check_state.proofs.HangingLemmas.{hangs_split, first_child, child_by_word, child_within}
 use Rattle.check_state.proofs.AddedSlotLemmas.{IsIt, one_entry, once_more}
 
 module _ (t : Snapshot) where
@@ -229,7 +230,7 @@ module _ (t : Snapshot) where
       within : (l : Link) → IsChild t node l.index l.child → l.index < n
       within l c =
           let w = child_within t free node l.index l.child row e c in
-          let less = place_low row.slots l.index w.0 w.1 in omega arith
+          let less = get_below row.slots l.index w.0 w.1 in omega arith
 
   -- one more row waits
   pub puts_link : (node i word child : ℕ) (old new : List Link)

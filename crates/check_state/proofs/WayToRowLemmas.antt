@@ -17,7 +17,7 @@ use Rattle.ist_core.specs.Links.{WasLinked, WasLedTo, WasOnChain}
 use Rattle.ist_core.specs.Lawful.{Lawful, state_of}
 use Rattle.ist_core.proofs.KeyLemmas.{keys_rising}
 use Rattle.ist_core.proofs.LeafOrderLemmas.{next_from_rising}
-use Rattle.ist_core.proofs.SlotLemmas.{same_inner}
+use Rattle.ist_core.proofs.OptionLemmas.{same_inner}
 use Rattle.check_events.specs.declared.pasts.Slot.{Slot}
 use Rattle.check_events.specs.declared.pasts.Way.{Way}
 use Rattle.check_events.specs.Remembering.{KnowsSlots, IsWay}

@@ -28,17 +28,10 @@ use Rattle.ist_core.specs.Growing.{AllGrow}
 use Rattle.ist_core.specs.Rebuilding.{IsUpdate}
 use Rattle.ist_core.specs.Deciding.{IsUpdateOf, SaysYes}
 use Rattle.ist_core.proofs.GrowingLemmas.{change_there}
-use Rattle.ist_core.proofs.FreezingLemmas.{same_change}
+use Rattle.ist_core.proofs.OptionLemmas.{same_change}
 use Rattle.check_events.specs.Remembering.{IsUncounted}
 
 -- ---- logs
-
--- what happened in the newer part of a log happened in it
-pub in_later : (P : Event → Type 0) (later earlier : Log) → Happened P later
-    → Happened P (later ++ earlier)
-in_later P [] earlier none = absurd none
-in_later P (event ∷ later) earlier (inl now) = inl now
-in_later P (event ∷ later) earlier (inr before) = inr (in_later P later earlier before)
 
 -- so did the event that the older part begins with
 pub in_between : (P : Event → Type 0) (later : Log) (event : Event) (earlier : Log) → P event

@@ -17,12 +17,13 @@ use Rattle.ist_core.specs.RowLayout.{rebuild_draw_offset}
 use Rattle.ist_core.specs.Snapshots.{Snapshot, without}
 use Rattle.ist_core.specs.StartLayout.{start}
 use Rattle.ist_core.specs.Slots.{SlotHolds}
-use Rattle.ist_core.proofs.DrawLemmas.{same_rebuild}
 use Rattle.ist_core.proofs.FateLemmas.{grow_between}
 use Rattle.ist_core.proofs.GrowingLemmas.{rebuild_there}
 use Rattle.ist_core.proofs.RowLemmas.{changed_at-same}
 use Rattle.ist_rule.specs.declared.view.View.{View}
 use Rattle.ist_core.specs.declared.events.Who.TheVariants.{Caller as CallerOf}
+use Rattle.ist_core.proofs.OptionLemmas.{same_rebuild}
+use Rattle.ist_core.proofs.SettingLemmas.{set_by}
 use Rattle.ist_rule.specs.Conditions.{CanAdd}
 use Rattle.ist_rule.specs.Faces.{TokenFace}
 use Rattle.ist_rule.specs.Rule.{IsSound}
@@ -32,7 +33,7 @@ use Rattle.ist_rule.proofs.GoingOnLemmas.{looked_goes_on}
 use Rattle.ist_dcss.proofs.FieldLemmas.{looked_row, row_low}
 use Rattle.ist_rows.specs.declared.callers.Caller.{Caller}
 use Rattle.ist_rows.specs.Building.{sizes_built}
-use Rattle.laws_stability.proofs.SetLemmas.{set_by, set_later}
+use Rattle.laws_stability.proofs.SetLemmas.{set_later}
 use Rattle.laws_coming.proofs.AddingLemmas.{draw_comes}
 use Rattle.ist_rule.proofs.WentOnLemmas.{later_by-goes_on}
 use Rattle.ist_build.specs.Naming.{drawing}

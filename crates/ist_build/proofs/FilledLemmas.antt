@@ -12,20 +12,20 @@ use Rattle.ist_core.specs.RowLayout.{rebuild_root_offset}
 use Rattle.ist_core.specs.Shapes.{share_from}
 use Rattle.ist_core.specs.Slots.{SlotHolds, in_anchor, in_row}
 use Rattle.ist_core.specs.Snapshots.{Snapshot}
-use Rattle.ist_core.proofs.DrawLemmas.{same_rebuild}
 use Rattle.ist_core.proofs.GrowingLemmas.{rebuild_there}
 use Rattle.ist_core.proofs.ImageLemmas.{get_below}
 use Rattle.ist_core.proofs.PlaceLemmas.{anchor_free}
 use Rattle.ist_core.proofs.ReferenceLemmas.{word_of-ref_of}
 use Rattle.ist_core.proofs.SlotLemmas.{slot_once}
+use Rattle.ist_core.proofs.OptionLemmas.{same_rebuild}
+use Rattle.ist_core.proofs.SettingLemmas.{set_by}
+use Rattle.ist_core.proofs.DrawLemmas.{finished_once}
 use Rattle.ist_rule.specs.declared.view.View.{View}
 use Rattle.ist_rule.specs.Rule.{IsSound}
 use Rattle.ist_rule.specs.Learning.{now, Looked}
 use Rattle.ist_rule.proofs.GoingOnLemmas.{looked_goes_on}
 use Rattle.ist_dcss.proofs.FieldLemmas.{looked_row}
 use Rattle.ist_dcss.proofs.SlotPlaceLemmas.{has_degree}
-use Rattle.laws_stability.proofs.SetLemmas.{set_by}
-use Rattle.laws_coming.proofs.BeatenLemmas.{finished_once}
 use Rattle.laws_calls.specs.Rooting.{HasRootForm, IsWholeRow}
 use Rattle.laws_calls.proofs.RootFormLemmas.{root_has_form}
 use Rattle.ist_build.specs.Calls.{IsTold, IsRooted, IsBuiltOut}

@@ -21,7 +21,7 @@ use Rattle.ist_build.specs.Laying.{BuiltOn, ArePlaced, IsLaid}
 use Rattle.laws_calls.specs.Dividing.{lens_to, parts_to, share_of}
 use Rattle.laws_calls.proofs.PartLemmas.{parts_next}
 use Rattle.ist_build.specs.Midway.{words_at, AreLaid, lens_from, IsMidway, opening, setting}
-use Rattle.ist_build.proofs.BuiltLemmas.{built_more, built_next, built_held, built_grow, rewritten_built}
+use Rattle.ist_build.proofs.BuiltLemmas.{built_more, built_held, built_grow, rewritten_built}
 use Rattle.ist_build.proofs.LayingLemmas.{row_within, rows_below, are_laid_on, same_rows}
 use Rattle.ist_build.proofs.JoinedSubtreeLemmas.{are_laid_more}
 use Rattle.ist_build.proofs.OwnWordLemmas.{words_at_same, words_at_more}
@@ -63,9 +63,6 @@ module _ (old who new : Caller) (leaves : List ℕ) (base d j key word : ℕ)
 
     inside : base + inner_words d ≤ (now v).next
     inside = (row_within v s who.number base (inner_words d) m.held).0
-
-    up : (now v).next ≤ (now c).next
-    up = built_next v c b
 
     -- what was stored before lies still
     stays : (p : ℕ) → p < base + inner_words d → p ≢ base + 3 + d + j → (1 ≤ j → p ≢ base + 3 + j)

@@ -15,7 +15,7 @@ use Rattle.ist_core.specs.declared.events.Who.{Who}
 use Rattle.ist_rule.specs.Going.{WentOn, KeepsWords}
 use Rattle.ist_rule.specs.Rule.{IsSound, own_at}
 use Rattle.ist_rule.specs.Learning.{now, made_after, GoesOnTo, Logged, LoggedLoad}
-use Rattle.ist_rule.proofs.WentOnLemmas.{goes_on_went, logged_load_went, logged_went, went_all, went_grow, went_lawful, went_more, went_now, went_same, went_who}
+use Rattle.ist_rule.proofs.WentOnLemmas.{goes_on_went, logged_load_went, logged_went, went_all, went_grow, went_lawful, went_more, went_now, went_same}
 use Rattle.ist_build.specs.Laying.{LaidOn}
 
 -- the first free word never falls
@@ -46,10 +46,6 @@ module _ (P : Event → Type 0) (v w : View) (b : LaidOn P v w) where
   -- the later view's log is lawful from the start of the earlier one
   pub laid_lawful : Lawful v.start v.words w.log
   laid_lawful = went_lawful P v w laid_went
-
-  -- the caller is still the same one's
-  pub laid_who : w.who ≡ v.who
-  laid_who = went_who P v w laid_went
 
   -- rows grow
   pub laid_grow : AllGrow (now v).pieces (now w).pieces

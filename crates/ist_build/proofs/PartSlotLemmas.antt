@@ -24,15 +24,17 @@ use Rattle.ist_core.proofs.PartLemmas.{part_len-long, part_len-short}
 use Rattle.ist_core.proofs.RootLemmas.{least_degree-le}
 use Rattle.std.proofs.lemmas.Bool.{cases_lt}
 use Rattle.std.proofs.Math.Nat.{le-div_iff_mul-le}
-use Rattle.laws_stability.proofs.SetLemmas.{set_by}
 use Rattle.ist_core.proofs.PlaceLemmas.{anchor_free}
 use Rattle.ist_core.proofs.SlotStepLemmas.{place_writes}
 use Rattle.ist_core.proofs.SoundLemmas.{sound}
 use Rattle.ist_core.proofs.StartLemmas.{sound_start}
 use Rattle.laws_links.proofs.FormLemmas.{finished_with_grows, started_grows}
+use Rattle.laws_links.proofs.ReturnLemmas.{one_inner}
 use Rattle.ist_rule.specs.declared.view.View.{View}
 use Rattle.ist_rule.specs.Rule.{IsSound}
 use Rattle.ist_core.specs.Shown.{IsShown, shown_row}
+use Rattle.ist_core.proofs.OptionLemmas.{same_rebuild}
+use Rattle.ist_core.proofs.SettingLemmas.{set_by}
 use Rattle.ist_rule.specs.Learning.{now, Looked, Logged, LoggedLoad}
 use Rattle.ist_rule.proofs.GoingOnLemmas.{looked_goes_on}
 use Rattle.ist_rule.proofs.LaterLemmas.{later-goes_on}
@@ -49,7 +51,6 @@ use Rattle.ist_build.specs.declared.shared.Shared.{Shared}
 use Rattle.ist_build.specs.Putting.{IsRowOfDegree, IsSlotSet, IsShared}
 use Rattle.ist_build.specs.Back.{IsSharedAs}
 use Rattle.ist_build.proofs.BuiltLemmas.{built_grow, loads_built}
-use Rattle.ist_core.proofs.DrawLemmas.{same_rebuild}
 use Rattle.ist_build.proofs.TopLeafLemmas.{degree_small}
 
 -- ---- slots
@@ -205,9 +206,6 @@ part_two k i many =
 
 -- ---- after the exchange
 
-one_base : (a b : ℕ) → Some (InnerAt a) ≡ Some (InnerAt b) → a ≡ b
-one_base a b e = cc
-
 -- after a Place the slot is set
 pub part_put : (v w : View) (number rebuild i word : ℕ) (rows : List Row) (root : ℕ) (row : RebuildRow)
     → (now v).pieces rebuild ≡ Some (Rebuild row) → ref_of row.root ≡ Some (InnerAt root)
@@ -223,7 +221,7 @@ part_put v w number rebuild i word rows root row e root_is set l =
     let kept = it.2.rooted (set_by row.root _ root_is (λ q. cc)) in
     let row_is = same_rebuild (b.pieces rebuild) can.row it.0 can.published it.1 in
     let same : can.root ≡ root =
-    one_base can.root root (sym can.root_is ∙ ap (λ r. ref_of r.root) row_is ∙ ap ref_of kept ∙ root_is) in
+    one_inner can.root root (sym can.root_is ∙ ap (λ r. ref_of r.root) row_is ∙ ap ref_of kept ∙ root_is) in
     let write = place_writes b number rebuild i word rows can
     (sound (start v.start v.words) l.before (sound_start v.start v.words) enabled)
     (anchor_free v.start v.words l.before enabled) in

@@ -11,7 +11,7 @@ use Rattle.ist_core.proofs.FrozenLemmas.{frozen_reads}
 use Rattle.ist_core.proofs.GrowingLemmas.{inner_there, rebuild_there, leaf_there}
 use Rattle.ist_core.proofs.KeepingLemmas.{finished_leaves_stay}
 use Rattle.ist_core.proofs.LeafLemmas.{reached, slots_reached}
-use Rattle.ist_core.proofs.SlotLemmas.{same_inner}
+use Rattle.ist_core.proofs.OptionLemmas.{same_inner}
 use Rattle.laws_links.specs.Linking.{IsFinished}
 use Rattle.laws_links.proofs.FinishedLemmas.{finished_slot}
 use Rattle.laws_links.proofs.NumberLemmas.{number_is}

@@ -18,6 +18,7 @@ use Rattle.ist_core.proofs.GrowingLemmas.{rebuild_there}
 use Rattle.ist_core.proofs.ReferenceLemmas.{ref_of-unset, ref_of-word_of}
 use Rattle.ist_rule.specs.declared.view.View.{View}
 use Rattle.ist_core.specs.declared.events.Who.TheVariants.{Caller as CallerOf}
+use Rattle.ist_core.proofs.DrawLemmas.{finished_once}
 use Rattle.ist_rule.specs.Conditions.{CanExchange}
 use Rattle.ist_rule.specs.Faces.{TokenFace}
 use Rattle.ist_rule.specs.Rule.{IsSound}
@@ -38,7 +39,6 @@ use Rattle.ist_build.proofs.ReadingLemmas.{leaves_number}
 use Rattle.laws_links.proofs.FinishedLeafLemmas.{finished_leaves}
 use Rattle.laws_links.proofs.FewLeafLemmas.{leaves_stand}
 use Rattle.laws_links.specs.Linking.{IsFinished}
-use Rattle.laws_coming.proofs.BeatenLemmas.{finished_once}
 use Rattle.ist_build.proofs.TopBegunLemmas.{sizes_on}
 use Rattle.ist_build.proofs.TopLeafLemmas.{leaf_there}
 use Rattle.ist_build.proofs.UnsetLemmas.{unset_built}

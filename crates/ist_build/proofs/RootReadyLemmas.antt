@@ -1,5 +1,5 @@
 -- The root of a rebuild, and what was built as one. Serves `root`.
-use Rattle.std.proofs.Common.{◌≡◌, ◌≢◌, ℕ, ◌+◌, ◌/◌, ◌<◌, ◌≤◌, List, [], ◌∷◌, ◌++◌, length, take, drop, Option, Some, None, option_map, refl, sym, ap, ap₂, ◌∙◌, subst, inl, inr, arith}
+use Rattle.std.proofs.Common.{◌≡◌, ◌≢◌, ℕ, ◌+◌, ◌/◌, ◌<◌, ◌≤◌, List, [], ◌∷◌, ◌++◌, length, take, drop, Option, Some, option_map, refl, sym, ap, ap₂, ◌∙◌, subst, inl, inr, arith}
 use Rattle.std.proofs.lemmas.List.{take_all}
 use Rattle.ist_core.specs.declared.events.Event.TheVariants.{Root, Lose}
 use Rattle.ist_core.specs.declared.lists.Row.{Row}
@@ -32,6 +32,7 @@ use Rattle.laws_links.proofs.FormLemmas.{finished_with_grows, started_grows}
 use Rattle.ist_rule.specs.declared.view.View.{View}
 use Rattle.ist_rule.specs.Rule.{IsSound}
 use Rattle.ist_core.specs.Shown.{IsShown, shown_row}
+use Rattle.ist_core.proofs.OptionLemmas.{no_value}
 use Rattle.ist_rule.specs.Learning.{now, Looked, Logged, LoggedLoad}
 use Rattle.ist_rule.proofs.GoingOnLemmas.{looked_goes_on}
 use Rattle.ist_rule.proofs.LaterLemmas.{later-goes_on}
@@ -50,9 +51,6 @@ use Rattle.ist_build.proofs.ReadingLemmas.{leaves_number}
 use Rattle.ist_build.proofs.TopBegunLemmas.{leaves_on}
 
 -- ---- the root of a rebuild
-
-clash : (o : Option Piece) (p : Piece) → o ≡ None → o ≡ Some p → ⊥
-clash o p e f = cc
 
 -- what is known of a rebuild stays true
 pub told_on : (t u : Snapshot) → AllGrow t.pieces u.pieces → (rebuild k : ℕ) → IsTold t rebuild k
@@ -115,7 +113,7 @@ root_put v w number rebuild word rows set l =
     let s = sound (start v.start v.words) l.before (sound_start v.start v.words) enabled in
     let there : with_inners b.pieces rows rebuild ≡ Some (Rebuild can.row) =
     with_inners-other b.pieces rows rebuild
-    (λ i. clash (b.pieces rebuild) (Rebuild can.row) (held_free b number rows can.held s rebuild i)
+    (λ i. no_value (b.pieces rebuild) (Rebuild can.row) (held_free b number rows can.held s rebuild i)
     can.published) ∙ can.published in
     record {
       row = record (can.row) { root = word };

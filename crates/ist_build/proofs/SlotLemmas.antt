@@ -15,7 +15,8 @@ use Rattle.ist_core.proofs.GrowingLemmas.{inner_there, change_there}
 use Rattle.ist_core.proofs.ImageLemmas.{get-words_of_slot}
 use Rattle.ist_core.proofs.PlaceLemmas.{anchor_free}
 use Rattle.ist_core.proofs.ReferenceLemmas.{ref_of-word_of}
-use Rattle.ist_core.proofs.SlotLemmas.{slot_once, same_inner}
+use Rattle.ist_core.proofs.SlotLemmas.{slot_once}
+use Rattle.ist_core.proofs.OptionLemmas.{same_inner}
 use Rattle.laws_links.specs.Linking.{IsFinished}
 use Rattle.laws_links.proofs.FinishedLemmas.{finished_slot, finished_down}
 use Rattle.laws_links.proofs.FormLemmas.{finished_with_grows}

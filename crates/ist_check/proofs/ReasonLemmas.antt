@@ -1,6 +1,7 @@
 -- What follows if all conditions of an event hold, and which conditions are never the first that is
 -- false. Serves `explaining.rt`.
 use Rattle.std.proofs.Common.{◌≡◌, ◌≢◌, ◌∙◌, ◌⊎◌, ◌+◌, ◌*◌, ℕ, Bool, true, false, List, Some, None, refl, sym, ap, ⊎_elim, arith}
+use Rattle.std.proofs.lemmas.Bool.{false≢true}
 use Rattle.ist_core.specs.declared.events.Event.{Event}
 use Rattle.ist_core.specs.declared.events.Event.TheVariants.{Enter, Install, Count, Pass, Root, Draw, Place, Lose}
 use Rattle.ist_core.specs.declared.pairs.Pair.{Pair}
@@ -42,12 +43,9 @@ all_hold first log _ t = t.1.1.1.0
 
 -- ---- conditions that those before them cover
 
-clash : false ≡ true → ⊥
-clash e = cc
-
 -- conditions that a test distinguishes are different
 differ : (test : Condition → Bool) (a b : Condition) → test a ≡ true → test b ≡ false → ¬ (a ≡ b)
-differ test a b here there e = clash (sym there ∙ ap test (sym e) ∙ here)
+differ test a b here there e = false≢true (sym there ∙ ap test (sym e) ∙ here)
 
 abbrev is_set : Condition → Bool
 is_set Set = true

@@ -24,8 +24,7 @@ use Rattle.ist_core.proofs.GrowingLemmas.{inner_there, rebuild_there}
 use Rattle.ist_core.proofs.StepLemmas.{grow_step}
 use Rattle.ist_core.proofs.YesLemmas.{distinct_below}
 use Rattle.ist_core.proofs.DrawnLemmas.{past, drawn_at_most}
-use Rattle.ist_core.proofs.OptionLemmas.{same_inner}
-pub use Rattle.ist_core.proofs.OptionLemmas.{same_rebuild}
+use Rattle.ist_core.proofs.OptionLemmas.{same_inner, same_rebuild}
 
 -- ---- callers
 

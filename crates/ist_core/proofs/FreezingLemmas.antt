@@ -37,8 +37,7 @@ use Rattle.ist_core.proofs.InstallNamingLemmas.{from_plain}
 use Rattle.ist_core.proofs.OrderLemmas.{names}
 use Rattle.ist_core.proofs.OkayLemmas.{okay_published}
 use Rattle.ist_core.proofs.SlotStepLemmas.{install_stands, install_writes, resolve_writes, place_writes, WritesNoSlot, slot_stays, IsNoDecide, change_stays}
-use Rattle.ist_core.proofs.OptionLemmas.{no_value}
-pub use Rattle.ist_core.proofs.OptionLemmas.{same_change}
+use Rattle.ist_core.proofs.OptionLemmas.{no_value, same_change}
 
 -- ---- words and statuses
 

@@ -24,7 +24,6 @@ use Rattle.ist_core.proofs.StartLemmas.{sound_start}
 use Rattle.ist_core.proofs.SpendingLemmas.{next-state}
 use Rattle.ist_core.proofs.LayoutLemmas.{fills_within, fills_apart, fills_rows}
 use Rattle.ist_core.proofs.OptionLemmas.{same_value, no_value}
-pub use Rattle.ist_core.proofs.OptionLemmas.{same_value as one_piece, no_value as no_piece}
 
 -- each row has a word
 pub size_positive : (p : Piece) → 0 < size_of p

@@ -8,7 +8,7 @@ use Rattle.ist_core.specs.Pieces.{Pieces, Piece, Inner, changed_at, with_slot}
 use Rattle.ist_core.specs.Snapshots.{Snapshot}
 use Rattle.ist_core.specs.Slots.{SlotHolds, in_anchor, in_row, IsOpen, anchor_is, row_is}
 use Rattle.ist_core.proofs.RowLemmas.{changed_at-same, changed_at-other}
-pub use Rattle.ist_core.proofs.OptionLemmas.{same_inner}
+use Rattle.ist_core.proofs.OptionLemmas.{same_inner}
 
 -- ---- words of a list
 

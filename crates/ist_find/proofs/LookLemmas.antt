@@ -16,6 +16,7 @@ use Rattle.ist_core.specs.Lawful.{EachEnabled, state_of}
 use Rattle.ist_core.proofs.FateLemmas.{enabled_before}
 use Rattle.ist_core.proofs.NamingLemmas.{slot_names}
 use Rattle.ist_core.proofs.OrderLemmas.{names}
+use Rattle.ist_core.proofs.ChainLemmas.{leads_linked}
 use Rattle.laws_links.proofs.ContentLemmas.{linked_set}
 use Rattle.ist_rule.specs.declared.view.View.{View}
 use Rattle.ist_rule.specs.Rule.{IsSound}
@@ -28,7 +29,7 @@ use Rattle.laws_calls.specs.Walking.{ComesBy, goes_by}
 use Rattle.laws_calls.proofs.WalkLemmas.{meeting_comes, meeting_on}
 use Rattle.laws_histories.proofs.LoadOnLemmas.{at_on, at_prefix, load_on, side_on}
 use Rattle.laws_histories.proofs.LoadLemmas.{look_of, comes_of}
-use Rattle.laws_histories.proofs.SearchLemmas.{seen, leads_linked, there_on}
+use Rattle.laws_histories.proofs.SearchLemmas.{seen, there_on}
 use Rattle.laws_histories.proofs.PositionLemmas.{node_met, look_up}
 use Rattle.laws_histories.proofs.NeededLemmas.{all_needed}
 use Rattle.ist_rule.specs.Watching.{IsNode, is_anchor, is_inner}

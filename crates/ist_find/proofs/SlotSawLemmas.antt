@@ -18,13 +18,14 @@ use Rattle.ist_core.proofs.FateLemmas.{enabled_before, grow_between}
 use Rattle.ist_core.proofs.GrowingLemmas.{inner_there}
 use Rattle.ist_core.proofs.OrderLemmas.{names, child_above}
 use Rattle.ist_core.proofs.PlaceLemmas.{anchor_free}
+use Rattle.ist_core.proofs.ChainLemmas.{leads_linked}
+use Rattle.ist_core.proofs.PrefixLemmas.{goes_on_more}
 use Rattle.laws_links.proofs.ContentLemmas.{linked_set}
 use Rattle.laws_histories.specs.Loads.{log_at}
 use Rattle.laws_histories.specs.Telling.{map_now}
-use Rattle.laws_histories.proofs.ChangeLemmas.{on_trans}
 use Rattle.laws_histories.proofs.LoadOnLemmas.{at_on, at_same}
 use Rattle.laws_histories.proofs.ReadLemmas.{ReadsAs}
-use Rattle.laws_histories.proofs.SearchLemmas.{leads_linked, leads_there, there_on}
+use Rattle.laws_histories.proofs.SearchLemmas.{leads_there, there_on}
 use Rattle.ist_rule.specs.declared.view.View.{View}
 use Rattle.ist_rule.specs.Learning.{now, GoesOnTo}
 use Rattle.ist_rule.specs.Rule.{IsSound}
@@ -81,7 +82,7 @@ pub were_led_on : (v w : View) → GoesOnTo v w → (first last node : ℕ) → 
 were_led_on v w g first last node h =
     record {
       at = h.at;
-      until = on_trans h.at v.log w.log h.until (goes_log v w g);
+      until = goes_on_more h.until (goes_log v w g);
       led = led_on v w g h.at first last node h.led;
     }
 
@@ -95,11 +96,11 @@ pub slot_saw : (u w : View) → GoesOnTo u w → (floor : Log) → GoesOn floor 
     → LookedSince w low (length floor) node i ref → SlotSaw w floor first last low high node ref
 slot_saw u w g floor f first last low high node i ref led from some to child h =
     let s = g.sound.lawful in
-    let begun = on_trans floor u.log w.log f (goes_log u w g) in
+    let begun = goes_on_more f (goes_log u w g) in
     let all = led_on u w g floor first last node led in
     let x = saw_since w.start w.words s.opens w.log s.enabled floor begun low h.last node ref
     (all low from (le_trans some to)) h.look in
-    let until = on_trans x.at (log_at w.log h.last) w.log x.until (at_on w.log h.last) in
+    let until = goes_on_more x.until (at_on w.log h.last) in
     let enabled = enabled_before (start w.start w.words) x.at w.log until s.enabled in
     record {
       at = x.at;
@@ -123,7 +124,7 @@ module _ (w : View) (s : IsSound w) (floor : Log) (first last low high node : �
     (h : SlotSaw w floor first last low high node ref) where
   -- the caller has seen that moment
   pub saw_until : GoesOn h.at w.log
-  saw_until = on_trans h.at (log_at w.log h.load) w.log h.until (at_on w.log h.load)
+  saw_until = goes_on_more h.until (at_on w.log h.load)
 
   -- and the log was lawful then
   pub saw_enabled : EachEnabled (start w.start w.words) h.at

@@ -22,11 +22,12 @@ use Rattle.ist_core.proofs.ParentLemmas.{one_home}
 use Rattle.ist_core.proofs.PlaceLemmas.{anchor_free}
 use Rattle.ist_core.proofs.MentionLemmas.{child_mentioned, one_parent}
 use Rattle.ist_core.proofs.LeadingLemmas.{LedTo, parent_of, child_is, was_led}
+use Rattle.ist_core.proofs.PrefixLemmas.{goes_on_more}
 use Rattle.laws_histories.specs.Finding.{Finds}
 use Rattle.laws_histories.specs.Loads.{log_at}
 use Rattle.laws_histories.specs.Telling.{map_now}
 use Rattle.laws_histories.specs.Searching.{LooksAt, HasPosition, ReadsValue}
-use Rattle.laws_histories.proofs.ChangeLemmas.{on_trans, changes_rise}
+use Rattle.laws_histories.proofs.ChangeLemmas.{changes_rise}
 use Rattle.laws_histories.proofs.ContentLemmas.{told_at}
 use Rattle.laws_histories.proofs.LoadLemmas.{look_of, value_of}
 use Rattle.laws_histories.proofs.LoadOnLemmas.{at_on, at_prefix}
@@ -105,7 +106,7 @@ module _ (opened : List Pair) (words : ℕ) (opens : CanOpen opened words) where
       → value ≡ fin.get (map_now opened words at) key
   value_then log h at key last node index ref value until led for read is =
       let l = enabled_before (start opened words) at log
-      (on_trans at (log_at log last) log until (at_on log last)) h in
+      (goes_on_more until (at_on log last)) h in
       let t = state_of opened words at in
       let given = fin.get (map_now opened words at) key in
       let found = finds_below t key node index read.word given (anchor_free opened words at l) led for

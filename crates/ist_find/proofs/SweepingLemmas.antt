@@ -6,7 +6,7 @@ use Rattle.ist_core.specs.RowLayout.{anchor}
 use Rattle.ist_core.specs.References.{Ref, InnerAt}
 use Rattle.ist_core.specs.Links.{from_anchor}
 use Rattle.ist_core.specs.Logs.{same_log}
-use Rattle.laws_histories.proofs.ChangeLemmas.{on_trans}
+use Rattle.ist_core.proofs.PrefixLemmas.{goes_on_more}
 use Rattle.ist_rule.specs.declared.view.View.{View}
 use Rattle.ist_rule.specs.Learning.{GoesOnTo}
 use Rattle.ist_rule.specs.Rule.{IsSound}
@@ -36,7 +36,7 @@ sweeps_none v w g node first last i count spent old few a some led =
         are = sym (append-nil old);
         sweeps = λ from f led. record {
           at = from;
-          until = on_trans from v.log w.log f (goes_log v w g);
+          until = goes_on_more f (goes_log v w g);
           led = led_on v w g from first last node led;
           row = node;
           under = le_refl node;

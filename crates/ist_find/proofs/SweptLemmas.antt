@@ -9,7 +9,7 @@ use Rattle.ist_core.specs.Logs.{Log, GoesOn, same_log}
 use Rattle.ist_core.specs.Lawful.{EachEnabled, state_of}
 use Rattle.ist_core.proofs.FateLemmas.{enabled_before, grow_between}
 use Rattle.ist_core.proofs.GrowingLemmas.{inner_there}
-use Rattle.laws_histories.proofs.ChangeLemmas.{on_trans}
+use Rattle.ist_core.proofs.PrefixLemmas.{goes_on_more}
 use Rattle.ist_find.specs.Spans.{IsEdge}
 use Rattle.ist_find.specs.Sweeps.{Swept, none_swept, later_swept, row_swept, slot_swept, entering_loads, one_of}
 
@@ -30,11 +30,11 @@ module _ (opened : List Pair) (words : ℕ) where
       → Swept opened words first above from at following row loads found → GoesOn from at
   swept_on first above from _ _ _ _ _ none_swept = same_log
   swept_on first above from _ following row loads found (later_swept {at = at} {later = later} s g) =
-      on_trans from at later (swept_on first above from at following row loads found s) g
+      goes_on_more (swept_on first above from at following row loads found s) g
   swept_on first above from at following _ _ found (row_swept {row = row} {loads = loads} base r s p up way) =
       swept_on first above from at following row loads found s
   swept_on first above from _ _ _ _ _ (slot_swept {at = at} {later = later} {low = low} {row = row} {loads = loads} {found = found} pair s b r) =
-      on_trans from at later (swept_on first above from at low row loads found s) r.on
+      goes_on_more (swept_on first above from at low row loads found s) r.on
 
   -- until a slot that held no row was read, the last row that was entered is the first one or one above
   pub swept_above : (first above : ℕ) (from at : Log) (low row loads : ℕ) (found : List Pair)

@@ -1,9 +1,9 @@
 -- The first pairs of an interval, up to one of them. Serves `read_shot`.
-use Rattle.std.proofs.Common.{◌≡◌, ℕ, zero, suc, ◌<◌, ◌≤◌, nat_le, ◌&&◌, true, false, List, [], ◌∷◌, take, slice_get, Some, refl, sym, ap, subst, ◌∙◌, ⊎_elim, arith}
+use Rattle.std.proofs.Common.{◌≡◌, ℕ, zero, suc, ◌<◌, ◌≤◌, nat_le, ◌&&◌, false, List, [], ◌∷◌, take, slice_get, Some, refl, sym, ap, subst, ◌∙◌, ⊎_elim, arith}
 use Rattle.std.proofs.lemmas.Bool.{cases_lt}
-use Rattle.std.proofs.lemmas.Bool.Decides.{nat_tests}
 use Rattle.ist_core.specs.declared.pairs.Pair.{Pair}
 use Rattle.ist_core.specs.Map.{pairs_between}
+use Rattle.ist_core.proofs.IntervalLemmas.{low_key, high_key, key_within, left_out, kept}
 
 -- of two pairs the first has the lower key
 abbrev pub Rise : List Pair → Type 0
@@ -14,23 +14,6 @@ abbrev pub IsInside : List Pair → ℕ → ℕ → Pair → Type 0
 IsInside all first last x = (j : ℕ) × (slice_get all j ≡ Some x) × (first ≤ x.key) × (x.key ≤ last)
 
 -- ---- one pair before others
-
-low_key : (first last key : ℕ) → key < first → (nat_le first key && nat_le key last) ≡ false
-low_key first last key h = grind (arith, nat_tests)
-
-high_key : (first last key : ℕ) → last < key → (nat_le first key && nat_le key last) ≡ false
-high_key first last key h = grind (arith, nat_tests)
-
-key_within : (first last key : ℕ) → first ≤ key → key ≤ last → (nat_le first key && nat_le key last) ≡ true
-key_within first last key h k = grind (arith, nat_tests)
-
-left_out : (first last : ℕ) (p : Pair) (ps : List Pair) → (nat_le first p.key && nat_le p.key last) ≡ false
-    → pairs_between first last (p ∷ ps) ≡ pairs_between first last ps
-left_out first last p ps e = rw e refl
-
-kept : (first last : ℕ) (p : Pair) (ps : List Pair) → (nat_le first p.key && nat_le p.key last) ≡ true
-    → pairs_between first last (p ∷ ps) ≡ p ∷ pairs_between first last ps
-kept first last p ps e = rw e refl
 
 no_pair : (n : ℕ) (x : Pair) → slice_get {X = Pair} [] n ≡ Some x → ⊥
 no_pair n x at = cc

@@ -3,7 +3,7 @@ use Rattle.std.proofs.Common.{◌≡◌, ℕ, ◌+◌, ◌<◌, List, [], ◌++�
 use Rattle.ist_core.specs.declared.pairs.Pair.{Pair}
 use Rattle.ist_core.specs.Logs.{Log, GoesOn, same_log}
 use Rattle.ist_core.specs.RowLayout.{anchor}
-use Rattle.laws_histories.proofs.ChangeLemmas.{on_trans}
+use Rattle.ist_core.proofs.PrefixLemmas.{goes_on_more}
 use Rattle.laws_histories.proofs.PositionOnLemmas.{position_on}
 use Rattle.ist_find.specs.Spans.{pair_value}
 use Rattle.ist_find.specs.Sweeps.{Swept, none_swept, later_swept, row_swept, slot_swept}
@@ -101,7 +101,7 @@ module _ (p q : PassFace) (r : HasOnlyRead p q) (began : Log) (step : StepsIn p 
         within = o.within;
         values = λ k least most. record {
           at = began;
-          step = step_at later (on_trans began at later on o.on);
+          step = step_at later (goes_on_more on o.on);
           position = position_on p.tree.start p.tree.words began at later later on same_log k
               (pair_value pair k) (o.values k least most);
         };

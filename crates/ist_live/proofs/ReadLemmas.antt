@@ -4,9 +4,7 @@ use Rattle.ist_core.specs.declared.pairs.Pair.{Pair}
 use Rattle.ist_core.specs.Logs.{same_log}
 use Rattle.laws_histories.specs.Searching.{HasPosition}
 use Rattle.laws_histories.proofs.PositionOnLemmas.{position_on}
-use Rattle.ist_find.specs.Spans.{pair_value}
 use Rattle.ist_tree.specs.Faces.{PassFace}
-use Rattle.ist_tree.specs.Spans.{AllHave}
 use Rattle.ist_tree.proofs.HeardLemmas.{seen_more_then, seen_same, steps_from, steps_until}
 use Rattle.ist_live.specs.Reading.{HasOnlyRead, Had, HadSince, HasReadSpan}
 
@@ -63,12 +61,6 @@ had_after p m q r k value h =
       position = position_on p.tree.start p.tree.words h.at h.at m.seen q.seen same_log r.seen.seen k
           value h.position;
     }
-
--- each key of a span had its value since the span's first step
-pub all_had : (p q : PassFace) (first last : ℕ) (pair : Option Pair) → AllHave p q first last pair
-    → (k : ℕ) → first ≤ k → k ≤ last → Had p q k (pair_value pair k)
-all_had p q first last pair h k low high =
-    record { at = h.at; step = h.step; position = h.values k low high }
 
 -- a part of it up to its pair
 pub up_to_pair : (p q : PassFace) (asked from following : ℕ) (x : Pair)

@@ -9,6 +9,7 @@ use Rattle.ist_core.specs.Elements.{Among, Each}
 use Rattle.ist_core.specs.Map.{Map, key_of, map_after}
 use Rattle.ist_core.specs.Histories.{IsLegal}
 use Rattle.ist_core.specs.Replies.{Answered}
+use Rattle.ist_core.proofs.ElementLemmas.{each_of}
 use Rattle.laws_histories.proofs.MapLemmas.{same_head, same_tail}
 use Rattle.ist_reopen.specs.Interleaving.{Owned, IsMadeOf, told_to_pass}
 use Rattle.ist_map.specs.Owning.{is_about, value_after, ReadBack, OnlyGets}
@@ -90,12 +91,6 @@ of_each P x [] h i = absurd i
 of_each P x (y ∷ xs) h (inl same) = subst P (sym same) h.0
 of_each P x (y ∷ xs) h (inr i) = of_each P x xs h.1 i
 
--- what holds of all among them holds of each
-each_among : {A : Type 0} (P : A → Type 0) (xs : List A) → ((x : A) → Among x xs → P x)
-    → Each P xs
-each_among P [] h = tt
-each_among P (x ∷ xs) h = (h x (inl refl), each_among P xs (λ y i. h y (inr i)))
-
 -- if all others only get the key, its owner reads back
 pub owner_reads : (m : Map) (lists : ℕ → List Answered) (history : List Answered)
     → IsLegal m history → IsMadeOf lists history → (key owner : ℕ)
@@ -105,7 +100,7 @@ owner_reads m lists history legal made key owner gets_only =
     subst (λ ts. ReadBack (fin.get m key) (filter (is_about key) ts)) (made.each owner)
     (read_back key owner m made.owned
     (subst (IsLegal m) (sym made.told_are) legal)
-    (each_among (IsOwnersCall key owner) made.owned (λ x i ne.
+    (each_of (IsOwnersCall key owner) made.owned (λ x i ne.
     of_each (λ it. key_of it.command ≡ key → it.command ≡ Get key) x.told (lists x.owner)
     (gets_only x.owner ne)
     (subst (λ ts. Among x.told ts) (made.each x.owner) (told_among x made.owned i)))))

@@ -49,13 +49,6 @@ kept_now first p q full since call none = ⊎_elim
 
 -- ---- a tree
 
--- a handle of the tree was refused
-pub refusal_on : (tree : TreeFace) (first : PassFace) (log : Log) (refused : Option Full)
-    → first.tree ≡ tree → IfSome refused (HandleWasRefused first log)
-    → IfSome refused (IsRefusalOn tree log)
-refusal_on tree first log None same was = tt
-refusal_on tree first log (Some full) same was = (first, same, was)
-
 -- by the end of a later log too
 pub refusal_later : (tree : TreeFace) (log later : Log) (refused : Option Full)
     → GoesOn log later → IfSome refused (IsRefusalOn tree log)

@@ -17,7 +17,6 @@ use Rattle.ist_mark.specs.Marking.{to_row, to_target}
 use Rattle.ist_mark.specs.Passing.{HangsBelow, PassedWith}
 use Rattle.ist_mark.proofs.KeepingLemmas.{happened_went}
 use Rattle.ist_mark.proofs.NodeLemmas.{frozen_names, target_inner}
-pub use Rattle.ist_layout.proofs.MeaningLemmas.{word_names as read_as}
 
 -- ---- words
 

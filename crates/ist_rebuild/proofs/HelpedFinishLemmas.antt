@@ -1,5 +1,6 @@
 -- A finish that was installed, and helped. Serves `carry`.
 use Rattle.std.proofs.Common.{◌≡◌, ◌≢◌, ℕ, ◌==◌, if◌then◌else◌, true, false, Bool, [], ◌∷◌, Some, None, option_map, refl, sym, ap, ◌∙◌, subst}
+use Rattle.std.proofs.lemmas.Option.{same_Some}
 use Rattle.ist_core.specs.declared.events.Event.{Event}
 use Rattle.ist_core.specs.declared.events.Event.TheVariants.{Install}
 use Rattle.ist_core.specs.declared.states.ChangeRow.{ChangeRow}
@@ -12,10 +13,10 @@ use Rattle.ist_core.specs.Slots.{IsOpen, SlotHolds}
 use Rattle.ist_core.specs.StartLayout.{start}
 use Rattle.ist_core.proofs.FateLemmas.{grow_between, enabled_before}
 use Rattle.ist_core.proofs.GrowingLemmas.{change_there}
-use Rattle.ist_core.proofs.PlaceLemmas.{one_piece}
 use Rattle.ist_core.proofs.ReferenceLemmas.{ref_of-word_of}
 use Rattle.ist_rule.specs.declared.view.View.{View}
 use Rattle.ist_core.specs.declared.events.Who.TheVariants.{Caller as CallerOf}
+use Rattle.ist_core.proofs.OptionLemmas.{same_value}
 use Rattle.ist_rule.specs.Faces.{TokenFace}
 use Rattle.ist_rule.specs.Going.{WentOn}
 use Rattle.ist_rule.specs.Learning.{now}
@@ -29,14 +30,14 @@ use Rattle.ist_rows.specs.declared.kinds.Kind.TheVariants.{Change as ChangeKind}
 use Rattle.ist_rows.specs.Building.{HasRefused}
 use Rattle.ist_rows.specs.CallerLaws.{KeepsRows}
 use Rattle.ist_rows.specs.Rows.{IsCaller}
-use Rattle.ist_rows.proofs.CallerGoingLemmas.{caller_goes_on}
+use Rattle.ist_rows.proofs.CallerGoingLemmas.{caller_goes_on, base_same}
 use Rattle.ist_rows.proofs.CallerLawLemmas.{caller_made, caller_went, logged_made, refused_made, refused_went}
-use Rattle.ist_rows.proofs.HeldAfterLemmas.{own_number}
 use Rattle.ist_dcss.specs.Helping.{Serves as HelpsWith, IsDecided, IsOut, MayHelp, WasClosed}
 use Rattle.ist_dcss.specs.Installing.{IsInstalled, IsOther, rows_of}
 use Rattle.ist_dcss.proofs.HelperLemmas.{serves_keep, went_row}
 use Rattle.ist_dcss.proofs.OpeningLemmas.{closed_node_stays}
 use Rattle.ist_dcss.proofs.ResolvedLemmas.{resolved_helped}
+use Rattle.ist_dcss.proofs.FieldLemmas.{one_change}
 use Rattle.ist_rebuild.specs.declared.finishing.Tried.TheVariants.{Other}
 use Rattle.ist_rebuild.specs.declared.sites.PlannedFinish.{PlannedFinish}
 use Rattle.ist_rebuild.specs.Finishing.{IsPlan, IsPrepared, filling_at, finish_row}
@@ -53,19 +54,13 @@ there_after : (ps : Pieces) (base node i word : ℕ) (r : ChangeRow)
 there_after ps base node i word r = at (base == node)
   where
     here : with_row ps base (Some (Change r)) base ≡ Some (Change r)
-    here = ap (λ b. if b then Some (Change r) else ps base) (own_number base)
+    here = ap (λ b. if b then Some (Change r) else ps base) (base_same base)
 
     at : (b : Bool)
         → (if b then option_map (with_slot i word) (with_row ps base (Some (Change r)) base)
         else with_row ps base (Some (Change r)) base) ≡ Some (Change r)
     at true = ap (option_map (with_slot i word)) here
     at false = here
-
-one_change : (a b : ChangeRow) → Some a ≡ Some b → a ≡ b
-one_change a b e = cc
-
-same_change : (a b : ChangeRow) → Change a ≡ Change b → a ≡ b
-same_change a b e = cc
 
 -- the caller after its Install
 pub record HasInstalled (who : Caller) (plan : PlannedFinish) (change : ℕ) (token : TokenFace) : Type 0 where
@@ -91,7 +86,7 @@ module _ (who : Caller) (plan : PlannedFinish) (change : ℕ) (ready : IsReady w
   number_is = ap number_of (sym i.mine ∙ ready.caller.mine)
 
   serves : ServesRebuild event
-  serves r e = ap (λ c. c.kind) (sym (one_change (filling_at who.token.view change).change r e))
+  serves r e = ap (λ c. c.kind) (sym (same_Some (filling_at who.token.view change).change r e))
       ∙ ap (λ c. c.kind) p.is
 
   refused_before : HasRefused before
@@ -173,8 +168,8 @@ module _ (who : Caller) (plan : PlannedFinish) (change : ℕ) (ready : IsReady w
     same_row : (r : ChangeRow) → (now last.view).pieces change ≡ Some (Change r)
         → the_change.0 ≡ r
     same_row r e =
-        same_change the_change.0 r
-        (one_piece ((now last.view).pieces change) (Change the_change.0) (Change r) the_change.1 e)
+        one_change the_change.0 r
+        (same_value ((now last.view).pieces change) (Change the_change.0) (Change r) the_change.1 e)
 
     -- if it was decided yes, the rebuild was replaced
     pub carried_yes : IsSound who.token.view → IsPlan who.token.view plan

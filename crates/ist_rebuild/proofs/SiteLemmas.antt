@@ -1,6 +1,6 @@
 -- What the row of a started rebuild says, and what becomes of it. Serves `field` and `plan_of`.
 use Rattle.std.proofs.Common.{◌≡◌, ℕ, ◌+◌, ◌^◌, ◌<◌, [], slice_get, Some, refl, sym, ap, ◌∙◌, subst}
-use Rattle.std.proofs.lemmas.Option.{slice_get-get_or}
+use Rattle.std.proofs.lemmas.Option.{slice_get-get_or, same_Some}
 use Rattle.std.specs.Prelude.{get_or}
 use Rattle.ist_core.specs.declared.events.Event.{Event}
 use Rattle.ist_core.specs.declared.states.RebuildRow.{RebuildRow}
@@ -13,11 +13,11 @@ use Rattle.ist_core.specs.References.{RebuildAt, IsGoodBase}
 use Rattle.ist_core.specs.RowLayout.{rebuild_words}
 use Rattle.ist_core.specs.Slots.{SlotHolds}
 use Rattle.ist_core.specs.StartLayout.{start}
-use Rattle.ist_core.proofs.DrawLemmas.{same_rebuild}
 use Rattle.ist_core.proofs.GrowingLemmas.{rebuild_there}
 use Rattle.ist_core.proofs.NamingLemmas.{IsRebuildFor}
 use Rattle.ist_core.proofs.ReferenceLemmas.{ref_of-word_of}
 use Rattle.ist_core.proofs.RoomLemmas.{published_good}
+use Rattle.ist_core.proofs.OptionLemmas.{same_rebuild}
 use Rattle.laws_links.proofs.ChangeLemmas.{node_was_linked}
 use Rattle.ist_rule.specs.declared.view.View.{View}
 use Rattle.ist_rule.specs.Going.{WentOn}
@@ -61,7 +61,7 @@ pub rebuild_on : (v w : View) → GoesOnTo v w → (rebuild : ℕ) (row : Rebuil
 rebuild_on v w g rebuild row e =
     rebuild_there (now v).pieces (now w).pieces (goes_on_grow v w g) rebuild row e
 
--- a load of one gives it
+-- a load of same_Some gives it
 pub looked_word : (v : View) (place word : ℕ) (w : View) → Looked v place word w
     → (rebuild offset : ℕ) → IsRebuildRow (now v) rebuild → offset < rebuild_words
     → place ≡ rebuild + offset → IsWordOf (now w) rebuild offset word
@@ -74,19 +74,16 @@ looked_word v place word w l rebuild offset h less at =
     on.1 got at in
     record { row = on.0; published = on.1; is = got ∙ ap (λ n. Some n) (sym same) }
 
-one : (a b : ℕ) → Some a ≡ Some b → a ≡ b
-one a b e = cc
-
 -- the parent's word of a rebuild fits in 32 bits
 pub parent_small : (v : View) → IsSound v → (rebuild word : ℕ) → IsWordOf (now v) rebuild 1 word
     → word < 2 ^ 32
 parent_small v s rebuild word h =
-    subst (λ n. n < 2 ^ 32) (one h.row.parent word h.is)
+    subst (λ n. n < 2 ^ 32) (same_Some h.row.parent word h.is)
     (fields_low v s rebuild h.row h.published).parent
 
 -- ---- the plan of a finish
 
--- the words that were loaded one after another
+-- the words that were loaded same_Some after another
 pub record HasReadSite (v w : View) (rebuild parent index root : ℕ) : Type 0 where
   pub a : View
   pub b : View
@@ -123,7 +120,7 @@ fits_first v s plan row e started b parent index root owner =
       fresh_are = refl;
     }
 
--- a plan stays one
+-- a plan stays same_Some
 pub plan_went : (P : Event → Type 0) (v w : View) → WentOn P v w → (plan : PlannedFinish) → IsPlan v plan
     → IsPlan w plan
 plan_went P v w g plan p =
@@ -171,13 +168,13 @@ planned v w s plan started b r =
     first.published in
     let parent : first.row.parent ≡ plan.parent =
     sym at_a.2.parent ∙ ap (λ x. x.parent) same_a
-    ∙ one r.parent_is.row.parent plan.parent r.parent_is.is in
+    ∙ same_Some r.parent_is.row.parent plan.parent r.parent_is.is in
     let index : first.row.index ≡ plan.index =
     sym at_b.2.index ∙ ap (λ x. x.index) same_b
-    ∙ one r.index_is.row.index plan.index r.index_is.is in
+    ∙ same_Some r.index_is.row.index plan.index r.index_is.is in
     let root : first.row.root ≡ plan.root =
     sym (at_w.2.rooted (λ e. b.built.set (ap (λ x. x.root) same_v ∙ e)))
-    ∙ ap (λ x. x.root) same_w ∙ one r.root_is.row.root plan.root r.root_is.is in
+    ∙ ap (λ x. x.root) same_w ∙ same_Some r.root_is.row.root plan.root r.root_is.is in
     plan_on v w gw plan record {
       row = first.row;
       published = first.published;

@@ -1,10 +1,10 @@
 -- What a load of a rebuild's slot says of the rebuild. Serves `slot_word`, `settle` and `conclude`.
-use Rattle.std.proofs.Common.{◌≡◌, ◌≢◌, ℕ, ◌<◌, Option, None, Some, refl, sym, ap, ◌∙◌, subst, ⊎_elim, arith}
+use Rattle.std.proofs.Common.{◌≡◌, ◌≢◌, ℕ, ◌<◌, Some, sym, ap, ◌∙◌, subst, ⊎_elim, arith}
 use Rattle.ist_core.specs.declared.events.Event.{Event}
 use Rattle.ist_core.specs.RowLayout.{anchor, anchor_slot_place}
-use Rattle.ist_core.specs.Pieces.{Inner, Pieces, size_of, words_of}
+use Rattle.ist_core.specs.Pieces.{Inner, size_of, words_of}
 use Rattle.ist_core.specs.Rebuilding.{IsReplaced}
-use Rattle.ist_core.specs.References.{Ref, Empty, Unset, LeafAt, InnerAt, ChangeAt, RebuildAt, ref_of, word_of}
+use Rattle.ist_core.specs.References.{ChangeAt, RebuildAt, ref_of, word_of}
 use Rattle.ist_core.specs.Shown.{IsShown, shown_next, shown_callers, shown_status, shown_slot, shown_row, shown_free}
 use Rattle.ist_core.specs.Slots.{SlotHolds, IsOpen, in_anchor, in_row, past_change}
 use Rattle.ist_core.specs.Writing.{place_of_slot}
@@ -13,6 +13,7 @@ use Rattle.ist_core.proofs.PlaceLemmas.{anchor_free, placed, claimed_within}
 use Rattle.ist_core.proofs.ReferenceLemmas.{word_of-ref_of}
 use Rattle.ist_core.proofs.RoomLemmas.{next_within, words_same}
 use Rattle.ist_core.proofs.SlotLemmas.{slot_once}
+use Rattle.ist_core.proofs.FrozenLemmas.{past_no_change}
 use Rattle.laws_links.proofs.RebuiltLemmas.{started_reads, read_unreplaced}
 use Rattle.ist_rule.specs.declared.view.View.{View}
 use Rattle.ist_rule.specs.Going.{WentOn}
@@ -116,17 +117,6 @@ pub not_itself : (rebuild word : ℕ) → word ≢ word_of (RebuildAt rebuild)
 not_itself rebuild word other is =
     other (sym (word_of-ref_of word (RebuildAt rebuild) is).same_word)
 
--- what is no change reads as it is
-read_same : (ps : Pieces) (o : Option Ref) → ((base : ℕ) → o ≢ Some (ChangeAt base))
-    → past_change ps o ≡ o
-read_same ps None none = refl
-read_same ps (Some Empty) none = refl
-read_same ps (Some Unset) none = refl
-read_same ps (Some (LeafAt base)) none = refl
-read_same ps (Some (InnerAt base)) none = refl
-read_same ps (Some (RebuildAt base)) none = refl
-read_same ps (Some (ChangeAt base)) none = absurd (none base refl)
-
 module _ (v : View) (s : IsSound v) (plan : PlannedFinish) (p : IsPlan v plan) (word : ℕ)
     (holds : SlotHolds (now v) plan.parent plan.index word) where
   -- the slot, by the words of the rebuild's row
@@ -145,7 +135,7 @@ module _ (v : View) (s : IsSound v) (plan : PlannedFinish) (p : IsPlan v plan) (
       slot_once (now v) p.row.parent p.row.index r.word word
       (anchor_free v.start v.words v.log s.lawful.enabled) r.holds in_row_words in
       absurd (another
-      (sym (read_same (now v).pieces (ref_of word) no_change)
+      (sym (past_no_change (now v).pieces (ref_of word) no_change)
       ∙ ap (λ n. past_change (now v).pieces (ref_of n)) (sym same) ∙ r.reads)))
       (started_reads v.start v.words s.lawful.opens v.log s.lawful.enabled plan.rebuild p.row
       p.published p.started)

@@ -1,7 +1,6 @@
 -- What installing and helping a start leaves of its caller. Serves `put_in`.
 use Rattle.std.proofs.Common.{◌≡◌, ℕ, [], ◌∷◌, None, refl, sym, ap, ◌∙◌}
-use Rattle.ist_core.specs.declared.events.Event.{Event}
-use Rattle.ist_core.specs.declared.events.Event.TheVariants.{Install, Okay, Decide, Resolve}
+use Rattle.ist_core.specs.declared.events.Event.TheVariants.{Install}
 use Rattle.ist_core.specs.Snapshots.{bases_of}
 use Rattle.ist_core.specs.declared.events.Who.TheVariants.{Caller as CallerOf}
 use Rattle.ist_core.specs.Authors.{whose}
@@ -19,15 +18,9 @@ use Rattle.ist_rows.proofs.CallerLawLemmas.{caller_went, refused_went, resolved_
 use Rattle.ist_dcss.specs.Helping.{Serves, IsOut}
 use Rattle.ist_dcss.specs.Installing.{Filling, rows_of, IsInstalled}
 use Rattle.ist_dcss.proofs.ResolvedLemmas.{resolved_helped}
+use Rattle.ist_dcss.proofs.HelperLemmas.{serves_keep}
 use Rattle.ist_rows.specs.Going.{IsQuiet}
 use Rattle.ist_rebuild.specs.StartSteps.{HasStartRows, start_filling}
-
--- a step of help changes nothing of what is held
-serving_keeps : (change : ℕ) (event : Event) → Serves change event → KeepsRows event
-serving_keeps change (Okay c other) is = tt
-serving_keeps change (Decide c other said) is = tt
-serving_keeps change (Resolve c other) is = tt
-serving_keeps change _ is = absurd is
 
 -- ---- if the slot held another word
 
@@ -90,7 +83,7 @@ module _ (who : Caller) (rebuild change : ℕ) (rows : HasStartRows who rebuild 
 
   module _ (last : TokenFace) (g : WentOn (Serves change) token.view last.view) where
     kept : WentOn KeepsRows token.view last.view
-    kept = went_all (Serves change) KeepsRows (serving_keeps change) token.view last.view g
+    kept = went_all (Serves change) KeepsRows (serves_keep change) token.view last.view g
 
     -- after the help it is a caller without the two rows
     pub put_caller : IsCaller (bare last)

@@ -3,21 +3,18 @@ use Rattle.std.proofs.Common.{◌≡◌, ℕ, ◌≤◌, refl, sym, ap, ap₂, �
 use Rattle.ist_build.specs.Laying.{IsReservation}
 use Rattle.ist_core.specs.declared.events.Event.{Event}
 use Rattle.ist_core.specs.declared.events.Event.TheVariants.{Reserve}
-use Rattle.ist_core.specs.declared.states.InnerRow.{InnerRow}
-use Rattle.ist_core.specs.Growing.{InnerGrows}
 use Rattle.ist_core.specs.Installing.{IsUnrefused, FitsKind, a_start}
 use Rattle.ist_core.specs.Lawful.{state_of}
 use Rattle.ist_core.specs.Links.{Linked, WasLinked}
 use Rattle.ist_core.specs.Pieces.{Inner}
-use Rattle.ist_core.specs.Rebuilding.{IsDue, IsUpdate}
+use Rattle.ist_core.specs.Rebuilding.{IsUpdate}
 use Rattle.ist_core.specs.References.{word_of, InnerAt, RebuildAt, IsGoodBase}
 use Rattle.ist_core.specs.Slots.{SlotHolds, in_anchor, in_row}
 use Rattle.ist_core.specs.Snapshots.{Snapshot}
 use Rattle.ist_core.specs.StartLayout.{start}
 use Rattle.ist_core.specs.Statuses.{start_kind}
-use Rattle.ist_core.specs.Arithmetic.{limit}
 use Rattle.ist_core.proofs.FateLemmas.{grow_between}
-use Rattle.ist_core.proofs.GrowingLemmas.{inner_there, slot_remains}
+use Rattle.ist_core.proofs.GrowingLemmas.{inner_there, slot_remains, due_later}
 use Rattle.ist_core.proofs.PlaceLemmas.{placed, claimed_within}
 use Rattle.ist_core.proofs.ReferenceLemmas.{ref_of-word_of}
 use Rattle.ist_core.proofs.RoomLemmas.{next_within, words_same}
@@ -81,15 +78,6 @@ pub reserving_installs : (event : Event) → IsReservation event → InstallsNon
 reserving_installs (Reserve c base size) is = tt
 reserving_installs _ is = absurd is
 
--- a row that was due is due
-due_on : (old new : InnerRow) → InnerGrows old new → IsDue old → IsDue new
-due_on old new g due =
-    let count = g.count in
-    let same : limit new.size ≡ limit old.size = ap limit g.size in
-    let was : limit old.size ≤ old.count = due in
-    let is : limit new.size ≤ new.count = omega arith in
-    is
-
 -- a caller that reserved is in its call, and all its changes are resolved
 pub reserved_quiet : (old new : Caller) → IsCaller old → new.number ≡ old.number
     → WentOn IsReservation old.token.view new.token.view → IsQuiet old → IsQuiet new
@@ -120,7 +108,7 @@ may_start_on v w parent index target g m =
           (later-goes_on g.later) m.linked);
       row = row.0;
       published = row.1;
-      due = ⊎_elim (λ due. inl (due_on m.row row.0 row.2 due)) (λ top. inr top) m.due;
+      due = ⊎_elim (λ due. inl (due_later m.row row.0 row.2 due)) (λ top. inr top) m.due;
     }
 
 -- a caller that has filled the rows of a start is quiet
@@ -161,7 +149,7 @@ module _ (v : View) (parent index target : ℕ) (m : MayStart v parent index tar
         row = row.0;
         from = ref_of-word_of (InnerAt target) (target_good v sv parent index target m);
         published = row.1;
-        due = ⊎_elim (λ due. inl (due_on m.row row.0 row.2 due)) (λ top. inr top) m.due;
+        due = ⊎_elim (λ due. inl (due_later m.row row.0 row.2 due)) (λ top. inr top) m.due;
         rebuild = rebuild;
         to = ref_of-word_of (RebuildAt rebuild) (rebuild_good mid rebuild change rows c s);
         fresh_are = refl;

@@ -6,7 +6,7 @@ use Rattle.ist_core.specs.declared.states.RebuildRow.{RebuildRow}
 use Rattle.ist_core.specs.After.{after}
 use Rattle.ist_core.specs.Growing.{AllGrow, ChangeGrows, RebuildGrows}
 use Rattle.ist_core.specs.Lawful.{state_of}
-use Rattle.ist_core.specs.Pieces.{Piece, Change, Rebuild, with_slot, with_row}
+use Rattle.ist_core.specs.Pieces.{Change, Rebuild, with_slot, with_row}
 use Rattle.ist_core.specs.References.{ChangeAt, RebuildAt, Ref, IsGoodBase, ref_of, word_of}
 use Rattle.ist_core.specs.Slots.{IsOpen, SlotHolds}
 use Rattle.ist_core.specs.Snapshots.{Snapshot}
@@ -15,6 +15,7 @@ use Rattle.ist_core.proofs.InstallLemmas.{with_installed}
 use Rattle.ist_core.proofs.NamingStepLemmas.{changed_at-fixed, installed_stands}
 use Rattle.ist_core.proofs.ReferenceLemmas.{ref_of-word_of}
 use Rattle.ist_core.proofs.RowLemmas.{with_row-same, with_row-other}
+use Rattle.ist_core.proofs.OptionLemmas.{same_change}
 use Rattle.laws_calls.proofs.RefusedLemmas.{refused_closed}
 use Rattle.ist_rule.specs.declared.view.View.{View}
 use Rattle.ist_rule.specs.Learning.{now}
@@ -79,10 +80,6 @@ module _ (number parent index target rebuild change : ℕ) (apart : rebuild ≢ 
         (ap (λ (x : View). (now x).pieces rebuild) i.logged.view
         ∙ rebuild_stands (state_of u.start u.words i.logged.before))
 
-    one_change : (o : Option Piece) (a b : ChangeRow) → o ≡ Some (Change a) → o ≡ Some (Change b)
-        → a ≡ b
-    one_change o a b e f = cc
-
   -- decided yes, it is started
   pub put_started : IsGoodBase rebuild → (v w : View)
       → HasPutIn v change (start_filling number parent index target rebuild) true w
@@ -90,7 +87,7 @@ module _ (number parent index target rebuild change : ℕ) (apart : rebuild ≢ 
   put_started good v w h =
       let x = put_change v true w h in
       let r = put_rebuild v true w h in
-      let same = one_change v true w h _ h.decided.row x.0 h.decided.published x.1 in
+      let same = same_change v true w h _ h.decided.row x.0 h.decided.published x.1 in
       record {
         row = r.0;
         published = r.1;
@@ -114,7 +111,7 @@ module _ (number parent index target rebuild change : ℕ) (apart : rebuild ≢ 
       → ¬ (IsOpen (now w) parent)
   put_closed v w s h =
       let x = put_change v false w h in
-      let same = one_change v false w h _ h.decided.row x.0 h.decided.published x.1 in
+      let same = same_change v false w h _ h.decided.row x.0 h.decided.published x.1 in
       subst (λ n. ¬ (IsOpen (now w) n)) (ap (λ (c : ChangeRow). c.node) x.2.others)
       (refused_closed w.start w.words s.lawful.opens w.log s.lawful.enabled change x.0 x.1
       (ap (λ (c : ChangeRow). c.decision) (sym same) ∙ h.decided.decision))
@@ -126,7 +123,7 @@ module _ (number parent index target rebuild change : ℕ) (apart : rebuild ≢ 
       → y.decision ≡ h.decided.row.decision
   put_said v said w h y e =
       ap (λ (c : ChangeRow). c.decision)
-      (one_change v said w h _ y h.decided.row e h.decided.published)
+      (same_change v said w h _ y h.decided.row e h.decided.published)
 
   -- the change starts that rebuild and no other
   pub put_to : (v : View) (said : Bool) (w : View)
@@ -135,7 +132,7 @@ module _ (number parent index target rebuild change : ℕ) (apart : rebuild ≢ 
       → ref_of y.to ≡ Some (RebuildAt other) → other ≡ rebuild
   put_to v said w h good y e other to =
       let x = put_change v said w h in
-      let same = one_change v said w h _ x.0 y x.1 e in
+      let same = same_change v said w h _ x.0 y x.1 e in
       one_ref _ (sym (ap (λ (c : ChangeRow). ref_of c.to) (sym same)
       ∙ ap (λ (c : ChangeRow). ref_of c.to) x.2.others)) to
       (ref_of-word_of (RebuildAt rebuild) good)

@@ -6,6 +6,7 @@ use Rattle.ist_core.specs.declared.calls.Call.{Call}
 use Rattle.ist_core.specs.Elements.{Each}
 use Rattle.ist_core.specs.Changes.{Entry}
 use Rattle.ist_core.specs.Standing.{is_change, entry_by, entries_by, position_after, Follows, AllFollow}
+use Rattle.laws_real_time.proofs.CountLemmas.{count_rises}
 
 module _ (number : ℕ) where
   -- the call is the entry at its position, where the entries begin at this position
@@ -58,16 +59,6 @@ module _ (number : ℕ) where
     shift_all first entry entries calls low.1 made.1,
   )
 
-  -- one entry more is no fewer of the pass
-  one_entry : (entry : Entry) (entries : List Entry)
-      → length (entries_by number entries) ≤ length (entries_by number (entry ∷ entries))
-  one_entry entry entries =
-      elim (entry.owner == number) as (λ v. length (entries_by number entries)
-      ≤ length (if v then entry ∷ entries_by number entries else entries_by number entries)) [
-        | true ↦ omega arith
-        | false ↦ omega arith
-      ]
-
   -- no entries
   abbrev no_entries : List Entry
   no_entries = []
@@ -109,7 +100,7 @@ module _ (number : ℕ) where
           let low : Each (λ other. first + 1 ≤ other.position) (call ∷ calls)
           = (high, above first call (omega arith) calls climb.0) in
           let less = both low (shift_all first entry entries (call ∷ calls) low made) in
-          let more = one_entry entry entries in
+          let more = count_rises number entry entries in
           omega arith
 
   -- ---- the changes among the calls, as such

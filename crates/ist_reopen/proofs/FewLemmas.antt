@@ -1,55 +1,24 @@
 -- A closed tree holds few pairs: no more than it was opened with and had changes. Serves
 -- `open_after`.
-use Rattle.std.proofs.Common.{◌≡◌, ℕ, ◌+◌, ◌-◌, ◌^◌, ◌<◌, ◌≤◌, Bool, true, false, cond, List, [], ◌∷◌, length, map, sym, subst, ◌∙◌, arith}
+use Rattle.std.proofs.Common.{◌≡◌, ℕ, ◌+◌, ◌-◌, ◌^◌, ◌<◌, ◌≤◌, List, [], ◌∷◌, length, map, sym, subst, ◌∙◌, arith}
 use Rattle.std.proofs.lemmas.List.{length-map}
 use Rattle.std.specs.FinMap as fin
 use Rattle.std.specs.List.Sorted.{IsStrictlyIncreasing}
 use Rattle.std.specs.Ordering.{nat_cmp}
 use Rattle.std.specs.Cmp.{nat_cmp_total}
-use Rattle.ist_core.specs.declared.commands.Command.{Command}
-use Rattle.ist_core.specs.declared.commands.Command.TheVariants.{Put, Remove, Get}
 use Rattle.ist_core.specs.declared.pairs.Pair.{Pair}
 use Rattle.ist_core.specs.Changes.{Entry, changes_of}
 use Rattle.ist_core.specs.Logs.{Log}
 use Rattle.ist_core.specs.Lawful.{Lawful}
-use Rattle.ist_core.specs.Map.{Map, map_of, map_after, replay, pairs_of}
+use Rattle.ist_core.specs.Map.{map_of, pairs_of}
 use Rattle.ist_core.specs.Replies.{Answered}
 use Rattle.ist_core.specs.Resting.{StandsFor}
 use Rattle.ist_core.proofs.WordLemmas.{ideal_words_is}
+use Rattle.ist_core.proofs.MapLemmas.{one_kept, adds_few_keys, length-pairs_of}
 use Rattle.laws_histories.specs.Telling.{map_now}
 use Rattle.laws_histories.proofs.ContentLemmas.{pairs_rise_at}
 use Rattle.ist_rest.specs.Standings.{Stands}
 use Rattle.ist_tree.proofs.FewChangesLemmas.{few_changes}
-
--- one more key at most
-one_kept : (b : Bool) (n : ℕ) → cond b n (n + 1) ≤ n + 1
-one_kept true n = omega arith
-one_kept false n = omega arith
-
--- one key less at most
-one_less : (b : Bool) (n : ℕ) → cond b (n - 1) n ≤ n
-one_less true n = omega arith
-one_less false n = omega arith
-
--- a command adds at most one key
-one_more : (m : Map) (c : Command) → fin.len (map_after m c) ≤ fin.len m + 1
-one_more m (Put key value) =
-    let long = fin.len-insert nat_cmp_total m key value in
-    let high = one_kept (fin.contains_key m key) (fin.len m) in
-    omega arith
-one_more m (Remove key) =
-    let long = fin.len-remove nat_cmp_total m key in
-    let high = one_less (fin.contains_key m key) (fin.len m) in
-    omega arith
-one_more m (Get key) = omega arith
-
--- commands add at most as many keys as there are commands
-len_replay : (m : Map) (cs : List Command) → fin.len (replay m cs) ≤ fin.len m + length cs
-len_replay m [] = omega arith
-len_replay m (c ∷ cs) =
-    let one = one_more m c in
-    let rest = len_replay (map_after m c) cs in
-    omega arith
 
 -- entries make a map of at most as many keys
 len_entries : (es : List (ℕ × ℕ)) → fin.len (fin.from_entries {R = nat_cmp} es) ≤ length es
@@ -61,10 +30,6 @@ len_entries (e ∷ es) =
     (fin.len (fin.from_entries {R = nat_cmp} es)) in
     omega arith
 
--- the number of a map's pairs is its length
-pairs_long : (m : Map) → length (pairs_of m) ≡ fin.len m
-pairs_long m = length-map (fin.entries m) _ ∙ sym (fin.len-entries m)
-
 -- after a lawful log there are fewer than 2 ^ 32 pairs
 pub pairs_few : (pairs : List Pair) (words : ℕ) (log : Log) → Lawful pairs words log
     → length (pairs_of (map_now pairs words log)) < 2 ^ 32
@@ -73,9 +38,9 @@ pairs_few pairs words log lawful =
     let room = lawful.opens.room in
     let within = lawful.opens.within in
     let ideal = ideal_words_is (length pairs) in
-    let long = pairs_long (map_now pairs words log) in
+    let long = length-pairs_of (map_now pairs words log) in
     let entries = changes_of pairs words log in
-    let grown = len_replay (map_of pairs) (map (λ entry. entry.command) entries) in
+    let grown = adds_few_keys (map_of pairs) (map (λ entry. entry.command) entries) in
     let commands : length (map (λ (entry : Entry). entry.command) entries) ≡ length entries
     = length-map entries _ in
     let first = len_entries (map {A = Pair} {B = ℕ × ℕ} (λ p. (p.key, p.value)) pairs) in

@@ -1,29 +1,24 @@
 -- Closed trees are generations, and the calls on trees that follow one another are one legal
 -- history. Serves the laws.
-use Rattle.std.proofs.Common.{◌≡◌, ℕ, zero, suc, ◌+◌, ◌<◌, List, [], ◌∷◌, length, refl, sym, ap, subst, ◌∙◌}
+use Rattle.std.proofs.Common.{◌≡◌, ℕ, ◌+◌, ◌<◌, List, [], ◌∷◌, length, refl, sym, ap, subst, ◌∙◌}
 use Rattle.ist_core.specs.declared.pairs.Pair.{Pair}
 use Rattle.ist_core.specs.Map.{map_of}
 use Rattle.ist_core.specs.Elements.{Each}
-use Rattle.ist_core.specs.Histories.{PassCalls, IsLegal}
+use Rattle.ist_core.specs.Histories.{IsLegal}
 use Rattle.ist_core.specs.Resting.{AllStandIn}
+use Rattle.ist_core.proofs.MapLemmas.{map_of-pairs_of}
 use Rattle.laws_histories.specs.Telling.{map_now}
 use Rattle.laws_histories.specs.Weaving.{numbered}
 use Rattle.laws_histories.proofs.ContentLemmas.{told_at}
 use Rattle.laws_histories.proofs.MapLemmas.{legal_append}
 use Rattle.laws_histories.proofs.WovenLemmas.{taken_legal}
 use Rattle.ist_tree.specs.Faces.{MakerFace}
-use Rattle.ist_tree.specs.Closing.{ClosesWith, calls_from}
+use Rattle.ist_tree.specs.Closing.{ClosesWith}
+use Rattle.ist_tree.proofs.TakenLemmas.{lists_long}
 use Rattle.ist_reopen.specs.Generations.{Generation, generation_of, IsGeneration, FollowOn, history}
 use Rattle.ist_reopen.specs.Generations.{changes_in, history_in, pairs_left, map_told}
 use Rattle.ist_reopen.proofs.HistoryLemmas.{told-append, woven_leads}
-use Rattle.ist_reopen.proofs.MapLemmas.{pairs_are_map}
 use Rattle.ist_reopen.proofs.TimeLemmas.{returned_are}
-
--- there is a list of calls for each number
-calls_long : (number count : ℕ) (taken : List PassCalls)
-    → length (calls_from number count taken) ≡ count
-calls_long number zero taken = refl
-calls_long number (suc count) taken = ap suc (calls_long (number + 1) count taken)
 
 -- a tree that was closed is a generation
 pub closed_is : (m : MakerFace) (closed : List ℕ) (c : ClosesWith m closed)
@@ -33,7 +28,7 @@ closed_is m closed c = record {
   stand = subst (λ calls. AllStandIn m.tree.start (length closed) c.stands.log 0 calls) c.calls_are
       c.stands.stand;
   owners = subst (λ n. Each (λ entry. entry.owner < n) (changes_in (generation_of m closed c)))
-      (sym (calls_long 0 m.made m.taken)) c.owners;
+      (sym (lists_long 0 m.made m.taken)) c.owners;
   linear = record { linear = c.timed.linear; leads = c.leads };
   over = c.timed.over;
   returned = returned_are m closed c;
@@ -49,7 +44,7 @@ pub one_leads : (g : Generation) → IsGeneration g
     → map_told (map_of g.start) (history_in g) ≡ map_of (pairs_left g)
 one_leads g h =
     woven_leads (map_of g.start) (changes_in g) (numbered 0 g.calls) (one_legal g h)
-    ∙ sym (pairs_are_map (map_now g.start g.words g.log))
+    ∙ sym (map_of-pairs_of (map_now g.start g.words g.log))
 
 -- the same from the pairs that the tree was opened with
 from_first : (first : List Pair) (g : Generation) → g.start ≡ first → IsGeneration g

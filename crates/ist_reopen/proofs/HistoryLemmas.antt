@@ -1,12 +1,13 @@
 -- A legal woven history leads where its changes lead. Serves `laws.histories_are_one`.
-use Rattle.std.proofs.Common.{◌≡◌, ℕ, ◌+◌, false, List, [], ◌∷◌, ◌++◌, map, Bool, true, ◌==◌, if◌then◌else◌, refl, sym, ap, subst, ◌∙◌, inl, inr}
+use Rattle.std.proofs.Common.{◌≡◌, ℕ, ◌+◌, false, List, [], ◌∷◌, ◌++◌, map, Bool, true, ◌==◌, if◌then◌else◌, refl, sym, ap, subst, ◌∙◌}
 use Rattle.std.proofs.lemmas.List.{map-append}
 use Rattle.ist_core.specs.Map.{Map, map_after, replay}
-use Rattle.ist_core.specs.Elements.{Among, Each}
+use Rattle.ist_core.specs.Elements.{Each}
 use Rattle.ist_core.specs.Changes.{Entry, map_after_entries}
 use Rattle.ist_core.specs.Standing.{is_change}
 use Rattle.ist_core.specs.Histories.{PassCalls, Reading, readings, in_order, at_position, told_by_entry, told_by_reading, woven_from, woven, IsLegal}
 use Rattle.ist_core.specs.Replies.{Answered}
+use Rattle.ist_core.proofs.ElementLemmas.{each_of}
 use Rattle.laws_histories.proofs.MapLemmas.{same_head, same_tail, replay-append, no_entry_leaves}
 use Rattle.laws_histories.proofs.WovenLemmas.{among-in_order, of_passes}
 use Rattle.ist_reopen.specs.Generations.{map_told}
@@ -72,12 +73,6 @@ leads_from position (entry ∷ entries) xs m plain legal =
     ∙ ap (λ n. map_told n (told_by_entry entry ∷ woven_from (position + 1) entries xs)) here.leaves
     ∙ leads_from (position + 1) entries xs (map_after m entry.command) plain
     (same_tail _ _ _ _ here.legal)
-
--- what holds of all elements holds of each
-each_of : (P : Reading → Type 0) (xs : List Reading) → ((x : Reading) → Among x xs → P x)
-    → Each P xs
-each_of P [] h = tt
-each_of P (x ∷ xs) h = (h x (inl refl), each_of P xs (λ y i. h y (inr i)))
 
 -- a legal woven history leads where its changes lead
 pub woven_leads : (m : Map) (entries : List Entry) (passes : List PassCalls)

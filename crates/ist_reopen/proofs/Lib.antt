@@ -1,7 +1,6 @@
 pub mod FewLemmas
 pub mod ReopenLemmas
 pub mod HistoryLemmas
-pub mod MapLemmas
 pub mod TimeLemmas
 pub mod GenerationLemmas
 pub mod OwnedLemmas

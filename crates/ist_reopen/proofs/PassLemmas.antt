@@ -1,6 +1,6 @@
 -- The calls of each pass of a generation are placed among its changes and readings, and the history
 -- is made of them. Serves `laws.histories_are_made_of_calls`.
-use Rattle.std.proofs.Common.{◌≡◌, ◌⊎◌, ℕ, zero, suc, ◌+◌, ◌<◌, ◌≤◌, ◌==◌, not, Bool, true, false, List, [], ◌∷◌, ◌++◌, map, filter, length, slice_get, slice_index_or, Some, refl, sym, ap, subst, ◌∙◌, inl, inr, ⊎_elim, arith}
+use Rattle.std.proofs.Common.{◌≡◌, ◌⊎◌, ℕ, zero, suc, ◌+◌, ◌<◌, ◌≤◌, ◌==◌, not, Bool, true, false, List, [], ◌∷◌, ◌++◌, map, filter, length, slice_get, slice_index_or, Some, refl, sym, ap, subst, ◌∙◌, ⊎_elim, arith}
 use Rattle.std.proofs.lemmas.Bool.Decides.{nat_tests}
 use Rattle.std.proofs.lemmas.List.{map-append, append-nil}
 use Rattle.std.proofs.lemmas.List.Elements.{filter-append}
@@ -12,6 +12,7 @@ use Rattle.ist_core.specs.Changes.{Entry}
 use Rattle.ist_core.specs.Standing.{is_change, entry_by, entries_by, StandsIn, AllFollow, Follows}
 use Rattle.ist_core.specs.Histories.{Reading, readings, in_order, at_position}
 use Rattle.ist_core.specs.Resting.{AllStandIn, told_by_call}
+use Rattle.ist_core.proofs.ElementLemmas.{each_of}
 use Rattle.laws_histories.specs.Weaving.{numbered}
 use Rattle.ist_reopen.specs.Generations.{Generation, IsGeneration, FollowOn, changes_in, history_in, history, pairs_left}
 use Rattle.ist_reopen.specs.Generations.{calls_of}
@@ -116,12 +117,6 @@ module _ (number : ℕ) where
       at rest false e = rw e (stamps_above call calls order.0, rest)
 
 -- ---- the calls of each pass of a generation
-
--- what holds of all calls holds of each
-each_of : (P : Call → Type 0) (calls : List Call) → ((call : Call) → Among call calls → P call)
-    → Each P calls
-each_of P [] h = tt
-each_of P (call ∷ calls) h = (h call (inl refl), each_of P calls (λ x i. h x (inr i)))
 
 -- an entry that is there is below the length
 get_below : (entries : List Entry) (i : ℕ) (entry : Entry) → slice_get entries i ≡ Some entry

@@ -8,6 +8,7 @@ use Rattle.ist_core.specs.Elements.{Each}
 use Rattle.ist_core.specs.Histories.{PassCalls}
 use Rattle.ist_core.specs.Map.{Map, map_of}
 use Rattle.ist_core.specs.Resting.{told_by_call}
+use Rattle.ist_core.proofs.MapLemmas.{map_of-pairs_of}
 use Rattle.laws_histories.specs.Telling.{map_now}
 use Rattle.laws_real_time.specs.Moments.{Moments}
 use Rattle.laws_real_time.specs.Making.{calls_returned}
@@ -19,7 +20,6 @@ use Rattle.ist_tree.specs.Faces.{MakerFace, calls_numbered}
 use Rattle.ist_tree.specs.Closing.{ClosesWith, calls_from}
 use Rattle.ist_reopen.specs.Generations.{Generation, FollowOn, moments_over, pairs_left}
 use Rattle.ist_reopen.specs.Interleaving.{told_over}
-use Rattle.ist_reopen.proofs.MapLemmas.{pairs_are_map}
 
 -- ---- one tree
 
@@ -92,7 +92,7 @@ history_linear first last (g ∷ gs) h =
     (subst (λ ps. LinearizesTo (map_of ps) g.moments (map_now g.start g.words g.log)) h.0 h.1.linear)
     h.1.over
     (subst (λ m. LinearizesTo m (moments_over gs) (map_of last))
-    (pairs_are_map (map_now g.start g.words g.log)) (history_linear (pairs_left g) last gs h.2))
+    (map_of-pairs_of (map_now g.start g.words g.log)) (history_linear (pairs_left g) last gs h.2))
 
 -- they are what the passes were told
 pub moments_told : (first last : List Pair) (gs : List Generation) → FollowOn first gs last

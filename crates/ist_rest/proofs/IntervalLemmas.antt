@@ -10,6 +10,8 @@ use Rattle.ist_core.specs.Arithmetic.{child_count}
 use Rattle.ist_core.specs.Map.{pairs_between}
 use Rattle.ist_core.specs.Elements.{Each}
 use Rattle.ist_core.proofs.RisingLemmas.{child_count_tells}
+use Rattle.ist_core.proofs.UnderLemmas.{each_mapped}
+use Rattle.ist_core.proofs.IntervalLemmas.{low_key, high_key}
 use Rattle.ist_rest.specs.Walks.{LeadsBy}
 
 -- ---- the interval
@@ -24,26 +26,15 @@ none_test p (x ∷ xs) h = at (none_test p xs h.1) (p x) refl
     at none true e = absurd (let f = h.0 in cc)
     at none false e = subst (λ b. (if b then x ∷ filter p xs else filter p xs) ≡ []) (sym e) none
 
-each_so : {A : Type 0} (P Q : A → Type 0) (xs : List A) → ((x : A) → P x → Q x) → Each P xs
-    → Each Q xs
-each_so P Q [] f h = tt
-each_so P Q (x ∷ xs) f h = (f x h.0, each_so P Q xs f h.1)
-
-out_low : (first last k : ℕ) → k < first → (nat_le first k && nat_le k last) ≡ false
-out_low first last k h = grind (arith, nat_tests)
-
-out_high : (first last k : ℕ) → last < k → (nat_le first k && nat_le k last) ≡ false
-out_high first last k h = grind (arith, nat_tests)
-
 -- a slot before the interval's slots has no pair of the interval
 pub none_low : (keys : List ℕ) (first last i : ℕ) (pairs : List Pair) → i < child_count keys first
     → Each (λ pair. LeadsBy pair.key record { keys = keys; index = i }) pairs
     → pairs_between first last pairs ≡ []
 none_low keys first last i pairs h lie =
     none_test (λ p. nat_le first p.key && nat_le p.key last) pairs
-    (each_so (λ pair. LeadsBy pair.key record { keys = keys; index = i })
+    (each_mapped (λ pair. LeadsBy pair.key record { keys = keys; index = i })
     (λ p. (nat_le first p.key && nat_le p.key last) ≡ false) pairs
-    (λ p e. out_low first last p.key (child_count_tells keys p.key first (omega arith))) lie)
+    (λ p e. low_key first last p.key (child_count_tells keys p.key first (omega arith))) lie)
 
 -- a slot after the interval's slots has no pair of the interval
 pub none_high : (keys : List ℕ) (first last i : ℕ) (pairs : List Pair) → child_count keys last < i
@@ -51,9 +42,9 @@ pub none_high : (keys : List ℕ) (first last i : ℕ) (pairs : List Pair) → c
     → pairs_between first last pairs ≡ []
 none_high keys first last i pairs h lie =
     none_test (λ p. nat_le first p.key && nat_le p.key last) pairs
-    (each_so (λ pair. LeadsBy pair.key record { keys = keys; index = i })
+    (each_mapped (λ pair. LeadsBy pair.key record { keys = keys; index = i })
     (λ p. (nat_le first p.key && nat_le p.key last) ≡ false) pairs
-    (λ p e. out_high first last p.key (child_count_tells keys last p.key (omega arith))) lie)
+    (λ p e. high_key first last p.key (child_count_tells keys last p.key (omega arith))) lie)
 
 -- the interval of two lists
 pub between-append : (first last : ℕ) (xs ys : List Pair) → pairs_between first last

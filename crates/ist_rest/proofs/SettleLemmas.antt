@@ -168,10 +168,6 @@ below_more k i less other = ⊎_elim (λ same. absurd (other same.1)) (λ no. at
     at (inl h) = let l = h.1 in absurd (other (omega arith))
     at (inr h) = h.1
 
--- equal references to inner rows have equal bases
-pub same_child : (a b : ℕ) → Some (InnerAt a) ≡ Some (InnerAt b) → a ≡ b
-same_child a b e = cc
-
 -- one row further
 pub reached_on : (words : List ℕ) (base node child word : ℕ) → ReachedFrom words base node
     → Among word (row_slots words node)

@@ -16,8 +16,9 @@ use Rattle.ist_core.proofs.NamingLemmas.{WordsName, IsRebuildFor, InnerHere}
 use Rattle.ist_core.proofs.HomeLemmas.{HasOneHome, mentioned_here}
 use Rattle.ist_core.proofs.MentionLemmas.{child_mentioned}
 use Rattle.ist_core.proofs.OrderLemmas.{child_above}
-use Rattle.ist_core.proofs.SlotLemmas.{no_row, same_inner}
+use Rattle.ist_core.proofs.SlotLemmas.{no_row}
 use Rattle.ist_core.proofs.LeadingLemmas.{LiesIn}
+use Rattle.ist_core.proofs.OptionLemmas.{same_rebuild, same_leaf, same_inner}
 use Rattle.ist_rest.specs.WordRows.{Span}
 
 -- the row hangs in the slot, as its child or as a rebuild for it
@@ -47,13 +48,6 @@ leaf_rebuild o r s e f = cc
 pub rebuild_inner : (o : Option Piece) (r : RebuildRow) (s : InnerRow) → o ≡ Some (Rebuild r)
     → o ≡ Some (Inner s) → ⊥
 rebuild_inner o r s e f = cc
-
-same_leaf : (o : Option Piece) (r s : LeafRow) → o ≡ Some (Leaf r) → o ≡ Some (Leaf s) → r ≡ s
-same_leaf o r s e f = cc
-
-same_rebuild : (o : Option Piece) (r s : RebuildRow) → o ≡ Some (Rebuild r) → o ≡ Some (Rebuild s)
-    → r ≡ s
-same_rebuild o r s e f = cc
 
 module _ (t : Snapshot) (o : WordsName t) (home : HasOneHome t) (free : t.pieces anchor ≡ None)
   where

@@ -30,7 +30,6 @@ use Rattle.ist_rows.proofs.BuildLemmas.{ComesAfter, builds_on}
 use Rattle.ist_rows.proofs.CallerLemmas.{IsCallerIn}
 use Rattle.ist_rows.proofs.HeldListLemmas.{held_by_step, filter_here}
 use Rattle.ist_rows.proofs.CallerGoingLemmas.{base_same}
-pub use Rattle.ist_rows.proofs.CallerGoingLemmas.{base_same as own_number}
 
 -- ---- lists
 

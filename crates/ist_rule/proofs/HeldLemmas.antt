@@ -25,7 +25,7 @@ use Rattle.ist_core.specs.Authors.{no_more, one_more, whose, Later, IsIdleIn}
 use Rattle.ist_rule.specs.Standings.{IsBetween}
 use Rattle.ist_rule.proofs.ChangeLemmas.{NoChange}
 use Rattle.ist_rule.proofs.CallLemmas.{installs_not, between_on}
-pub use Rattle.ist_core.proofs.HoldingLemmas.{held-resolved, rows_holder, lost_holder}
+use Rattle.ist_core.proofs.HoldingLemmas.{held-resolved, rows_holder, lost_holder}
 
 -- ---- what others leave
 

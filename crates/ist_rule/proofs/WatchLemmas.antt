@@ -26,7 +26,6 @@ use Rattle.ist_core.proofs.OptionLemmas.{same_value}
 use Rattle.ist_rule.specs.Watching.{IsNode, is_anchor, is_inner, is_change_ref}
 use Rattle.ist_rule.proofs.HeldLemmas.{start_no_change}
 use Rattle.ist_rule.proofs.ChangeLemmas.{ChangeComes, stood, is_installed, change_comes}
-pub use Rattle.ist_core.proofs.IntervalLemmas.{both_true}
 
 -- `Some` is injective
 pub some_one : {A : Type 0} (a b : A) → Some a ≡ Some b → a ≡ b

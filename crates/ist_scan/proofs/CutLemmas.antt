@@ -1,8 +1,9 @@
 -- Where an interval cuts a list of pairs. Serves `looking.rt` and `walks.rt`.
-use Rattle.std.proofs.Common.{◌≡◌, ℕ, ◌+◌, ◌-◌, ◌<◌, ◌≤◌, nat_le, ◌&&◌, true, false, List, [], ◌∷◌, zero, suc, take, drop, refl, ap, ◌∙◌, sym, arith}
+use Rattle.std.proofs.Common.{◌≡◌, ℕ, ◌+◌, ◌-◌, ◌<◌, ◌≤◌, nat_le, ◌&&◌, false, List, [], ◌∷◌, zero, suc, take, drop, refl, ap, ◌∙◌, sym, arith}
 use Rattle.std.proofs.lemmas.Bool.Decides.{nat_tests}
 use Rattle.ist_core.specs.declared.pairs.Pair.{Pair}
 use Rattle.ist_core.specs.Map.{pairs_between}
+use Rattle.ist_core.proofs.IntervalLemmas.{low_key, high_key, key_within, left_out, kept}
 use Rattle.ist_scan.specs.Cuts.{CutsAt, IsCut, slice_of}
 
 -- the cut of the pairs after the first
@@ -24,28 +25,6 @@ cut_none x pairs key c =
       below = λ i pair low at. absurd (omega arith);
       above = λ i pair high at. c.above (suc i) pair (omega arith) at;
     }
-
--- a key outside the interval, and one inside
-low_key : (from last key : ℕ) → key < from → (nat_le from key && nat_le key last) ≡ false
-low_key from last key h = grind (arith, nat_tests)
-
-high_key : (from last key : ℕ) → last < key → (nat_le from key && nat_le key last) ≡ false
-high_key from last key h = grind (arith, nat_tests)
-
-key_within : (from last key : ℕ) → from ≤ key → key ≤ last
-    → (nat_le from key && nat_le key last) ≡ true
-key_within from last key h k = grind (arith, nat_tests)
-
--- the pairs after a first one that is left out, or kept
-left_out : (from last : ℕ) (x : Pair) (pairs : List Pair)
-    → (nat_le from x.key && nat_le x.key last) ≡ false
-    → pairs_between from last (x ∷ pairs) ≡ pairs_between from last pairs
-left_out from last x pairs e = rw e refl
-
-kept : (from last : ℕ) (x : Pair) (pairs : List Pair)
-    → (nat_le from x.key && nat_le x.key last) ≡ true
-    → pairs_between from last (x ∷ pairs) ≡ x ∷ pairs_between from last pairs
-kept from last x pairs e = rw e refl
 
 -- if both ends of an interval cut the pairs, its pairs are those between the cuts
 pub cut_is : (pairs : List Pair) (from to low high : ℕ) → from < to → CutsAt pairs from low

@@ -10,6 +10,7 @@ use Rattle.ist_core.specs.RowLayout.{anchor, change_words, rebuild_words}
 use Rattle.ist_core.specs.Slots.{SlotHolds}
 use Rattle.ist_core.specs.References.{InnerAt, word_of}
 use Rattle.ist_core.specs.Spending.{spent}
+use Rattle.ist_core.proofs.PrefixLemmas.{goes_on_more}
 use Rattle.ist_tree.specs.declared.freezing.Frozen.{Frozen}
 use Rattle.ist_tree.specs.Calls.{HasSeenMore}
 use Rattle.ist_tree.specs.Faces.{TreeFace, PassFace}
@@ -21,7 +22,6 @@ use Rattle.ist_tree.proofs.AloneLemmas.{few_before, room_is_enough}
 use Rattle.ist_tree.proofs.HeardLemmas.{seen_more_then, steps_from, steps_until}
 use Rattle.ist_scan.specs.Room.{HadRoom, HadNoRoom, IsShotRefused, LoneShotsAreTaken, for_start}
 use Rattle.ist_scan.specs.Shots.{HasTakenShot}
-use Rattle.ist_scan.proofs.ShotLemmas.{further}
 
 -- ---- the look
 
@@ -93,7 +93,7 @@ module _ (p m q : PassFace) (look : HasSeenMore p m) (after : HasSeenMore m q) w
   short_both full h =
       record {
         at = h.at;
-        since = further p.seen m.seen h.at look.seen h.since;
+        since = goes_on_more look.seen h.since;
         until = h.until;
         few = record {
           next_is = h.few.next_is ∙ ap (λ (t : TreeFace). spent t.start h.at) look.tree;
@@ -113,7 +113,7 @@ module _ (p m q : PassFace) (look : HasSeenMore p m) (after : HasSeenMore m q) w
         few = few_before p m look.number none q.seen full.asked (rebuild_words + change_words) h.few;
         held = record {
           at = h.held.at;
-          since = further p.seen m.seen h.held.at look.seen h.held.since;
+          since = goes_on_more look.seen h.held.since;
           until = h.held.until;
           row = h.held.row;
           holds = subst (λ (t : TreeFace). SlotHolds (state_of t.start t.words h.held.at) anchor 0
@@ -126,7 +126,7 @@ module _ (p m q : PassFace) (look : HasSeenMore p m) (after : HasSeenMore m q) w
       record {
         row = h.row;
         at = h.at;
-        since = further p.seen m.seen h.at look.seen h.since;
+        since = goes_on_more look.seen h.since;
         until = h.until;
         child = subst (λ (t : TreeFace). IsChild (state_of t.start t.words h.at) anchor 0 h.row)
             look.tree h.child;

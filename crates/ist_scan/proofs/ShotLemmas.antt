@@ -4,7 +4,7 @@ use Rattle.std.proofs.lemmas.List.{take-append-le, length-append}
 use Rattle.ist_core.specs.declared.pairs.Pair.{Pair}
 use Rattle.ist_core.specs.Changes.{map_at, map_after_entries, changes_of}
 use Rattle.ist_core.specs.Lawful.{Lawful}
-use Rattle.ist_core.specs.Logs.{GoesOn, same_log, one_event, Log}
+use Rattle.ist_core.specs.Logs.{GoesOn}
 use Rattle.ist_core.specs.Map.{map_of, pairs_of}
 use Rattle.ist_core.specs.StartLayout.{start}
 use Rattle.laws_histories.proofs.ChangeLemmas.{changes_on}
@@ -169,11 +169,6 @@ looked_not p =
       stays = λ position shot o. o;
       pairs = λ shot pairs h. h;
     }
-
--- a log that goes on twice goes on
-pub further : (a b c : Log) → GoesOn a b → GoesOn b c → GoesOn a c
-further a b _ g same_log = g
-further a b _ g (one_event event h) = one_event event (further a b _ g h)
 
 -- a pass that looked twice has looked
 pub looked_more : (p q r : PassFace) → HasOnlyLooked p q → HasOnlyLooked q r → HasOnlyLooked p r

@@ -10,6 +10,7 @@ use Rattle.ist_core.specs.Logs.{GoesOn, Log, one_event, same_log}
 use Rattle.ist_core.specs.RowLayout.{change_words, rebuild_words}
 use Rattle.ist_core.specs.Spending.{reserved_by, spent}
 use Rattle.ist_rows.specs.Taken.{taken_at, taken_by}
+use Rattle.ist_rule.proofs.WhoLemmas.{same_number}
 use Rattle.ist_rows.proofs.TakenLemmas.{own_takes, taken_grows, taken_later}
 use Rattle.ist_tree.specs.Faces.{PassFace}
 use Rattle.ist_tree.specs.Freezing.{IsFreezeRefused}
@@ -25,9 +26,6 @@ at_most false size = omega arith
 takes_less : (number : ℕ) (event : Event) → taken_at number event ≤ reserved_by event
 takes_less number (Reserve caller base size) = at_most (caller == number) size
 takes_less number _ = omega arith
-
-same_number : (a b : ℕ) → CallerOf a ≡ CallerOf b → a ≡ b
-same_number a b e = cc
 
 -- an event of the caller takes all that it reserves for it
 own_all : (number : ℕ) (event : Event) → whose event ≡ CallerOf number

@@ -11,14 +11,13 @@ use Rattle.ist_core.specs.Pieces.{Change}
 use Rattle.ist_core.specs.Lawful.{Lawful, state_of}
 use Rattle.ist_core.specs.Resting.{AllStandIn, IsSettled}
 use Rattle.ist_core.specs.Standing.{StandsIn}
-use Rattle.ist_core.proofs.ElementLemmas.{each-among}
+use Rattle.ist_core.proofs.ElementLemmas.{each-among, each_of}
 use Rattle.ist_core.proofs.RoomLemmas.{words_same}
 use Rattle.laws_links.proofs.OwnerLemmas.{owner_known}
 use Rattle.laws_histories.proofs.CallLemmas.{stand_on}
 use Rattle.laws_histories.proofs.EntryLemmas.{entry_update}
 use Rattle.laws_real_time.specs.declared.moments.Moment.{Moment}
 use Rattle.laws_real_time.specs.Moments.{in_call}
-use Rattle.laws_real_time.proofs.PairLemmas.{each_of}
 use Rattle.ist_rule.specs.declared.view.View.{View}
 use Rattle.ist_rule.specs.declared.view.Taken.{Taken}
 use Rattle.ist_rule.specs.Faces.{TokenFace}
@@ -28,12 +27,13 @@ use Rattle.ist_rule.specs.Speaking.{HasSpoken, IsSilent}
 use Rattle.ist_rule.specs.Standings.{StandsInPrefix}
 use Rattle.ist_rule.proofs.LaterLemmas.{later-goes_on, goes_on_more}
 use Rattle.ist_rule.proofs.SpeakLemmas.{later_goes_on, out_of_call, silent_spoken}
+use Rattle.ist_rule.proofs.JoinLemmas.{below_or}
 use Rattle.laws_calls.proofs.SettledLemmas.{settled}
 use Rattle.ist_tree.specs.Faces.{MakerFace, calls_numbered}
 use Rattle.ist_tree.specs.RealTime.{ClosesInTime}
 use Rattle.ist_tree.specs.Closing.{calls_taken, ClosesWith}
 use Rattle.ist_tree.specs.Insides.{taken_pass, maker_face, IsMakerWith, HasSettled}
-use Rattle.ist_tree.proofs.RealTimeLemmas.{below_or, none_numbered}
+use Rattle.ist_tree.proofs.RealTimeLemmas.{none_numbered}
 use Rattle.ist_tree.proofs.SettlingLemmas.{settled_later}
 use Rattle.ist_tree.proofs.TakenLemmas.{all_below, each_number, numbers_long, IsNumbered, numbered_is, lists_long, lists_stand, each_get}
 

@@ -14,9 +14,10 @@ use Rattle.ist_rows.specs.declared.callers.Caller.{Caller}
 use Rattle.ist_updates.specs.Counting.{CountedNowhere}
 use Rattle.ist_tree.specs.DueRows.{CountsNowhere}
 use Rattle.ist_tree.specs.Insides.{face_as, pass_face}
-use Rattle.ist_tree.proofs.RowAtLimitLemmas.{event_since, in_order, whole_or_before}
+use Rattle.ist_tree.proofs.RowAtLimitLemmas.{event_since, whole_or_before}
 use Rattle.ist_tree.proofs.InstallLemmas.{not_before}
 use Rattle.ist_tree.proofs.UpdateSeenLemmas as way
+use Rattle.laws_histories.proofs.DecisionLemmas.{prefixes}
 
 module _ (number : ℕ) where
   -- if the caller counted nowhere in two parts of a log, it did so nowhere in both together
@@ -24,7 +25,7 @@ module _ (number : ℕ) where
       → CountedNowhere b c number → CountedNowhere a c number
   counted_more a b c g one two node k =
       ⊎_elim (λ u. one node record { at = k.at; since = k.since; until = u })
-      (λ u. following (whole_or_before b (Count number node) k.at u)) (in_order k.until g)
+      (λ u. following (whole_or_before b (Count number node) k.at u)) (prefixes _ _ _ k.until g)
     where
       following : (b ≡ Count number node ∷ k.at) ⊎ GoesOn b k.at → ⊥
       following (inl e) =

@@ -12,9 +12,9 @@ use Rattle.ist_core.specs.Slots.{IsOpen, past_change, past_rebuild}
 use Rattle.ist_core.specs.StartLayout.{start}
 use Rattle.ist_core.specs.declared.states.InnerRow.{InnerRow}
 use Rattle.ist_core.specs.declared.states.RebuildRow.{RebuildRow}
-use Rattle.ist_core.proofs.DrawLemmas.{same_rebuild}
 use Rattle.ist_core.proofs.RoomLemmas.{published_good}
 use Rattle.ist_core.proofs.ReferenceLemmas.{ref_of-word_of, word_of-ref_of}
+use Rattle.ist_core.proofs.OptionLemmas.{same_rebuild}
 use Rattle.laws_links.proofs.ClosedLemmas.{linked_now}
 use Rattle.laws_links.proofs.LinkLemmas.{open_unfinished}
 use Rattle.laws_links.proofs.FinishedLemmas.{target_grows}

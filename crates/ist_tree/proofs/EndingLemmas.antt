@@ -4,7 +4,6 @@
 use Rattle.std.proofs.Common.{◌≡◌, ℕ, ◌+◌, ◌≤◌, ◌==◌, Bool, true, false, if◌then◌else◌, List, [], ◌∷◌, ◌++◌, length, map, filter, slice_get, Option, Some, None, refl, sym, ap, ◌∙◌, subst, inl, ⊎_elim, zero, suc, arith, append-nil, length-append}
 use Rattle.std.proofs.lemmas.List.{length-map}
 use Rattle.std.proofs.lemmas.List.Elements.{filter-append}
-use Rattle.std.proofs.lemmas.Bool.Decides.{eqb_tells}
 use Rattle.std.proofs.lemmas.Option.{slice_get_within}
 use Rattle.ist_core.specs.declared.calls.Call.{Call}
 use Rattle.ist_core.specs.declared.commands.Command.{Command}
@@ -26,6 +25,7 @@ use Rattle.ist_core.specs.declared.events.Who.{Who}
 use Rattle.ist_core.specs.declared.events.Who.TheVariants.{Caller as CallerOf}
 use Rattle.ist_rule.specs.Conditions.{CanEnd}
 use Rattle.ist_tree.proofs.PositionLemmas.{command_in, first_from, first_is, first_place, position_of}
+use Rattle.ist_rows.proofs.CallerGoingLemmas.{base_same}
 
 -- ---- which call it is
 
@@ -126,10 +126,6 @@ one_change : (call : Call) → is_change call ≡ true → length (filter is_cha
 one_change call e =
     ap (λ b. length (if b then call ∷ [] else [])) e
 
--- a caller's own entry is its
-itself : (number : ℕ) → (number == number) ≡ true
-itself number = ⊎_elim (λ k. k.0) (λ k. absurd (k.1 refl)) (eqb_tells number number)
-
 module _ (v : View) (call : Call) (c : CanEnd v call)
     (had : HasCalls v.start v.words c.seen c.number v.stamp v.calls) where
   abbrev entries : List Entry
@@ -161,7 +157,7 @@ module _ (v : View) (call : Call) (c : CanEnd v call)
       → first_from (owned_at entries v.who) (length old) (length entries + 1) ≡ call.position
   found_entry e =
       let at = c.stand.made call (among_right call v.calls (call ∷ []) (inl refl)) e in
-      let here = ap (is_owned c.number) at ∙ itself c.number in
+      let here = ap (is_owned c.number) at ∙ base_same c.number in
       let high = slice_get_within entries call.position (entry_by c.number call) at in
       let low = c.fresh.position in
       let first = first_is (λ i. is_owned c.number (slice_get entries i)) (length old)

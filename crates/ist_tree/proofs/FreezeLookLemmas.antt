@@ -9,13 +9,14 @@ use Rattle.ist_core.specs.References.{ChangeAt, Empty, InnerAt, LeafAt, RebuildA
 use Rattle.ist_core.specs.RowLayout.{anchor}
 use Rattle.ist_core.specs.Slots.{SlotHolds, in_anchor, in_row, logical, past_change, past_rebuild, rebuild_reads}
 use Rattle.ist_core.specs.StartLayout.{start}
-use Rattle.ist_core.proofs.DrawLemmas.{same_rebuild}
 use Rattle.ist_core.proofs.GrowingLemmas.{rebuild_there}
 use Rattle.ist_core.proofs.NamingLemmas.{SlotNames, slot_names}
 use Rattle.ist_core.proofs.OrderLemmas.{names}
 use Rattle.ist_core.proofs.PlaceLemmas.{anchor_free}
 use Rattle.ist_core.proofs.ReferenceLemmas.{word_of-ref_of}
 use Rattle.ist_core.proofs.SlotLemmas.{no_row}
+use Rattle.ist_core.proofs.OptionLemmas.{same_rebuild}
+use Rattle.ist_core.proofs.PrefixLemmas.{ever_now}
 use Rattle.ist_find.specs.Searches.{SeesChange}
 use Rattle.ist_layout.specs.Meanings.{ref_meant}
 use Rattle.laws_links.proofs.FormLemmas.{started_grows}
@@ -35,7 +36,6 @@ use Rattle.ist_tree.specs.declared.freezing.Site.TheVariants.{Rebuilt, Still}
 use Rattle.ist_tree.specs.Freezing.{HeldInnerRow, IsStill, WasFrozen, all_keys, no_key, one_key}
 use Rattle.ist_tree.specs.FreezeSteps.{GoesIdle, HasStarted, HasMet, HasNoRow, IsBelowAnchor, WasTop}
 use Rattle.ist_rows.specs.Going.{IsReady}
-use Rattle.ist_tree.proofs.RowAtLimitLemmas.{ever_here}
 use Rattle.ist_tree.proofs.FreezeGoingLemmas.{all_but, below_grows, frozen_more, plain_idle}
 use Rattle.ist_tree.proofs.FreezingLemmas.{top_was_frozen}
 use Rattle.ist_tree.proofs.RebuildLemmas.{load_plain, plain_done, plain_on}
@@ -80,7 +80,7 @@ module _ (v : View) (s : IsSound v) (word : ℕ) (holds : SlotHolds (now v) anch
         goes_on = same_log;
         stood = subst (SlotHolds (now v) anchor 0)
             (sym (word_of-ref_of word (InnerAt target) is).same_word) holds;
-        linked = ever_here (start v.start v.words) (λ t. Linked t anchor) v.log at_anchor;
+        linked = ever_now (start v.start v.words) (λ t. Linked t anchor) v.log at_anchor;
         row = named.1.0;
         published = named.1.1;
         due = inr refl;

@@ -6,8 +6,8 @@ use Rattle.ist_core.specs.declared.ports.Full.{Full}
 use Rattle.ist_core.specs.declared.states.RebuildRow.{RebuildRow}
 use Rattle.ist_core.specs.Marking.{as_target}
 use Rattle.ist_core.specs.Slots.{anchor_is}
-use Rattle.ist_core.proofs.DrawLemmas.{same_rebuild}
 use Rattle.ist_core.specs.Rebuilding.{IsFinishedWith, IsReplaced}
+use Rattle.ist_core.proofs.OptionLemmas.{same_rebuild}
 use Rattle.laws_links.proofs.FormLemmas.{finished_with_grows}
 use Rattle.ist_mark.specs.Marking.{MayMark, Marks}
 use Rattle.ist_mark.proofs.SubtreeLemmas.{marks_keep}

@@ -2,7 +2,7 @@
 use Rattle.std.proofs.Common.{◌≡◌, ◌≢◌, ℕ, ◌<◌, List, [], ◌∷◌, map, slice_get, Option, Some, refl, sym, ap, ap₂, ◌∙◌, subst, zero, suc, arith}
 use Rattle.std.specs.Option.{option_map}
 use Rattle.std.specs.List.Sorted.{IsStrictlyIncreasing}
-use Rattle.std.proofs.lemmas.Option.{slice_get-map}
+use Rattle.std.proofs.lemmas.Option.{slice_get-map, same_Some}
 use Rattle.ist_core.specs.declared.pairs.Pair.{Pair}
 use Rattle.ist_core.specs.declared.ports.Full.{Full}
 use Rattle.ist_core.specs.declared.states.LeafRow.{LeafRow}
@@ -93,14 +93,11 @@ leaf_itself t root keys i base still less other based = at (ref_meant root) keys
         }
     at _ _ (all_keys b k f) low e = absurd (other b (inner_meant root b e))
 
-same_leaf : (x y : PlacedLeaf) → Some x ≡ Some y → x ≡ y
-same_leaf x y e = cc
-
 -- what is true of each leaf is true of that at a place
 leaf_at_place : (P : PlacedLeaf → Type 0) (leaves : List PlacedLeaf) (i : ℕ) (leaf : PlacedLeaf)
     → Each P leaves → slice_get leaves i ≡ Some leaf → P leaf
 leaf_at_place P [] i leaf all e = absurd (cc)
-leaf_at_place P (first ∷ rest) zero leaf all e = subst P (same_leaf first leaf e) all.0
+leaf_at_place P (first ∷ rest) zero leaf all e = subst P (same_Some first leaf e) all.0
 leaf_at_place P (first ∷ rest) (suc i) leaf all e = leaf_at_place P rest i leaf all.1 e
 
 -- it is published

@@ -3,15 +3,16 @@ use Rattle.std.proofs.Common.{◌≡◌, ◌≢◌, ℕ, ◌≤◌, Some, None, 
 use Rattle.std.proofs.lemmas.Bool.Decides.{leb_tells}
 use Rattle.ist_core.specs.declared.events.Event.{Event}
 use Rattle.ist_core.specs.Links.{at_anchor}
-use Rattle.ist_core.specs.References.{InnerAt, Unset, ref_of, unset_word}
+use Rattle.ist_core.specs.References.{InnerAt, Unset, ref_of}
 use Rattle.ist_core.specs.RowLayout.{anchor}
 use Rattle.ist_core.specs.Slots.{SlotHolds, past_change, past_rebuild}
 use Rattle.ist_core.specs.Snapshots.{Snapshot}
 use Rattle.ist_core.proofs.NamingLemmas.{SlotNames, slot_names}
 use Rattle.ist_core.proofs.OrderLemmas.{names}
 use Rattle.ist_core.proofs.PlaceLemmas.{anchor_free}
-use Rattle.ist_core.proofs.ReferenceLemmas.{ref_of-unset, word_of-ref_of}
+use Rattle.ist_core.proofs.ReferenceLemmas.{word_of-ref_of}
 use Rattle.ist_core.proofs.SlotLemmas.{slot_once}
+use Rattle.ist_core.proofs.RootKeyLemmas.{root_set}
 use Rattle.laws_links.proofs.ContentLemmas.{linked_set}
 use Rattle.ist_rule.specs.declared.view.View.{View}
 use Rattle.ist_rule.specs.Going.{WentOn}
@@ -22,13 +23,6 @@ use Rattle.ist_rebuild.specs.Starting.{StoodInstead}
 use Rattle.laws_stability.specs.Progress.{progress}
 use Rattle.laws_stability.proofs.StandstillLemmas.{slots_stand}
 use Rattle.laws_coming.specs.Further.{CameFurther}
-
--- a row's word is set
-row_set : (word row : ℕ) → ref_of word ≡ Some (InnerAt row) → word ≢ unset_word
-row_set word row is e = clash (sym is ∙ (ap ref_of e ∙ ref_of-unset))
-  where
-    clash : Some (InnerAt row) ≡ Some Unset → ⊥
-    clash k = cc
 
 -- the slot held a row, and holds another word
 pub slot_further : (P : Event → Type 0) (v w : View) → WentOn P v w → (node i word other row : ℕ)
@@ -43,7 +37,7 @@ slot_further P v w g node i word other row is here stood =
         let l = went_lawful P v w g in
         let there = subst (λ (t : Snapshot). SlotHolds t node i word) (sym (went_now P v w g))
         (slots_stand v.start v.words l.opens v.log w.log l.enabled (later_by-goes_on g.later) few node
-        i word (row_set word row is) here) in
+        i word (root_set word row is) here) in
         stood.differs (slot_once (now w) node i other word
         (anchor_free w.start w.words w.log g.sound.lawful.enabled) stood.holds there
         ∙ sym (word_of-ref_of word (InnerAt row) is).same_word)

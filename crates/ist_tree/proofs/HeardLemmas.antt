@@ -6,7 +6,6 @@ use Rattle.ist_core.specs.Elements.{Each}
 use Rattle.ist_core.specs.Logs.{Log, same_log}
 use Rattle.ist_core.specs.Standing.{position_after}
 use Rattle.ist_core.specs.StartLayout.{start}
-use Rattle.laws_histories.proofs.ChangeLemmas.{changes_rise}
 use Rattle.laws_real_time.specs.declared.moments.Moment.{Moment}
 use Rattle.laws_real_time.specs.Moments.{Moments, ended}
 use Rattle.laws_real_time.specs.Making.{calls_returned}
@@ -16,7 +15,7 @@ use Rattle.ist_rule.specs.Speaking.{MomentsGoOn, same_moments, one_moment}
 use Rattle.ist_rule.proofs.LaterLemmas.{goes_on_more}
 use Rattle.ist_rule.proofs.SpeakLemmas.{go_on_more, later_goes_on}
 use Rattle.ist_tree.specs.Calls.{HasSeenMore}
-use Rattle.ist_tree.specs.Faces.{PassFace, TreeFace, changes_seen}
+use Rattle.ist_tree.specs.Faces.{PassFace, TreeFace}
 use Rattle.ist_tree.specs.RealTime.{ReturnsInTime, RunsInTime, StepsIn}
 
 -- the same moments go on
@@ -93,8 +92,3 @@ steps_until p m q at s seen =
       until = goes_on_more s.until seen.seen;
       placed = s.placed;
     }
-
--- at the step the pass had seen all changes that it had seen before
-pub steps_rise : (p q : PassFace) (at : Log) → StepsIn p q at
-    → length (changes_seen p) ≤ length (changes_of p.tree.start p.tree.words at)
-steps_rise p q at s = changes_rise (start p.tree.start p.tree.words) p.seen at s.seen

@@ -9,7 +9,6 @@ use Rattle.ist_core.specs.Rebuilding.{IsStarted, IsReplaced}
 use Rattle.ist_core.specs.References.{ChangeAt, RebuildAt, ref_of}
 use Rattle.ist_core.specs.Slots.{IsOpen, past_change}
 use Rattle.ist_core.specs.Snapshots.{Snapshot}
-use Rattle.ist_core.proofs.DrawLemmas.{same_rebuild}
 use Rattle.laws_links.specs.Linking.{IsFinished}
 use Rattle.ist_core.proofs.GrowingLemmas.{rebuild_there}
 use Rattle.ist_core.proofs.NamingLemmas.{slot_names, SlotNames}
@@ -22,6 +21,7 @@ use Rattle.laws_calls.proofs.DoneLemmas.{done_stays}
 use Rattle.laws_calls.proofs.ReadLemmas.{read_started}
 use Rattle.ist_rule.specs.declared.view.View.{View}
 use Rattle.ist_core.specs.declared.events.Who.TheVariants.{Caller as CallerOf}
+use Rattle.ist_core.proofs.OptionLemmas.{same_rebuild}
 use Rattle.ist_rule.specs.Conditions.{IsResolved}
 use Rattle.ist_rule.specs.Going.{WentOn}
 use Rattle.ist_rule.specs.Learning.{now}

@@ -1,15 +1,12 @@
 -- In the place of which rows the starts of a call stood when they were installed. Serves `update`.
 use Rattle.std.proofs.Common.{◌≡◌, ◌≢◌, ℕ, ◌≤◌, ◌⊎◌, List, ◌∷◌, Option, Some, refl, sym, ap, ◌∙◌, subst, inl, inr, ⊎_elim, arith}
-use Rattle.std.proofs.Math.Nat.{le_trans}
 use Rattle.ist_core.specs.declared.commands.Command.{Command}
 use Rattle.ist_core.specs.declared.events.Event.{Event}
 use Rattle.ist_core.specs.declared.events.Event.TheVariants.{Install}
 use Rattle.ist_core.specs.declared.pairs.Pair.{Pair}
 use Rattle.ist_core.specs.declared.ports.Full.{Full}
 use Rattle.ist_core.specs.declared.states.InnerRow.{InnerRow}
-use Rattle.ist_core.specs.Arithmetic.{limit}
 use Rattle.ist_core.specs.Authors.{GoesOnBy}
-use Rattle.ist_core.specs.Growing.{InnerGrows}
 use Rattle.ist_core.specs.Lawful.{EachEnabled, state_of}
 use Rattle.ist_core.specs.Logs.{GoesOn, Log, same_log}
 use Rattle.ist_core.specs.Pieces.{Inner}
@@ -17,7 +14,7 @@ use Rattle.ist_core.specs.Rebuilding.{IsDue}
 use Rattle.ist_core.specs.References.{InnerAt, word_of}
 use Rattle.ist_core.specs.StartLayout.{start}
 use Rattle.ist_core.proofs.FateLemmas.{enabled_before, grow_between}
-use Rattle.ist_core.proofs.GrowingLemmas.{inner_there}
+use Rattle.ist_core.proofs.GrowingLemmas.{inner_there, due_later}
 use Rattle.laws_calls.specs.Settling.{InstallsNoStart}
 use Rattle.ist_rule.specs.declared.view.View.{View}
 use Rattle.ist_core.specs.declared.events.Who.TheVariants.{Caller as CallerOf}
@@ -36,15 +33,10 @@ use Rattle.ist_updates.specs.Counting.{HasMadeDue}
 use Rattle.ist_tree.specs.DueRows.{InstallsDue, IsDueAt, StartsOnlyDue}
 use Rattle.ist_tree.specs.Insides.{face_as, pass_face}
 use Rattle.ist_tree.specs.Working.{StartsDue}
-use Rattle.ist_tree.proofs.RowAtLimitLemmas.{event_since, in_order, whole_or_before}
+use Rattle.ist_tree.proofs.RowAtLimitLemmas.{event_since, whole_or_before}
 use Rattle.ist_tree.proofs.EventLemmas.{updates_start_none}
 use Rattle.ist_tree.proofs.UpdateSeenLemmas as way
-
--- a row that reached its limit is still at it
-still_due : (old new : InnerRow) → InnerGrows old new → IsDue old → IsDue new
-still_due old new g d =
-    let count = g.count in
-    subst (λ s. limit s ≤ new.count) (sym g.size) (le_trans d count)
+use Rattle.laws_histories.proofs.DecisionLemmas.{prefixes}
 
 module _ (pairs : List Pair) (words caller : ℕ) where
   -- an event after a log isn't in it
@@ -68,7 +60,7 @@ module _ (pairs : List Pair) (words caller : ℕ) where
       → InstallsDue pairs words b c caller → InstallsDue pairs words a c caller
   due_more a b c g one two at base rows change since until is kind =
       ⊎_elim (λ k. one at base rows change since k is kind)
-      (λ k. following (whole_or_before b (Install caller base rows) at k)) (in_order until g)
+      (λ k. following (whole_or_before b (Install caller base rows) at k)) (prefixes _ _ _ until g)
     where
       following : (b ≡ Install caller base rows ∷ at) ⊎ GoesOn b at
           → IsDueAt (state_of pairs words at) change.from
@@ -101,7 +93,7 @@ module _ (pairs : List Pair) (words caller : ℕ) where
             word_is = word_is;
             row = it.0;
             published = it.1;
-            due = still_due row it.0 it.2 due;
+            due = due_later row it.0 it.2 due;
           }
 
 -- ---- by callers

@@ -58,12 +58,6 @@ module _ (who : Caller) (key : ℕ) (value : Option ℕ) (b w : View) (s : IsSou
   abbrev v : View
   v = who.token.view
 
-  to_b : Later (CallerOf who.number) v.log b.log
-  to_b = before who key value b w s p begun seen has
-
-  to_w : Later (CallerOf who.number) b.log w.log
-  to_w = later who key value b w s p begun seen has
-
   is_w : w ≡ searched_view v key b.log w.log w.loads w.loaded w.searches
       (seen_moments who key value b w s p begun seen has)
   is_w = w_is who key value b w s p begun seen has
@@ -72,7 +66,7 @@ module _ (who : Caller) (key : ℕ) (value : Option ℕ) (b w : View) (s : IsSou
   pub can_leave : CanGiveUp w
   can_leave =
       let between = between_after v who.number s p.caller.mine p.in_none w.log
-      (lawful who key value b w s p begun seen has) (later_more to_b to_w) in
+      (lawful who key value b w s p begun seen has) (later_more (before who key value b w s p begun seen has) (later who key value b w s p begun seen has)) in
       subst CanGiveUp (sym is_w)
       record {
         number = who.number;
@@ -107,7 +101,7 @@ module _ (who : Caller) (key : ℕ) (value : Option ℕ) (b w : View) (s : IsSou
         given.later
 
     all_later : Later (CallerOf who.number) v.log x.log
-    all_later = later_more (later_more to_b to_w) w_to_x
+    all_later = later_more (later_more (before who key value b w s p begun seen has) (later who key value b w s p begun seen has)) w_to_x
 
     later_view : IsLaterView v x
     later_view =
@@ -141,7 +135,7 @@ module _ (who : Caller) (key : ℕ) (value : Option ℕ) (b w : View) (s : IsSou
           others = all_later;
           calls = ap (λ (y : View). y.calls) x_is;
           stamp = ap (λ (y : View). y.stamp) x_is;
-          position = position_on v.start v.words v.log b.log w.log x.log (later-goes_on to_b)
+          position = position_on v.start v.words v.log b.log w.log x.log (later-goes_on (before who key value b w s p begun seen has))
               (later-goes_on w_to_x) key value
               (its_position who key value b w s p begun seen has);
           unstarted = starts_none_later v x later_view who.number p.caller.mine

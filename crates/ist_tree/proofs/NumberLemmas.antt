@@ -4,16 +4,9 @@ use Rattle.std.proofs.Common.{◌≡◌, ℕ, zero, suc, ◌+◌, ◌<◌, ◌==
 use Rattle.std.proofs.Common.{◌∷◌, length, map, refl, arith, inl, inr}
 use Rattle.std.proofs.lemmas.Bool.Decides.{eqb_tells}
 use Rattle.std.specs.List.{range_with_len}
+use Rattle.std.proofs.lemmas.Bool.{ne_eqb}
 use Rattle.ist_core.specs.Histories.{PassCalls}
 use Rattle.ist_tree.specs.Closing.{calls_from}
-
--- a test of two numbers that differ
-not_equal : (i j : ℕ) → i ≢ j → (i == j) ≡ false
-not_equal i j other = at (eqb_tells i j)
-  where
-    at : (((i == j) ≡ true) × (i ≡ j)) ⊎ (((i == j) ≡ false) × (i ≢ j)) → (i == j) ≡ false
-    at (inl t) = absurd (other t.1)
-    at (inr f) = f.0
 
 -- a test of two numbers that are the same
 equal : (i j : ℕ) → i ≡ j → (i == j) ≡ true
@@ -28,7 +21,7 @@ from_after : (from count : ℕ) (pass : PassCalls) (more : List PassCalls) → p
     → calls_from from count (pass ∷ more) ≡ calls_from from count more
 from_after from zero pass more lt = refl
 from_after from (suc count) pass more lt =
-    let other : (pass.number == from) ≡ false = not_equal pass.number from (λ e. omega arith) in
+    let other : (pass.number == from) ≡ false = ne_eqb pass.number from (λ e. omega arith) in
     let rest = from_after (from + 1) count pass more (omega arith) in
     rw (other, rest) refl
 

@@ -3,6 +3,7 @@
 use Rattle.std.proofs.Common.{◌≡◌, ℕ, ◌+◌, ◌<◌, ◌≤◌, ◌==◌, ◌⊎◌, Bool, true, false, if◌then◌else◌, List, length, Option, Some, None, refl, sym, ap, ◌∙◌, subst, ⊎_elim, zero, suc, arith}
 use Rattle.std.specs.FinMap as fin
 use Rattle.std.proofs.lemmas.Bool.Decides.{eqb_tells}
+use Rattle.std.proofs.lemmas.Bool.{false≢true}
 use Rattle.ist_core.specs.declared.calls.Call.{Call}
 use Rattle.ist_core.specs.declared.commands.Command.{Command}
 use Rattle.ist_core.specs.declared.commands.Command.TheVariants.{Get}
@@ -28,9 +29,6 @@ pub record IsFirst (test : ℕ → Bool) (from first last : ℕ) : Type 0 where
   pub high : first ≤ last
   pub passes : test first ≡ true
 
-false_true : false ≡ true → ⊥
-false_true e = cc
-
 at_or_above : (a b : ℕ) → a ≤ b → (a ≡ b) ⊎ (a + 1 ≤ b)
 at_or_above a b le = grind arith
 
@@ -43,7 +41,7 @@ first_or_more test from more last true is low t rest =
     record { low = omega arith; high = low; passes = is }
 first_or_more test from more last false is low t rest =
     let above : from + 1 ≤ last =
-    ⊎_elim (λ e. absurd (false_true (sym is ∙ ap test e ∙ t))) (λ lt. lt)
+    ⊎_elim (λ e. absurd (false≢true (sym is ∙ ap test e ∙ t))) (λ lt. lt)
     (at_or_above from last low) in
     let it = rest above in
     let least = it.low in
@@ -78,9 +76,9 @@ same_reply_of a b e = subst (λ x. same_reply a x ≡ true) e (same_itself a)
 pub reply_is_same : (a b : Option ℕ) → same_reply a b ≡ true → a ≡ b
 reply_is_same None None e = refl
 reply_is_same (Some a) (Some b) e =
-    ⊎_elim (λ k. ap Some k.1) (λ k. absurd (false_true (sym k.0 ∙ e))) (eqb_tells a b)
-reply_is_same None (Some b) e = absurd (false_true e)
-reply_is_same (Some a) None e = absurd (false_true e)
+    ⊎_elim (λ k. ap Some k.1) (λ k. absurd (false≢true (sym k.0 ∙ e))) (eqb_tells a b)
+reply_is_same None (Some b) e = absurd (false≢true e)
+reply_is_same (Some a) None e = absurd (false≢true e)
 
 -- ---- the position of a reading
 

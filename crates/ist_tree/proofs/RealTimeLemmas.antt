@@ -1,6 +1,6 @@
 -- The calls of a tree in real time. Serves `Pass::know` and `close`.
 use Rattle.std.proofs.Common.{◌≡◌, ◌≢◌, ◌⊎◌, ℕ, ◌<◌, ◌≤◌, ◌==◌, true, false, List, [], ◌∷◌, map, Option, refl, ◌∙◌, inl, inr, ⊎_elim, arith}
-use Rattle.std.proofs.lemmas.Bool.Decides.{eqb_tells, leb_tells}
+use Rattle.std.proofs.lemmas.Bool.Decides.{eqb_tells}
 use Rattle.ist_core.specs.declared.ports.Full.{Full}
 use Rattle.ist_core.specs.Elements.{Each}
 use Rattle.laws_real_time.specs.Moments.{in_call}
@@ -23,10 +23,6 @@ pass_linear who refused s p =
       calls = own.calls_are;
       over = out_of_call (in_call who.number who.token.view.moments) (own.pending_is ∙ p.in_none);
     }
-
--- below, or not
-pub below_or : (a b : ℕ) → (a < b) ⊎ (b ≤ a)
-below_or a b = ⊎_elim (λ e. inr e.1) (λ e. inl e.1) (leb_tells b a)
 
 -- a number that no caller has whose token was taken back has no calls
 pub none_numbered : (number bound : ℕ) (ts : List Taken) → bound ≤ number

@@ -9,6 +9,7 @@ use Rattle.ist_core.specs.Lawful.{Lawful, state_of}
 use Rattle.ist_core.specs.Logs.{GoesOn, Log, same_log}
 use Rattle.ist_core.specs.StartLayout.{start}
 use Rattle.laws_histories.proofs.ChangeLemmas.{changes_rise}
+use Rattle.laws_histories.proofs.DecisionLemmas.{prefixes}
 use Rattle.ist_rule.specs.Speaking.{MomentsGoOn}
 use Rattle.ist_rule.proofs.LaterLemmas.{goes_on_more}
 use Rattle.ist_rule.proofs.SpeakLemmas.{go_on_more}
@@ -20,7 +21,7 @@ use Rattle.laws_real_time.specs.Moments.{Moments}
 use Rattle.ist_tree.specs.Faces.{PassFace}
 use Rattle.ist_tree.specs.Refusals.{IsRefused, IsRowRefused, KeepsRowRefusal}
 use Rattle.ist_tree.specs.Rounds.{HasLetGo, HasNoEffect}
-use Rattle.ist_tree.proofs.RowAtLimitLemmas.{in_order, whole_or_before}
+use Rattle.ist_tree.proofs.RowAtLimitLemmas.{whole_or_before}
 use Rattle.ist_tree.proofs.CountedLemmas.{counted_more}
 use Rattle.ist_tree.proofs.HeardLemmas.{seen_more_then, seen_same}
 use Rattle.ist_tree.proofs.InstallLemmas.{due_more, not_before}
@@ -96,7 +97,7 @@ module _ (p : PassFace) (seen : Log) (loaded searches : ℕ) (moments : Moments)
           reached = c.reached;
         })
         (whole_or_before seen (Count p.number row) c.at since))
-        (in_order c.until longer)
+        (prefixes _ _ _ c.until longer)
       where
         early : GoesOn (Count p.number row ∷ c.at) seen → CameDue p m row
         early before =

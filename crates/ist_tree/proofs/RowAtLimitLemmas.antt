@@ -1,6 +1,6 @@
 -- The rows that reached their limits by the counts of a call, and the closed rows above them.
 -- Serves `update`.
-use Rattle.std.proofs.Common.{◌≡◌, ℕ, ◌≤◌, ◌⊎◌, List, [], ◌∷◌, ◌++◌, length, refl, sym, ◌∙◌, subst, inl, inr, ⊎_elim, arith}
+use Rattle.std.proofs.Common.{◌≡◌, ℕ, ◌≤◌, ◌⊎◌, List, [], ◌∷◌, ◌++◌, refl, sym, ◌∙◌, subst, inl, inr, ⊎_elim, arith}
 use Rattle.ist_core.specs.declared.events.Event.{Event}
 use Rattle.ist_core.specs.declared.events.Event.TheVariants.{Count}
 use Rattle.ist_core.specs.declared.pairs.Pair.{Pair}
@@ -8,7 +8,7 @@ use Rattle.ist_core.specs.Authors.{GoesOnBy, no_more, one_more}
 use Rattle.ist_core.specs.Elements.{Among}
 use Rattle.ist_core.specs.Lawful.{CanOpen, EachEnabled, Lawful, state_of}
 use Rattle.ist_core.specs.Links.{Chain, IsChild, WasOnChain, no_row, one_row}
-use Rattle.ist_core.specs.Logs.{Ever, GoesOn, Log, one_event, same_log, state}
+use Rattle.ist_core.specs.Logs.{Ever, GoesOn, Log, one_event, same_log}
 use Rattle.ist_core.specs.RowLayout.{anchor}
 use Rattle.ist_core.specs.Slots.{anchor_is}
 use Rattle.ist_core.specs.Snapshots.{Snapshot}
@@ -16,23 +16,16 @@ use Rattle.ist_core.specs.StartLayout.{start}
 use Rattle.ist_core.proofs.ElementLemmas.{among-append, among_left, among_right}
 use Rattle.ist_core.proofs.FateLemmas.{enabled_before}
 use Rattle.ist_core.proofs.MentionLemmas.{one_parent}
-use Rattle.ist_core.proofs.PrefixLemmas.{ever_from}
+use Rattle.ist_core.proofs.PrefixLemmas.{ever_from, ever_now}
 use Rattle.laws_calls.specs.Settling.{CountsNothing, DueRowsAreClosed, HasClosedAbove, MadeDue, due_before, due_now}
 use Rattle.laws_calls.proofs.DoneLemmas.{closed_above_stays}
 use Rattle.laws_stability.proofs.LaterLemmas.{ever_later}
-use Rattle.ist_rule.proofs.LaterLemmas.{between, goes_on_length, goes_on_more}
+use Rattle.ist_rule.proofs.LaterLemmas.{goes_on_length, goes_on_more}
 use Rattle.ist_updates.specs.Counting.{CameToLimit}
 use Rattle.ist_tree.specs.Working.{IsShut}
+use Rattle.laws_histories.proofs.DecisionLemmas.{prefixes}
 
 -- ---- prefixes
-
--- of two prefixes one is a prefix of the other
-pub in_order : {a b log : Log} → GoesOn a log → GoesOn b log → GoesOn a b ⊎ GoesOn b a
-in_order {a = a} {b = b} {log = log} p q =
-    ⊎_elim (λ le. inl (between p q le)) (λ le. inr (between q p le)) (either (length a) (length b))
-  where
-    either : (x y : ℕ) → (x ≤ y) ⊎ (y ≤ x)
-    either x y = grind arith
 
 -- a prefix of a log with one event more is one of the log, or is the whole
 pub whole_or_before : (whole : Log) (other : Event) (log : Log) → GoesOn whole (other ∷ log)
@@ -86,7 +79,7 @@ module _ (pairs : List Pair) (words number : ℕ) where
   came_inside P Q none nothing earlier before log longer g on h node c =
       record {
         at = c.at;
-        since = begun (in_order inside on);
+        since = begun (prefixes _ _ _ inside on);
         until = inside;
         row = c.row;
         published = c.published;
@@ -157,12 +150,6 @@ module _ (pairs : List Pair) (words number : ℕ) where
 
 -- ---- the row above
 
--- what is true of the state after a log was true at some moment of it
-pub ever_here : (first : Snapshot) (P : Snapshot → Type 0) (at : Log) → P (state first at)
-    → Ever first P at
-ever_here first P [] h = h
-ever_here first P (event ∷ at) h = inl h
-
 -- a node is the anchor, or the last on its chain
 on_own_chain : (t : Snapshot) (node : ℕ) (rows : List ℕ) → Chain t node rows
     → (node ≡ anchor) ⊎ Among node rows
@@ -182,7 +169,7 @@ module _ (pairs : List Pair) (words : ℕ) (l : CanOpen pairs words) (log : Log)
       a i b j child c d).0)
       (λ g. sym (one_parent pairs words l p m g (enabled_before (start pairs words) m log on enabled)
       b j a i child d c).0)
-      (in_order on to)
+      (prefixes _ _ _ on to)
 
   -- the parent of a row on a chain is on it, or is the anchor
   chain_parent : (m p : Log) → GoesOn m log → GoesOn p log → (row parent index : ℕ)
@@ -224,7 +211,7 @@ module _ (pairs : List Pair) (words : ℕ) (l : CanOpen pairs words) (log : Log)
         on_chain =
             ever_later (start pairs words) (λ t. (rows : List ℕ) × Chain t node rows × Among parent
             rows) m.1
-            (ever_here (start pairs words) (λ t. (rows : List ℕ) × Chain t node rows × Among parent
+            (ever_now (start pairs words) (λ t. (rows : List ℕ) × Chain t node rows × Among parent
             rows) m.0
             (⊎_elim (λ a. absurd (shut (anchor_is a))) (λ i. (m.2.0, m.2.1, i))
             (chain_parent m.0 p.0 m.1 p.1 row parent index p.2 node m.2.0 m.2.1 m.2.2)));

@@ -3,6 +3,7 @@
 use Rattle.std.proofs.Common.{◌≡◌, ℕ, ◌+◌, ◌≤◌, None, sym, ap, subst, arith}
 use Rattle.ist_core.specs.declared.events.Event.{Event}
 use Rattle.ist_core.specs.declared.ports.Full.{Full}
+use Rattle.ist_core.proofs.PrefixLemmas.{goes_on_more}
 use Rattle.ist_rule.specs.declared.view.View.{View}
 use Rattle.ist_rule.specs.Faces.{TokenFace}
 use Rattle.ist_rule.specs.Going.{WentOn}
@@ -15,7 +16,6 @@ use Rattle.ist_rows.specs.declared.callers.Caller.{Caller}
 use Rattle.ist_rows.specs.Going.{IsReady, StaysReady}
 use Rattle.ist_rows.proofs.GoneLemmas.{still_ready}
 use Rattle.laws_coming.specs.Further.{CameFurther}
-use Rattle.laws_histories.proofs.ChangeLemmas.{on_trans}
 use Rattle.laws_stability.specs.Progress.{progress}
 use Rattle.laws_stability.proofs.ProgressLemmas.{never_falls}
 use Rattle.ist_updates.specs.Further.{HasWalkedFew}
@@ -177,7 +177,7 @@ pub few_begun : (P : Event → Type 0) (u v w x : View)
 few_begun P u v w x paid t g =
     let one : w.searches ≡ v.searches + 1 = ap (λ (y : View). y.searches) t.view in
     let none : x.searches ≡ w.searches = ap (λ (y : View). y.searches) g.same in
-    let more = never_falls v.log x.log (on_trans v.log w.log x.log (later-goes_on t.later)
+    let more = never_falls v.log x.log (goes_on_more (later-goes_on t.later)
     (later_by-goes_on g.later)) in
     omega arith
 

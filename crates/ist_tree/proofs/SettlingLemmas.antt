@@ -5,21 +5,17 @@ use Rattle.ist_core.specs.declared.pairs.Pair.{Pair}
 use Rattle.ist_core.specs.declared.states.ChangeRow.{ChangeRow}
 use Rattle.ist_core.specs.Authors.{whose, Later, IsIdleIn}
 use Rattle.ist_core.specs.Lawful.{Lawful, state_of}
-use Rattle.ist_core.specs.Logs.{Log, GoesOn, same_log, one_event}
+use Rattle.ist_core.specs.Logs.{Log}
 use Rattle.ist_core.specs.Pieces.{Change}
 use Rattle.ist_core.specs.StartLayout.{start}
 use Rattle.laws_links.proofs.OwnerLemmas.{owner_known}
 use Rattle.ist_core.specs.declared.events.Who.TheVariants.{Caller as CallerOf}
 use Rattle.ist_rule.proofs.CallLemmas.{resolved_later}
 use Rattle.ist_rule.proofs.LaterLemmas.{later_idle}
+use Rattle.ist_rule.proofs.SplitLemmas.{empty_prefix}
 use Rattle.laws_calls.specs.Settling.{MadeDue, due_now, due_before}
 use Rattle.laws_calls.proofs.DoneLemmas.{due_stay, others_count_nothing, others_start_nothing, starts_stay}
 use Rattle.ist_tree.specs.Insides.{HasSettled}
-
--- each log goes on from none
-from_nothing : (log : Log) → GoesOn [] log
-from_nothing [] = same_log
-from_nothing (event ∷ log) = one_event event (from_nothing log)
 
 module _ (pairs : List Pair) (words : ℕ) where
   -- what a caller has settled stays so while others go on
@@ -62,5 +58,5 @@ module _ (pairs : List Pair) (words : ℕ) where
   pub idle_settled : (log : Log) → Lawful pairs words log → (number : ℕ)
       → IsIdleIn (CallerOf number) log → HasSettled pairs words log number
   idle_settled log l number idle =
-      settled_later [] log l number (later_idle (from_nothing log) idle)
+      settled_later [] log l number (later_idle (empty_prefix log) idle)
       (first_settled record { opens = l.opens; enabled = tt } number)

@@ -1,6 +1,6 @@
 -- Starts and helps that were refused because too few words were left. Serves `rebuild_due` and
 -- `freeze`.
-use Rattle.std.proofs.Common.{◌≡◌, ℕ, Option, Some, Result, Ok, Err, IsErrAnd, IfErr, sym, ap, ◌∙◌, subst}
+use Rattle.std.proofs.Common.{◌≡◌, ℕ, Option, Some, sym, ap, ◌∙◌, subst}
 use Rattle.std.specs.Prelude.{IfSome}
 use Rattle.ist_core.specs.declared.events.Event.{Event}
 use Rattle.ist_core.specs.declared.ports.Full.{Full}
@@ -125,12 +125,6 @@ due_refused_more s t grow w due words full d =
         for_other rebuild started (λ k. unreplaced (replaced_grows s t grow rebuild k)) slot a
 
 -- ---- results
-
--- what is handed on as a refusal is that refusal
-pub passed_on : {A : Type 0} (answer : Result A Full) (full : Full) (P : Full → Type 0)
-    → IsErrAnd answer (λ x. x ≡ full) → P full → IfErr answer P
-passed_on (Ok a) full P same p = tt
-passed_on (Err e) full P same p = subst P (sym same) p
 
 -- what is true of a value, if there is one, is true of the value that there is
 pub some_is : {A : Type 0} (o : Option A) (a : A) (P : A → Type 0) → o ≡ Some a → IfSome o P → P a

@@ -1,10 +1,8 @@
 -- A caller that starts no rebuild: its starts were there before. Serves `rebuild_due` and `freeze`.
-use Rattle.std.proofs.Common.{◌≡◌, ◌≢◌, ◌⊎◌, ℕ, List, Some, None, inl, inr, ⊎_elim, sym, subst}
+use Rattle.std.proofs.Common.{◌≡◌, ◌≢◌, ◌⊎◌, ℕ, Some, None, inl, inr, ⊎_elim, sym, subst}
 use Rattle.ist_core.specs.declared.events.Event.{Event}
-use Rattle.ist_core.specs.declared.pairs.Pair.{Pair}
 use Rattle.ist_core.specs.declared.states.ChangeRow.{ChangeRow}
-use Rattle.ist_core.specs.Lawful.{Lawful, state_of}
-use Rattle.ist_core.specs.Logs.{GoesOn, Log}
+use Rattle.ist_core.specs.Lawful.{state_of}
 use Rattle.ist_core.specs.Pieces.{Change, Piece}
 use Rattle.ist_core.specs.Snapshots.{Snapshot}
 use Rattle.ist_core.specs.Statuses.{start_kind}
@@ -65,19 +63,6 @@ keeps_all old new keeps done base change e own kind said rebuild to =
   where
     none_some : (p : Piece) → None ≡ Some p → ⊥
     none_some p e = cc
-
--- starts that are done since a state, and those since then, are done since that state
-pub since_more : (pairs : List Pair) (words : ℕ) (mid log : Log) → Lawful pairs words log
-    → GoesOn mid log → (first : Snapshot) (number : ℕ)
-    → StartsDoneSince first (state_of pairs words mid) number
-    → StartsDoneSince (state_of pairs words mid) (state_of pairs words log) number
-    → StartsDoneSince first (state_of pairs words log) number
-since_more pairs words mid log l g first number one two base change e own kind said rebuild to =
-    ⊎_elim
-    (λ was. ⊎_elim (λ w. inl w)
-    (λ d. inr (done_stays pairs words l.opens mid log g l.enabled base change rebuild was d))
-    (one base change was own kind said rebuild to))
-    (λ d. inr d) (two base change e own kind said rebuild to)
 
 -- a start that was decided yes before isn't one since
 pub since_none : (t u : Snapshot) (number : ℕ) → StartsNone t u number → StartsDoneSince t u number

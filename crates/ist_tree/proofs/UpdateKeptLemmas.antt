@@ -19,16 +19,16 @@ use Rattle.ist_core.specs.Writing.{first_change}
 use Rattle.ist_core.specs.Statuses.{decided_yes}
 use Rattle.ist_core.proofs.FateLemmas.{enabled_before, grow_between}
 use Rattle.ist_core.proofs.GrowingLemmas.{change_there}
-use Rattle.ist_core.proofs.PlaceLemmas.{no_piece}
 use Rattle.laws_links.proofs.ComesLemmas.{change_comes}
 use Rattle.laws_links.proofs.OriginLemmas.{ChangeComes, change_was, is_decided, is_installed}
 use Rattle.laws_histories.specs.Calls.{MadeNoEntry}
 use Rattle.laws_histories.proofs.CallLemmas.{stand_on}
 use Rattle.laws_calls.proofs.AcceptedLemmas.{resolved_no_entry}
-use Rattle.laws_calls.proofs.CountedLemmas.{command_update}
 use Rattle.laws_calls.specs.Accepting.{NoneAcceptedSince}
 use Rattle.ist_rule.specs.declared.view.View.{View}
 use Rattle.ist_core.specs.declared.events.Who.TheVariants.{Caller as CallerOf}
+use Rattle.ist_core.proofs.OptionLemmas.{no_value}
+use Rattle.ist_core.proofs.CommandLemmas.{command_update}
 use Rattle.ist_rule.specs.Conditions.{CanEnd, IsResolved}
 use Rattle.ist_rule.specs.Going.{WentOn}
 use Rattle.ist_rule.specs.Learning.{now}
@@ -103,7 +103,7 @@ rebuilt_no_entry v w number mine resolved went =
         (installs_no_update number) w.log
         (subst (λ x. LaterBy x Rebuilds v.log w.log) mine went.later) lawful.enabled base change e
         own (command_update change command is) in
-        no_piece ((now v).pieces base) (Change it.0) fresh it.1
+        no_value ((now v).pieces base) (Change it.0) fresh it.1
 
 -- ---- a call that may end
 

@@ -22,6 +22,7 @@ use Rattle.laws_calls.specs.Settling.{DueRowsAreClosed}
 use Rattle.laws_stability.proofs.LaterLemmas.{ever_later}
 use Rattle.ist_rule.specs.declared.view.View.{View}
 use Rattle.ist_core.specs.declared.events.Who.TheVariants.{Caller as CallerOf}
+use Rattle.ist_core.proofs.PrefixLemmas.{ever_now}
 use Rattle.ist_rule.specs.Conditions.{CanGiveUp, IsResolved}
 use Rattle.ist_rule.specs.Going.{SearchedOn, WentOn}
 use Rattle.ist_rule.proofs.SearchedOnLemmas.{searched_all, searched_more, went_searched}
@@ -43,7 +44,7 @@ use Rattle.ist_updates.specs.Counting.{CameToLimit, CountedNowhere, IsCounted, L
 use Rattle.laws_calls.proofs.DoneLemmas.{others_count_nothing}
 use Rattle.ist_updates.specs.Meeting.{due_in, reply_in}
 use Rattle.ist_tree.specs.Working.{Applies, CarriesOut, IsDueRefused, IsLetGo, IsShut, IsTopCame, IsTopShut, KeepsDone, LeavesShut, Rebuilds, Works, is_shut, none_came, was_refused}
-use Rattle.ist_tree.proofs.RowAtLimitLemmas.{came_inside, came_within, closed_above, due_since, ever_here}
+use Rattle.ist_tree.proofs.RowAtLimitLemmas.{came_inside, came_within, closed_above, due_since}
 use Rattle.ist_tree.proofs.UpdateKeptLemmas.{counted_on, may_end_on}
 use Rattle.ist_tree.proofs.DueLemmas.{done_more}
 use Rattle.ist_tree.proofs.EventLemmas.{rebuilds_count_none, rebuilds_work, updates_start_none, updates_work}
@@ -163,7 +164,7 @@ stood_child pairs words m log longer l on to parent index target row e holds =
     let good = published_good pairs words l.opens log target (Inner row) l.enabled e in
     let ps = (state_of pairs words m).pieces in
     ever_later (start pairs words) (λ t. IsChild t parent index target) (goes_on_more on to)
-    (ever_here (start pairs words) (λ t. IsChild t parent index target) m
+    (ever_now (start pairs words) (λ t. IsChild t parent index target) m
     record {
       word = word_of (InnerAt target);
       holds = holds;

@@ -7,6 +7,7 @@ use Rattle.ist_core.specs.Lawful.{Lawful, state_of}
 use Rattle.ist_core.specs.References.{unset_word}
 use Rattle.ist_core.specs.Slots.{IsOpen, SlotHolds}
 use Rattle.ist_core.specs.Snapshots.{Snapshot}
+use Rattle.ist_core.proofs.PrefixLemmas.{goes_on_more}
 use Rattle.ist_rule.specs.declared.view.View.{View}
 use Rattle.ist_rule.specs.Going.{WentOn}
 use Rattle.ist_rule.specs.Learning.{now, GoesOnTo}
@@ -18,7 +19,6 @@ use Rattle.laws_stability.proofs.ProgressLemmas.{never_falls}
 use Rattle.laws_stability.proofs.StandstillLemmas.{open_stands, slots_stand}
 use Rattle.laws_coming.specs.Further.{CameFurther}
 use Rattle.ist_updates.specs.Further.{IsAfter}
-use Rattle.laws_histories.proofs.ChangeLemmas.{on_trans}
 
 -- ---- one view after another
 
@@ -44,7 +44,7 @@ after_loads v w g =
 pub after_more : (u v w : View) → IsAfter u v → IsAfter v w → IsAfter u w
 after_more u v w a b =
     record {
-      later = on_trans u.log v.log w.log a.later b.later;
+      later = goes_on_more a.later b.later;
       start_is = b.start_is ∙ a.start_is;
       words_is = b.words_is ∙ a.words_is;
     }

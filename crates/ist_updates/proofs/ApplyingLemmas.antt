@@ -32,7 +32,8 @@ use Rattle.ist_updates.specs.Walking.{HasStood, IsDueBy, HasCounted, HasTriedSin
 use Rattle.ist_updates.proofs.AskedStillLemmas.{NoEvent, asked_searched, recounted}
 use Rattle.ist_updates.proofs.EndingLemmas.{taken_ends, nothing_ends}
 use Rattle.ist_updates.proofs.OwnCountLemmas.{CountsNone, came_none, counted_nowhere}
-use Rattle.ist_updates.proofs.TriedWalkLemmas.{tries_update, went_table, tried_by}
+use Rattle.ist_updates.proofs.TriedWalkLemmas.{went_table, tried_by}
+use Rattle.ist_updates.proofs.StepLemmas.{tries_updates}
 
 -- ---- the begin
 
@@ -78,14 +79,14 @@ module _ (old who : Caller) (key : ℕ) (value : Option ℕ) (a : IsAsked old (c
   pub all_went : (new : Caller) → WentOn Updates v new.token.view
       → WentOn Updates first new.token.view
   all_went new g =
-      went_more Updates first v new.token.view (went_all Tries Updates tries_update first v b.went.went) g
+      went_more Updates first v new.token.view (went_all Tries Updates tries_updates first v b.went.went) g
 
   -- apart from the searches that it began
   pub all_searched : (new : Caller) → WentOn Updates v new.token.view
       → SearchedOn Updates old.token.view new.token.view
   all_searched new g =
       searched_more Updates old.token.view v new.token.view
-      (searched_all Tries Updates tries_update old.token.view v b.went)
+      (searched_all Tries Updates tries_updates old.token.view v b.went)
       (went_searched Updates v new.token.view g)
 
   -- a walk that took no effect leaves the caller as it was asked
@@ -109,7 +110,7 @@ module _ (old who : Caller) (key : ℕ) (value : Option ℕ) (a : IsAsked old (c
       subst (λ n. IsUpdateRefused (record old.token.view { searches = n }) key value words full
       new.token.view) (sym none)
       (h first record {
-        went = went_all Tries Updates tries_update first v b.went.went;
+        went = went_all Tries Updates tries_updates first v b.went.went;
         since = subst (λ n. length first.log ≤ n) (sym b.since)
             (goes_on_length (later_by-goes_on b.went.went.later));
       })

@@ -2,10 +2,6 @@
 use Rattle.std.proofs.Common.{◌≡◌, ◌+◌, ◌≤◌, List, [], ◌∷◌, ◌++◌, length, length-append, ap, arith}
 use Rattle.ist_core.specs.Changes.{Entry}
 
--- a call that made no entry made at most one
-pub one_entry : (xs made : List Entry) → xs ≡ made → length xs ≤ length made + 1
-one_entry xs made e = let same = ap length e in omega arith
-
 -- and so did one that made this entry
 pub one_more_entry : (xs made : List Entry) (entry : Entry) → xs ≡ made ++ entry ∷ []
     → length xs ≤ length made + 1

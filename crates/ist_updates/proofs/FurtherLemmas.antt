@@ -19,7 +19,8 @@ use Rattle.ist_core.proofs.OrderLemmas.{names}
 use Rattle.ist_core.proofs.PlaceLemmas.{anchor_free}
 use Rattle.ist_core.proofs.ReferenceLemmas.{ref_of-unset}
 use Rattle.ist_core.proofs.SlotLemmas.{slot_once}
-use Rattle.ist_core.proofs.DrawLemmas.{same_rebuild}
+use Rattle.ist_core.proofs.OptionLemmas.{same_rebuild}
+use Rattle.ist_core.proofs.PrefixLemmas.{goes_on_more}
 use Rattle.laws_links.proofs.LinkLemmas.{open_linked}
 use Rattle.laws_links.proofs.ReadLemmas.{ReadsAs}
 use Rattle.laws_links.proofs.RebuiltLemmas.{read_unreplaced}
@@ -42,7 +43,6 @@ use Rattle.laws_histories.proofs.PositionLemmas.{node_met}
 use Rattle.laws_calls.proofs.WalkLemmas.{meeting_comes}
 use Rattle.ist_updates.specs.Trying.{IsAtSlot}
 use Rattle.ist_updates.specs.Further.{HasAimed, IsAfter, IsFreshNode}
-use Rattle.laws_histories.proofs.ChangeLemmas.{on_trans}
 use Rattle.ist_updates.proofs.AfterLemmas.{after_more, further_after, further_on, further_or_not, lawful_is, now_is, stands, stays_open}
 
 -- ---- the way down
@@ -151,8 +151,8 @@ module _ (first v w : View) (node i word : ℕ) (a : HasAimed first v node i wor
 pub installed_further : (first v w x : View) (node i word base : ℕ) (f : Filling)
     → HasAimed first v node i word → IsInstalled v base f w → IsAfter w x → CameFurther first x
 installed_further first v w x node i word base f a k b =
-    let g = on_trans a.at.log v.log k.before.log a.following.later (later-goes_on k.seen.later) in
-    let at = on_trans a.at.log k.before.log k.logged.before g (later-goes_on k.logged.later) in
+    let g = goes_on_more a.following.later (later-goes_on k.seen.later) in
+    let at = goes_on_more g (later-goes_on k.logged.later) in
     let log_is = ap (λ (y : View). y.log) k.logged.view in
     further_after first a.at x a.fresh.following record {
       more = installing a.at.log k.logged.before x.log k.number base _ at

@@ -15,11 +15,11 @@ use Rattle.ist_core.specs.StartLayout.{start}
 use Rattle.ist_core.specs.Statuses.{decided_yes}
 use Rattle.ist_core.specs.Writing.{first_change}
 use Rattle.ist_core.specs.After.{decision_word}
-use Rattle.ist_core.proofs.FreezingLemmas.{same_change}
 use Rattle.ist_core.proofs.GrowingLemmas.{change_there}
 use Rattle.ist_rule.specs.declared.view.View.{View}
 use Rattle.ist_core.specs.declared.events.Who.TheVariants.{Caller as CallerOf}
 use Rattle.ist_core.specs.Authors.{LaterBy}
+use Rattle.ist_core.proofs.OptionLemmas.{same_change}
 use Rattle.ist_rule.specs.Conditions.{IsResolved}
 use Rattle.ist_rule.specs.Faces.{TokenFace}
 use Rattle.ist_rule.specs.Going.{WentOn}
@@ -38,6 +38,7 @@ use Rattle.ist_dcss.specs.Installing.{rows_of, IsInstallable, IsInstalled}
 use Rattle.ist_dcss.proofs.ResolvedLemmas.{resolved_helped}
 use Rattle.laws_calls.specs.Accepting.{InstallsNoYes}
 use Rattle.laws_calls.proofs.InstalledLemmas.{installed_no_entry}
+use Rattle.laws_calls.proofs.AcceptedLemmas.{no_longer}
 use Rattle.ist_rows.specs.Going.{IsQuiet, HasGone}
 use Rattle.ist_updates.specs.declared.plans.PlannedChange.{PlannedChange}
 use Rattle.ist_updates.specs.Asking.{IsAsked}
@@ -48,7 +49,7 @@ use Rattle.ist_rows.proofs.GoneLemmas.{caller_gone}
 use Rattle.ist_updates.proofs.StepLemmas.{help_tries, help_installs_none}
 use Rattle.ist_dcss.proofs.HelperLemmas.{serves_keep}
 use Rattle.ist_updates.proofs.StandingLemmas.{no_start, fits_stands, reply_stays}
-use Rattle.ist_updates.proofs.EntryLemmas.{one_entry, one_more_entry}
+use Rattle.ist_updates.proofs.EntryLemmas.{one_more_entry}
 use Rattle.ist_updates.proofs.PairLemmas.{sound_now}
 use Rattle.ist_updates.proofs.PublishLemmas.{installed_row}
 
@@ -233,7 +234,7 @@ module _ (old mid : Caller) (token : TokenFace) (plan : PlannedChange) (c : IsCa
           → length (entries_by old.number (changes_of v.start v.words w.log))
           ≤ length (entries_by old.number (changes_of v.start v.words v.log)) + 1
       at before (inl work) =
-          one_entry _ _ (work.made ∙ sym before)
+          no_longer _ _ (work.made ∙ sym before)
       at before (inr entered) =
           one_more_entry _ _ entered.entry
           (entered.made ∙ ap (λ es. es ++ entered.entry ∷ []) (sym before))

@@ -1,13 +1,9 @@
 -- A change or a rebuild in the slot, and its help. Serves `help_change` and `help_target`.
-use Rattle.std.proofs.Common.{◌≡◌, ◌≢◌, ℕ, Option, Some, sym, ap, ◌∙◌, subst, arith}
+use Rattle.std.proofs.Common.{◌≡◌, ◌≢◌, ℕ, Option, Some, sym, ap, ◌∙◌, subst}
 use Rattle.ist_core.specs.declared.ports.Full.{Full}
-use Rattle.ist_core.specs.Growing.{AllGrow}
 use Rattle.ist_core.specs.Rebuilding.{IsStarted, IsReplaced}
 use Rattle.ist_core.specs.References.{RebuildAt, ref_of}
 use Rattle.ist_core.specs.Slots.{SlotHolds, past_change}
-use Rattle.ist_core.specs.Snapshots.{Snapshot}
-use Rattle.ist_core.specs.Statuses.{decided_yes, undecided}
-use Rattle.ist_core.proofs.GrowingLemmas.{change_there}
 use Rattle.ist_core.proofs.NamingLemmas.{SlotNames, IsRebuildFor, slot_names}
 use Rattle.ist_core.proofs.OrderLemmas.{names}
 use Rattle.ist_rule.specs.declared.view.View.{View}
@@ -16,6 +12,7 @@ use Rattle.ist_rule.specs.Rule.{IsSound}
 use Rattle.ist_rule.proofs.WentOnLemmas.{later_by-goes_on, looked_went, went_grow, went_lawful, went_more}
 use Rattle.laws_calls.proofs.ReadLemmas.{read_started}
 use Rattle.laws_links.proofs.RebuiltLemmas as rebuilt
+use Rattle.laws_links.proofs.FormLemmas.{started_grows, replaced_grows}
 use Rattle.ist_rebuild.specs.Going.{ServesRebuild}
 use Rattle.ist_rebuild.specs.Helping.{IsHelpRefused}
 use Rattle.ist_rows.specs.declared.callers.Caller.{Caller}
@@ -28,37 +25,6 @@ use Rattle.ist_updates.proofs.ShortLemmas.{short_after, short_all}
 use Rattle.ist_updates.proofs.WayLemmas.{slot_on_way, way_longer}
 
 -- ---- rebuilds
-
-one_two : (n : ℕ) → n ≡ decided_yes → n ≢ undecided
-one_two n e f = let one : ◌≡◌ {A = ℕ} 1 0 = sym e ∙ f in omega arith
-
--- a started rebuild is still started when rows grow
-started_on : (t u : Snapshot) → AllGrow t.pieces u.pieces → (rebuild : ℕ) → IsStarted t rebuild
-    → IsStarted u rebuild
-started_on t u g rebuild s =
-    let on = change_there t.pieces u.pieces g s.base s.change s.published in
-    record {
-      base = s.base;
-      change = on.0;
-      published = on.1;
-      kind = ap (λ r. r.kind) on.2.others ∙ s.kind;
-      decision = on.2.decided (one_two s.change.decision s.decision) ∙ s.decision;
-      to = ap (λ r. ref_of r.to) on.2.others ∙ s.to;
-    }
-
--- and a replaced one is replaced
-replaced_on : (t u : Snapshot) → AllGrow t.pieces u.pieces → (rebuild : ℕ) → IsReplaced t rebuild
-    → IsReplaced u rebuild
-replaced_on t u g rebuild s =
-    let on = change_there t.pieces u.pieces g s.base s.change s.published in
-    record {
-      base = s.base;
-      change = on.0;
-      published = on.1;
-      kind = ap (λ r. r.kind) on.2.others ∙ s.kind;
-      decision = on.2.decided (one_two s.change.decision s.decision) ∙ s.decision;
-      from = ap (λ r. ref_of r.from) on.2.others ∙ s.from;
-    }
 
 module _ (v : View) (s : IsSound v) (key node index word rebuild : ℕ)
     (at : IsAtSlot v key node index word) (is : ref_of word ≡ Some (RebuildAt rebuild)) where
@@ -101,8 +67,8 @@ module _ (v : View) (s : IsSound v) (key node index word rebuild : ℕ)
             (short_all ServesRebuild Updates (λ e h. tries_updates e (serves_tries e h)) v words full w
             r.short);
         asked = for_rebuild rebuild
-            (started_on (now v) (now w) (went_grow ServesRebuild v w went) rebuild slot_started)
-            (λ replaced. slot_unreplaced (replaced_on (now first) (now v)
+            (started_grows (now v) (now w) (went_grow ServesRebuild v w went) rebuild slot_started)
+            (λ replaced. slot_unreplaced (replaced_grows (now first) (now v)
             (went_grow Updates first v began.went) rebuild replaced))
             (subst (λ (y : View). IsOnWay y.start y.words w.log key rebuild) began.went.same
             (way_longer v.start v.words v.log w.log (went_lawful ServesRebuild v w went)

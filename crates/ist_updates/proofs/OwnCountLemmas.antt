@@ -1,9 +1,9 @@
 -- Which Counts a caller has made in a log that goes on. Serves the walk and its Counts.
-use Rattle.std.proofs.Common.{◌≡◌, ◌⊎◌, ℕ, List, ◌∷◌, refl, ap, inl, inr, arith}
+use Rattle.std.proofs.Common.{◌≡◌, ◌⊎◌, ℕ, List, ◌∷◌, refl, inl, inr, arith}
 use Rattle.ist_core.specs.declared.events.Event.{Event}
 use Rattle.ist_core.specs.declared.events.Event.TheVariants.{Count}
 use Rattle.ist_core.specs.declared.pairs.Pair.{Pair}
-use Rattle.ist_core.specs.Authors.{GoesOnBy, no_more, one_more, whose, Later, LaterBy}
+use Rattle.ist_core.specs.Authors.{GoesOnBy, no_more, one_more, Later, LaterBy}
 use Rattle.ist_core.specs.Logs.{Log, Counts, GoesOn, same_log, one_event}
 use Rattle.ist_core.specs.declared.events.Who.TheVariants.{Caller as CallerOf}
 use Rattle.ist_rule.proofs.LaterLemmas.{goes_on_more, goes_on_length}
@@ -11,16 +11,11 @@ use Rattle.laws_calls.specs.Counting.{CountsFrom}
 use Rattle.laws_calls.proofs.EventsMeanwhileLemmas.{event_by}
 use Rattle.ist_updates.specs.Counting.{CameToLimit, CountedNowhere, WasCounted}
 use Rattle.ist_updates.specs.Trying.{Tries}
+use Rattle.laws_stability.proofs.CountEventLemmas.{counts_own}
 
 -- the event is no Count of the caller
 abbrev pub CountsNone : ℕ → Event → Type 0
 CountsNone caller event = (node : ℕ) → ¬ (Counts caller node event)
-
--- a Count of the caller is its own event
-counts_own : (caller node : ℕ) (event : Event) → Counts caller node event
-    → whose event ≡ CallerOf caller
-counts_own caller node (Count c n) h = ap CallerOf h.0
-counts_own caller node _ h = absurd h
 
 -- a try counts nothing
 tries_none : (caller : ℕ) (event : Event) → Tries event → CountsNone caller event

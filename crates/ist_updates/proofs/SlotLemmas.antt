@@ -1,26 +1,27 @@
 -- A slot that is changed: what its change asks for, and what came of it, step by step. Serves
 -- `change_slot`.
-use Rattle.std.proofs.Common.{◌≡◌, ◌≢◌, ◌⊎◌, ℕ, nat_lt, true, false, if◌then◌else◌, length, Some, refl, sym, ap, ◌∙◌, subst, inl, inr, ⊎_elim}
+use Rattle.std.proofs.Common.{◌≡◌, ◌≢◌, ◌⊎◌, ℕ, if◌then◌else◌, Some, sym, ap, ◌∙◌, subst, inl, inr, ⊎_elim}
 use Rattle.ist_core.specs.declared.events.Event.TheVariants.{Install}
 use Rattle.ist_core.specs.declared.states.ChangeRow.{ChangeRow}
 use Rattle.ist_core.specs.Changes.{reply_of, value_at}
-use Rattle.ist_core.specs.Installing.{IsUnrefused, pair_row, pair_over}
+use Rattle.ist_core.specs.Installing.{IsUnrefused}
 use Rattle.ist_core.specs.Links.{Linked, WasLinked}
-use Rattle.ist_core.specs.Logs.{Log, GoesOn, same_log, one_event, Ever}
 use Rattle.ist_core.specs.Lawful.{EachEnabled, Lawful, state_of}
 use Rattle.ist_core.proofs.FateLemmas.{enabled_before}
-use Rattle.ist_core.specs.Pieces.{Change, words_of}
+use Rattle.ist_core.specs.Pieces.{Change}
 use Rattle.ist_core.specs.References.{ref_of}
-use Rattle.ist_core.specs.Snapshots.{Snapshot, HoldsRow, HoldsRows}
+use Rattle.ist_core.specs.Snapshots.{HoldsRow, HoldsRows}
 use Rattle.ist_core.specs.StartLayout.{start}
 use Rattle.ist_core.specs.Statuses.{undecided}
 use Rattle.ist_core.specs.Slots.{SlotHolds}
-use Rattle.ist_core.proofs.FreezingLemmas.{same_change}
 use Rattle.ist_core.proofs.GrowingLemmas.{change_there, slot_remains}
 use Rattle.laws_links.proofs.ChangeLemmas.{undecided_unresolved}
 use Rattle.ist_rule.specs.declared.view.View.{View}
 use Rattle.ist_core.specs.declared.events.Who.TheVariants.{Caller as CallerOf}
 use Rattle.ist_core.specs.Authors.{whose}
+use Rattle.ist_core.proofs.OptionLemmas.{same_change}
+use Rattle.ist_core.proofs.FreshLemmas.{pair_size}
+use Rattle.ist_core.proofs.PrefixLemmas.{ever_later}
 use Rattle.ist_rule.specs.Conditions.{IsResolved, StoredAll}
 use Rattle.ist_rule.specs.Faces.{TokenFace}
 use Rattle.ist_rule.specs.Going.{WentOn}
@@ -66,12 +67,6 @@ filled_gone old new refused c s same =
 
 -- ---- what an Install asks
 
--- what was once so was once so
-ever_on : (first : Snapshot) (P : Snapshot → Type 0) (a b : Log) → GoesOn a b
-    → Ever first P a → Ever first P b
-ever_on first P a _ same_log e = e
-ever_on first P a _ (one_event {log = log} event g) e = inr (ever_on first P a log g e)
-
 -- if a caller only prepared, still none of its changes on a node was decided no
 pub unrefused_on : (v w : View) (number node : ℕ) → v.who ≡ CallerOf number → IsResolved v number
     → WentOn Prepares v w → IsUnrefused (now v) number node → IsUnrefused (now w) number node
@@ -106,16 +101,6 @@ unrefused_on v w number node mine resolved g h base change there own at refused 
         (event_by (λ event. (whose event ≢ v.who) ⊎ Prepares event) v.log w.log g.later
         (Install change.owner base i.rows) i.at i.since i.until)
 
--- a pair row has its seven words
-pair_words_are : (key leaf other_key other : ℕ)
-    → length (words_of (pair_row key leaf other_key other)) ≡ 7
-pair_words_are key leaf other_key other =
-    elim (nat_lt other_key key) as (λ v.
-    length (words_of (if v then pair_over key other leaf else pair_over other_key leaf other)) ≡ 7) [
-      | true ↦ refl
-      | false ↦ refl
-    ]
-
 -- a caller that has the rows of a plan holds them
 rows_held : (who : Caller) → IsCaller who → (base : ℕ) (row : ChangeRow) (fresh : Fresh)
     → HasRows who record { base = base; row = row; fresh = fresh }
@@ -130,7 +115,7 @@ rows_held who c base row (Pair pair leaf other other_key) h = (
   c.rows kind.Change base h.0,
   (
     subst (HoldsRow (now who.token.view) who.number pair)
-        (sym (pair_words_are row.key leaf other_key other)) (c.rows kind.Pair pair h.1.0),
+        (sym (pair_size row.key leaf other_key other)) (c.rows kind.Pair pair h.1.0),
     (c.rows kind.Leaf leaf h.1.1.0, tt),
   ),
 )
@@ -159,7 +144,7 @@ module _ (old mid new : Caller) (aim : Aim) (x : Way) (plan : PlannedChange)
       subst (λ (y : View). WasLinked (start y.start y.words) w.log plan.row.node)
       (sym all.went.same)
       (subst (WasLinked (start v.start v.words) w.log) (sym planned.is_for.node)
-      (ever_on (start v.start v.words) (λ t. Linked t aim.node) v.log w.log
+      (ever_later (start v.start v.words) (λ t. Linked t aim.node)
       (later_by-goes_on all.went.later) (slot_met v aim at).linked))
 
   slot : (word : ℕ) × SlotHolds (now w) plan.row.node plan.row.index word

@@ -5,7 +5,7 @@ use Rattle.ist_core.specs.declared.states.ChangeRow.{ChangeRow}
 use Rattle.ist_core.specs.declared.states.LeafRow.{LeafRow}
 use Rattle.ist_core.specs.Changes.{reply_of, value_in, value_at}
 use Rattle.ist_core.specs.Growing.{AllGrow}
-use Rattle.ist_core.specs.Installing.{FitsKind, a_put, a_pair, a_remove, a_start, a_finish, HasRoomFor, nothing, same_key, IsLeafOf}
+use Rattle.ist_core.specs.Installing.{FitsKind, a_put, a_pair, a_remove, a_start, a_finish, HasRoomFor, nothing, same_key}
 use Rattle.ist_core.specs.declared.lists.Row.{Row}
 use Rattle.ist_core.specs.Logs.{Log, state}
 use Rattle.ist_core.specs.Pieces.{Leaf}
@@ -20,6 +20,7 @@ use Rattle.ist_updates.specs.declared.plans.Fresh.TheVariants.{Leaf}
 use Rattle.ist_updates.specs.declared.plans.Way.{Way}
 use Rattle.ist_updates.specs.declared.plans.Way.TheVariants as way
 use Rattle.ist_updates.specs.Changing.{MayReplace}
+use Rattle.laws_links.proofs.FormLemmas.{leaf_of_grows, room_grows}
 
 -- ---- what stays
 
@@ -73,31 +74,16 @@ reply_stays t u g key word (leaf_there_is leaf row e there) =
 
 -- ---- what the slot holds
 
--- a leaf of a key stays one
-leaf_on : (t u : Snapshot) → AllGrow t.pieces u.pieces → (base key : ℕ) → IsLeafOf t base key
-    → IsLeafOf u base key
-leaf_on t u g base key l =
-    record {
-      row = l.row;
-      published = leaf_there t.pieces u.pieces g base l.row l.published;
-      key_is = l.key_is;
-    }
-
-room_on : (t u : Snapshot) → AllGrow t.pieces u.pieces → (key word : ℕ) → HasRoomFor t key word
-    → HasRoomFor u key word
-room_on t u g key word (nothing e) = nothing e
-room_on t u g key word (same_key leaf e l) = same_key leaf e (leaf_on t u g leaf key l)
-
 -- what leaves room leaves it still
 pub way_on : (v w : View) → AllGrow (now v).pieces (now w).pieces → (key word : ℕ) (x : Way)
     → MayReplace v key word x → MayReplace w key word x
-way_on v w g key word (way.Leaf value) h = room_on (now v) (now w) g key word h
+way_on v w g key word (way.Leaf value) h = room_grows (now v) (now w) g key word h
 way_on v w g key word (way.Pair value other other_key) h = (
   h.0,
-  leaf_on (now v) (now w) g other other_key h.1,
+  leaf_of_grows (now v) (now w) g other other_key h.1,
   h.2,
 )
-way_on v w g key word way.Clear h = (h.0, h.1, leaf_on (now v) (now w) g h.0 key h.2)
+way_on v w g key word way.Clear h = (h.0, h.1, leaf_of_grows (now v) (now w) g h.0 key h.2)
 
 -- the slot holds nothing or a leaf
 pub way_stands : (v : View) (key word : ℕ) (x : Way) → MayReplace v key word x → StandsInSlot (now v) word

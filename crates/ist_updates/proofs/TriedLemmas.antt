@@ -38,7 +38,7 @@ use Rattle.ist_updates.specs.Answering.{IsTried, IsTryRefused}
 use Rattle.ist_updates.specs.Asking.{command_for, IsAsked, Updates}
 use Rattle.ist_updates.specs.Changing.{WasAtSlot, Prepares}
 use Rattle.ist_updates.specs.Refusals.{IsUpdateRefused, MetOtherLeaf, for_leaf, for_pair, for_put, for_remove}
-use Rattle.ist_updates.specs.Trying.{BeganSince, HasFoundNone, HasTakenEffect}
+use Rattle.ist_updates.specs.Trying.{BeganSince, HasFoundNone}
 use Rattle.ist_updates.proofs.AskedLemmas.{asked_gone}
 use Rattle.ist_updates.proofs.ShortLemmas.{short_after, short_all}
 use Rattle.ist_rows.proofs.GoneLemmas.{loads_gone}

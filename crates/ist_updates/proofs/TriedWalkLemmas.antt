@@ -2,16 +2,16 @@
 use Rattle.std.proofs.Common.{◌≡◌, ℕ, List, [], ◌++◌, length, Option, Some, None, IfOk, IfErr, Result, Ok, Err, sym, ap, ◌∙◌, subst, append-nil, arith}
 use Rattle.ist_core.specs.declared.commands.Command.{Command}
 use Rattle.ist_core.specs.declared.events.Event.{Event}
-use Rattle.ist_core.specs.declared.events.Event.TheVariants.{Count}
 use Rattle.ist_core.specs.declared.pairs.Pair.{Pair}
 use Rattle.ist_core.specs.Authors.{GoesOnBy, no_more, LaterBy}
 use Rattle.ist_core.specs.Changes.{reply_of}
 use Rattle.ist_core.specs.Lawful.{Lawful, state_of}
-use Rattle.ist_core.specs.Pieces.{Piece, Change}
+use Rattle.ist_core.specs.Pieces.{Change}
 use Rattle.ist_core.proofs.FateLemmas.{grow_between}
 use Rattle.ist_core.proofs.GrowingLemmas.{change_there}
 use Rattle.ist_rule.specs.declared.view.View.{View}
 use Rattle.ist_core.specs.declared.events.Who.TheVariants.{Caller as CallerOf}
+use Rattle.ist_core.proofs.OptionLemmas.{no_value}
 use Rattle.ist_rule.specs.Going.{WentOn}
 use Rattle.ist_rule.specs.Learning.{now}
 use Rattle.ist_rule.specs.Standings.{HasMade}
@@ -25,7 +25,6 @@ use Rattle.ist_core.specs.declared.ports.Full.{Full}
 use Rattle.ist_rule.specs.Rule.{IsSound}
 use Rattle.ist_rows.proofs.GoneLemmas.{ready_all}
 use Rattle.ist_updates.specs.declared.plans.Aim.{Aim}
-use Rattle.ist_updates.specs.declared.updates.Applied.{Applied}
 use Rattle.ist_updates.specs.declared.updates.Outcome.{Outcome}
 use Rattle.ist_updates.specs.declared.updates.Outcome.TheVariants.{Took, Nothing, Unmet}
 use Rattle.ist_updates.specs.declared.updates.When.{When}
@@ -37,11 +36,7 @@ use Rattle.ist_updates.specs.Trying.{Tries, HasTakenEffect, IsAtSlot}
 use Rattle.ist_updates.specs.Walking.{HasTriedSince, HasCounted, HasWalked}
 use Rattle.ist_updates.proofs.FurtherLemmas.{slot_aimed}
 use Rattle.ist_updates.proofs.OwnCountLemmas.{CountsNone, tried_none, from_none, came_none}
-
--- a try is a step of an update
-pub tries_update : (event : Event) → Tries event → Updates event
-tries_update (Count c n) t = absurd t
-tries_update _ t = t
+use Rattle.ist_updates.proofs.StepLemmas.{tries_updates}
 
 -- what holds for a view's table holds for the table of a view that it went on to
 pub went_table : (P : Event → Type 0) (v w : View) → WentOn P v w → (Q : List Pair → ℕ → Type 0)
@@ -76,9 +71,6 @@ module _ (old : Caller) (command : Command) (a : IsAsked old command) (first : V
 
     module _ (node : ℕ) (reply : Option ℕ)
         (t : HasTakenEffect v w old.number command node reply) where
-      not_there : (o : Option Piece) (p : Piece) → o ≡ None → o ≡ Some p → ⊥
-      not_there o p e f = cc
-
       -- it is the caller's one update since the first view
       abbrev one_update : IsOneUpdate v.start v.words first.log w.log old.number t.base
       one_update =
@@ -97,7 +89,7 @@ module _ (old : Caller) (command : Command) (a : IsAsked old command) (first : V
                 let it = change_there (state_of v.start v.words first.log).pieces (now v).pieces
                 (grow_between v.start v.words first.log v.log there.enabled
                 (later_by-goes_on since.went.later)) t.base before e in
-                not_there _ (Change it.0) t.fresh it.1;
+                no_value _ (Change it.0) t.fresh it.1;
             alone = omega arith;
           }
 
@@ -162,7 +154,7 @@ pub tried_walk : {old new : Caller} {aim : Aim} {value : Option ℕ} {words : �
     → IsWalk old aim.key value when aim.node words r new
 tried_walk {old} {new} {aim} {value} {words} {when} {r} a sound at t met missed =
     record {
-      on = ready_all Tries Updates tries_update old new t.on;
+      on = ready_all Tries Updates tries_updates old new t.on;
       walked = walked_tried old new aim value words a r t.on.gone.went t.told t.full;
       further = λ is first fresh. t.further is first
           (slot_aimed first old.token.view aim.key aim.node aim.index aim.word sound at fresh);

@@ -10,7 +10,7 @@ use Rattle.ist_rule.proofs.WentOnLemmas.{later_by-goes_on}
 use Rattle.laws_coming.specs.Further.{CameFurther}
 use Rattle.ist_updates.specs.Asking.{Updates}
 use Rattle.ist_updates.specs.Further.{HasWalkedFew}
-use Rattle.laws_histories.proofs.ChangeLemmas.{on_trans}
+use Rattle.ist_core.proofs.PrefixLemmas.{goes_on_more}
 
 -- the walks begun are at most the steps of progress, if one more walk saw progress
 pub paid_on : (u v w x : View) → v.searches + progress u.log ≤ u.searches + progress v.log
@@ -28,6 +28,6 @@ pub few_on : (u v w x : View) → v.searches + progress u.log ≤ u.searches + p
 few_on u v w x paid t g =
     let one : w.searches ≡ v.searches + 1 = ap (λ (y : View). y.searches) t.view in
     let none : x.searches ≡ w.searches = ap (λ (y : View). y.searches) g.same in
-    let more = never_falls v.log x.log (on_trans v.log w.log x.log (later-goes_on t.later)
+    let more = never_falls v.log x.log (goes_on_more (later-goes_on t.later)
     (later_by-goes_on g.later)) in
     omega arith

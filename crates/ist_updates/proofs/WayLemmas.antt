@@ -1,16 +1,17 @@
 -- The slot to which a key leads, and what was met there. Serves the functions of `trying`.
-use Rattle.std.proofs.Common.{◌≡◌, ◌≢◌, ℕ, length, List, Option, Some, refl, sym, ap, ◌∙◌, subst, arith}
+use Rattle.std.proofs.Common.{◌≡◌, ◌≢◌, ℕ, length, List, Some, refl, sym, ap, ◌∙◌, subst, arith}
 use Rattle.ist_core.specs.declared.pairs.Pair.{Pair}
 use Rattle.ist_core.specs.declared.states.LeafRow.{LeafRow}
 use Rattle.ist_core.specs.Lawful.{Lawful, state_of}
 use Rattle.ist_core.specs.Links.{Leads}
 use Rattle.ist_core.specs.Logs.{GoesOn, Log}
-use Rattle.ist_core.specs.Pieces.{Leaf, Piece}
+use Rattle.ist_core.specs.Pieces.{Leaf}
 use Rattle.ist_core.specs.References.{LeafAt, ref_of}
 use Rattle.ist_core.specs.StartLayout.{start}
 use Rattle.ist_core.proofs.FateLemmas.{grow_between}
 use Rattle.ist_core.proofs.GrowingLemmas.{child_remains, leaf_there, rebuild_there}
 use Rattle.ist_core.proofs.NamingLemmas.{IsRebuildFor}
+use Rattle.ist_core.proofs.OptionLemmas.{same_leaf}
 use Rattle.laws_stability.proofs.LaterLemmas.{ever_later}
 use Rattle.ist_rule.specs.declared.view.View.{View}
 use Rattle.ist_rule.specs.Learning.{now}
@@ -90,9 +91,6 @@ module _ (v : View) (aim : Aim) (at : WasAtSlot v aim) where
 
   b_to_v : GoesOn b.log v.log
   b_to_v = later-goes_on at.seen.later
-
-  same_leaf : (o : Option Piece) (x y : LeafRow) → o ≡ Some (Leaf x) → o ≡ Some (Leaf y) → x ≡ y
-  same_leaf o x y e f = cc
 
   module _ (first : View) (began : BeganSince first v) where
     -- since a search that began after the first view

@@ -28,7 +28,6 @@ use Rattle.laws_histories.proofs.ChangeLemmas.{changes_on}
 use Rattle.laws_histories.proofs.DecisionLemmas.{Turning, turns_since}
 use Rattle.laws_calls.proofs.EventsMeanwhileLemmas.{Met, event_by, events_after, happened_met}
 use Rattle.laws_calls.specs.Counting.{CountsElsewhere, IsOneUpdate}
-pub use Rattle.ist_core.proofs.CommandLemmas.{command_update}
 
 -- a put or remove has a command
 pub update_command : (x : ChangeRow) → IsUpdate x.kind

@@ -27,7 +27,7 @@ use Rattle.ist_core.specs.declared.events.Who.TheVariants.{Caller}
 use Rattle.ist_core.proofs.FateLemmas.{grow_after}
 use Rattle.laws_coming.specs.Builds.{EndsBuild, EndsNone}
 use Rattle.laws_coming.proofs.SizeLemmas.{IsRootSizes, root_sizes, root_sizes_once}
-pub use Rattle.ist_core.proofs.DrawLemmas.{finished_once}
+use Rattle.ist_core.proofs.DrawLemmas.{finished_once}
 
 -- ---- logs
 

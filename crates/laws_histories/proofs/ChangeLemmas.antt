@@ -10,10 +10,6 @@ use Rattle.ist_core.specs.Changes.{Entry, entry_of, changes, map_after_entries}
 use Rattle.ist_core.specs.Standing.{IsRead}
 use Rattle.ist_core.proofs.PrefixLemmas.{goes_on_more}
 
--- a prefix of a prefix is a prefix, with the logs named
-pub on_trans : (a b c : Log) → GoesOn a b → GoesOn b c → GoesOn a c
-on_trans a b c g h = goes_on_more g h
-
 -- a longer log has the changes of the shorter one, and more after them
 pub changes_on : (first : Snapshot) (earlier log : Log) → GoesOn earlier log
     → (more : List Entry) × (changes first log ≡ changes first earlier ++ more)

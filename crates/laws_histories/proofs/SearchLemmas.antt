@@ -25,7 +25,6 @@ use Rattle.laws_histories.specs.Finding.{Finds, in_node, Gives}
 use Rattle.laws_histories.proofs.NeedLemmas.{AllNeeds}
 use Rattle.laws_histories.proofs.LedLemmas.{WasLeft, led_on}
 use Rattle.laws_histories.proofs.SeenLemmas.{Saw, saw_led, saw_left}
-pub use Rattle.ist_core.proofs.ChainLemmas.{leads_linked}
 
 -- ---- looks
 

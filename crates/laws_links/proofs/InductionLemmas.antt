@@ -22,7 +22,6 @@ use Rattle.laws_links.proofs.ComesLemmas.{change_comes, rebuild_comes}
 use Rattle.laws_links.proofs.OriginLemmas.{ChangeComes, RebuildComes, change_was, is_begun, is_decided, is_drawn, is_installed, is_rooted, rebuild_was}
 use Rattle.laws_links.proofs.PublishedLemmas.{new_rebuild_row}
 use Rattle.laws_links.proofs.QuietLemmas.{start_quiet}
-pub use Rattle.ist_core.proofs.FateLemmas.{grow_after}
 
 module _ (pairs : List Pair) (words : ℕ) where
   -- held rows lie apart after a lawful log

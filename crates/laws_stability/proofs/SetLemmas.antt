@@ -14,11 +14,10 @@ use Rattle.ist_core.specs.StartLayout.{start}
 use Rattle.ist_core.specs.Statuses.{decided_yes}
 use Rattle.ist_core.proofs.PlaceLemmas.{anchor_free}
 use Rattle.ist_core.proofs.SlotStepLemmas.{WritesSlot, WritesNoSlot, install_writes, place_writes, resolve_writes, slot_stays}
-use Rattle.ist_core.proofs.SettingLemmas.{change_set, room_set}
+use Rattle.ist_core.proofs.SettingLemmas.{change_set, room_set, set_by}
 use Rattle.laws_links.proofs.FormLemmas.{IsFormed, of_finish, of_leaf_put, of_pair_put, of_remove, of_start}
 use Rattle.laws_links.proofs.FormedLemmas.{changes_are_formed}
 use Rattle.laws_links.proofs.InductionLemmas.{sound_after}
-pub use Rattle.ist_core.proofs.SettingLemmas.{set_by}
 
 -- neither side of a change is Unset
 sides_set : (t : Snapshot) (change : ChangeRow) → IsFormed t change

@@ -1,6 +1,6 @@
 -- The pairs of a map are the list that it was made of, if the keys of that list are strictly
 -- increasing; and the map of its pairs is the map.
-use Rattle.std.proofs.Common.{◌≡◌, ℕ, suc, ◌<◌, Bool, true, false, ◌&&◌, T, List, [], ◌∷◌, map, length, refl, sym, ap, subst, ◌∙◌, arith}
+use Rattle.std.proofs.Common.{◌≡◌, ℕ, suc, ◌<◌, Bool, true, false, ◌&&◌, T, List, [], ◌∷◌, map, length, sym, ap, subst, ◌∙◌, arith}
 use Rattle.std.specs.FinMap as fin
 use Rattle.std.specs.FinMap.{is_sorted}
 use Rattle.std.specs.FinMap.Entries.{below_all}
@@ -8,19 +8,12 @@ use Rattle.std.specs.Ordering.{nat_cmp, is_lt}
 use Rattle.std.specs.declared.cmp.Ordering.TheVariants.{Less}
 use Rattle.std.specs.Cmp.{nat_cmp_is}
 use Rattle.std.proofs.lemmas.Cmp.{nat_cmp_total}
-use Rattle.ist_core.specs.Map.{Map, map_of, pairs_of}
+use Rattle.ist_core.specs.Map.{map_of, pairs_of}
 use Rattle.ist_core.specs.declared.pairs.Pair.{Pair}
+use Rattle.ist_core.proofs.MapLemmas.{pairs-entries, entry, pair}
 use Rattle.plain_map.specs.Rising.{IsRising}
 use Rattle.plain_map.specs.Place.{key_at}
 use Rattle.plain_map.proofs.RisingLemmas.{key_at-rises}
-
--- the entry of a pair
-abbrev entry : Pair → ℕ × ℕ
-entry p = (p.key, p.value)
-
--- the pair of an entry
-abbrev pair : ℕ × ℕ → Pair
-pair e = record { key = e.0; value = e.1 }
 
 -- two tests that pass, pass together
 both : (a b : Bool) → T a → T b → T (a && b)
@@ -45,11 +38,6 @@ sorted_entries (p ∷ pairs) rises =
     both _ _ (below_entries p.key pairs (λ j within. rises 0 (suc j) (omega arith) (omega arith)))
     (sorted_entries pairs (λ i j before within. rises (suc i) (suc j) (omega arith) (omega arith)))
 
--- a list of pairs is the list of its entries' pairs
-pairs-entries : (pairs : List Pair) → map pair (map entry pairs) ≡ pairs
-pairs-entries [] = refl
-pairs-entries (p ∷ pairs) = ap (λ (ps : List Pair). p ∷ ps) (pairs-entries pairs)
-
 -- the map of pairs with increasing keys has them as its pairs
 pub pairs_of-map_of : (pairs : List Pair) → IsRising pairs → pairs_of (map_of pairs) ≡ pairs
 pairs_of-map_of pairs rising =
@@ -60,14 +48,3 @@ pairs_of-map_of pairs rising =
     fin.get-from_entries nat_cmp_total es q ∙ sym (fin.get-from_sorted nat_cmp es q sorted)) in
     ap (λ m. map pair (fin.entries m)) same
     ∙ ap (map pair) (fin.entries-from_sorted nat_cmp es sorted) ∙ pairs-entries pairs
-
--- entries are the entries of their pairs
-entries-pairs : (es : List (ℕ × ℕ)) → map entry (map pair es) ≡ es
-entries-pairs [] = refl
-entries-pairs (e ∷ es) = ap (λ l. e ∷ l) (entries-pairs es)
-
--- the map of the pairs of a map is that map
-pub map_of-pairs_of : (m : Map) → map_of (pairs_of m) ≡ m
-map_of-pairs_of m = fin.same_map nat_cmp_total fin.nat_cmp-IsAntisymmetric _ _
-    (λ q. fin.get-from_entries nat_cmp_total _ q
-    ∙ ap (fin.find nat_cmp q) (entries-pairs (fin.entries m)) ∙ sym (fin.get-entries m q))

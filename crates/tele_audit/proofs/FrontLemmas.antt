@@ -1,7 +1,7 @@
 -- What the bytes that were taken from a source say of all that it had. Serves `audits.audit`.
 use Rattle.std.proofs.Common.{◌≡◌, ℕ, ◌+◌, ◌*◌, ◌≤◌, nat_eq, nat_lt, Bool, true}
 use Rattle.std.proofs.Common.{false, if◌then◌else◌, List, [], ◌++◌, length, drop, Option, Some}
-use Rattle.std.proofs.Common.{None, IfSome, IfOk, Result, Ok, Err, refl, sym, ap, ◌∙◌, subst, arith}
+use Rattle.std.proofs.Common.{None, IfSome, refl, sym, ap, ◌∙◌, subst, arith}
 use Rattle.std.proofs.Common.{⊎_elim}
 use Rattle.std.specs.List.{starts_with}
 use Rattle.std.proofs.lemmas.Bool.Decides.{nat_tests}
@@ -195,18 +195,6 @@ all_of_length (Some left) now taken more k enough e =
     (λ past. absurd (omega arith))
     (λ end. (all_taken k.0 more (taken ++ left) now k.1 k.2 end, end))
     enough
-
--- what holds of a successful result
-pub ok_so : {A E : Type 0} (P Q : A → Type 0) (r : Result A E) → ((a : A) → P a → Q a)
-    → IfOk r P → IfOk r Q
-ok_so P Q (Ok a) f h = f a h
-ok_so P Q (Err e) f h = tt
-
--- what holds of all bytes
-pub some_so : {A : Type 0} (P Q : A → Type 0) (o : Option A) → ((a : A) → P a → Q a)
-    → IfSome o P → IfSome o Q
-some_so P Q None f h = tt
-some_so P Q (Some a) f h = f a h
 
 -- more bytes after a good head
 module _ (taken more : List ℕ) (extends : Extends taken more) (head : head_flaw taken ≡ None) where

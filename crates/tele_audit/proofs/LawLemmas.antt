@@ -23,6 +23,7 @@ use Rattle.tele_audit.specs.Flaws.{anchor_flaw, flaw_or, flaw_before_rows, Break
 use Rattle.tele_audit.proofs.NumberLemmas.{length-number_bytes, number_encoded-number_bytes}
 use Rattle.tele_audit.proofs.NumberLemmas.{get_or_numbers_in, numbers_of_bytes, length-flat_bytes}
 use Rattle.tele_audit.proofs.NumberLemmas.{below-take}
+use Rattle.tele_lines.proofs.NumberLemmas.{not_below}
 
 -- zeros are zeros
 zeros_are : (xs : List ℕ) → ((i : ℕ) → i < length xs → get_or xs i 0 ≡ 0)
@@ -38,9 +39,6 @@ not_out low high n a b =
     let x : nat_lt n low ≡ false = grind (arith, nat_tests) in
     let y : nat_lt high n ≡ false = grind (arith, nat_tests) in
     ap (λ t. t || nat_lt high n) x ∙ y
-
-not_less : (n m : ℕ) → m ≤ n → nat_lt n m ≡ false
-not_less n m h = grind (arith, nat_tests)
 
 -- ---- what a dump says
 
@@ -138,9 +136,9 @@ module _ (table : List ℕ) (bounds : HasGoodBounds table)
       let least = bounds.least in
       let most = bounds.most in
       let high = bounds.high in
-      let s = not_less (length (dump_of table)) 16 (omega arith) in
+      let s = not_below (length (dump_of table)) 16 (omega arith) in
       let z = not_out first_row place_limit (count_told (dump_of table)) (omega arith) (omega arith) in
-      let t = not_less (length (dump_of table)) 24 (omega arith) in
+      let t = not_below (length (dump_of table)) 24 (omega arith) in
       let o = not_out first_row (count_told (dump_of table)) (used_told (dump_of table)) (omega arith)
       (omega arith) in
       unnamed _ _ _ _ s z t o
@@ -159,8 +157,8 @@ module _ (table : List ℕ) (bounds : HasGoodBounds table)
   none_back =
       let l = length_back in
       let n = dump_length (used_told (dump_of table)) in
-      let a = not_less (length (dump_of table)) n (omega arith) in
-      let b = not_less n (length (dump_of table)) (omega arith) in
+      let a = not_below (length (dump_of table)) n (omega arith) in
+      let b = not_below n (length (dump_of table)) (omega arith) in
       let whole : length_flaw (dump_of table) ≡ None =
       ap (λ (x : Bool). if x then Some Short else (if nat_lt n (length (dump_of table)) then Some Long
       else None)) a

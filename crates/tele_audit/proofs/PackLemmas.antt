@@ -14,6 +14,7 @@ use Rattle.ist_core.specs.Resting.{StandsFor}
 use Rattle.ist_core.specs.RowLayout.{next_place, first_row}
 use Rattle.ist_core.specs.Shapes.{ideal_words}
 use Rattle.ist_core.specs.StartLayout.{start}
+use Rattle.ist_core.proofs.MapLemmas.{adds_one_key, length-pairs_of}
 use Rattle.laws_links.proofs.QuietLemmas.{start_quiet}
 use Rattle.ist_rest.specs.Laws.{StandingWordsAreLawful}
 use Rattle.ist_rest.specs.WordLaws.{PairsAreOne, LawfulWordsBreakNowhere}
@@ -21,7 +22,6 @@ use Rattle.ist_rest.specs.RestingWords.{AreLawful}
 use Rattle.ist_rest.specs.WordRows.{word_at}
 use Rattle.plain_map.specs.Rising.{IsRising}
 use Rattle.plain_map.proofs.EntriesLemmas.{pairs_of-map_of}
-use Rattle.plain_map.proofs.PairCountLemmas.{adds_one_key, length-pairs_of}
 use Rattle.tele_lines.specs.declared.items.Cause.{Cause}
 use Rattle.tele_lines.specs.declared.items.Item.{Item}
 use Rattle.tele_lines.specs.declared.items.Version.{Version}

@@ -8,6 +8,7 @@ use Rattle.ist_core.specs.Elements.{Among, Each}
 use Rattle.ist_core.proofs.ElementLemmas.{each_append, each-among}
 use Rattle.ist_core.proofs.RisingLemmas.{child_count_tells, AreRisingKeys}
 use Rattle.ist_core.proofs.LeafOrderLemmas.{next_from_rises}
+use Rattle.ist_core.proofs.UnderLemmas.{each_mapped}
 use Rattle.ist_rest.specs.WordRows.{Span, row_keys, row_slots, row_degree, leaf_key}
 use Rattle.ist_rest.specs.Walks.{Way, Visit, LeadsBy, IsGoodAs, pairs_read, first_visit}
 use Rattle.ist_rest.specs.Walks.{visits_from, visits_below, Walks, ends, goes_on}
@@ -115,11 +116,6 @@ ordered_append [] ys h k b = k
 ordered_append (x ∷ xs) ys h k b =
     (each_append (IsBefore x) xs ys h.0 b.0, ordered_append xs ys h.1 k b.1)
 
-each_so : {A : Type 0} (P Q : A → Type 0) (xs : List A) → ((x : A) → P x → Q x) → Each P xs
-    → Each Q xs
-each_so P Q [] f h = tt
-each_so P Q (x ∷ xs) f h = (f x h.0, each_so P Q xs f h.1)
-
 -- ---- keys
 
 -- what is found in a slot that a key leads before has a greater key
@@ -157,7 +153,7 @@ here_rises : (words : List ℕ) (visit : Visit) (visits : List Visit) (rows : Li
     → AreRisingKeys (λ (p : Pair). p.key) (pairs_read words ref ++ pairs)
 here_rises words visit visits rows pairs (LeafAt base) good w before rises = (
   all_above words (leaf_key words base) visits rows pairs w
-      (each_so (IsBefore visit) (IsAbove (leaf_key words base)) visits
+      (each_mapped (IsBefore visit) (IsAbove (leaf_key words base)) visits
       (λ v b.
       let way : Way = record { keys = b.keys; index = b.low } in
       let leads = each-among (LeadsBy (leaf_key words base)) way visit.ways good.lies b.one in
@@ -183,7 +179,7 @@ walk_rises words _ _ _ (goes_on {visit = visit} {visits = visits} {rows = rows} 
     at w) ordered =
     let below = visits_below words visit at.ref in
     let on = each_below words visit at.ref (λ v. Each (IsBefore v) visits)
-    (λ v more. each_so (IsBefore visit) (IsBefore v) visits
+    (λ v more. each_mapped (IsBefore visit) (IsBefore v) visits
     (λ u b. record {
       keys = b.keys;
       low = b.low;

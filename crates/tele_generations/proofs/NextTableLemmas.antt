@@ -2,7 +2,7 @@
 use Rattle.std.proofs.Common.{◌≡◌, ℕ, suc, ◌+◌, ◌<◌, ◌≤◌, List, [], ◌∷◌, ◌++◌, length, Option}
 use Rattle.std.proofs.Common.{refl, sym, ap, subst, ◌∙◌, arith, slice_index}
 use Rattle.std.specs.List.Sorted.{IsStrictlyIncreasing}
-use Rattle.std.proofs.lemmas.List.{length-append}
+use Rattle.std.proofs.lemmas.List.{length-append, nil_from_length}
 use Rattle.std.proofs.lemmas.List.Elements.{All-push}
 use Rattle.ist_core.specs.declared.pairs.Pair.{Pair}
 use Rattle.ist_core.specs.declared.ports.Full.{Full}
@@ -25,7 +25,7 @@ use Rattle.tele_generations.specs.Generations.HandsOn.{some_done, none_done}
 use Rattle.tele_generations.specs.Tables.{RanOnTable, HasPairs}
 use Rattle.tele_generations.specs.Ways.{Rests, IsOnItsWay}
 use Rattle.tele_generations.specs.Ways.Rests.{stays, rests_one}
-use Rattle.tele_generations.proofs.TableLemmas.{no_length, table_map, turn, leaves, leads}
+use Rattle.tele_generations.proofs.TableLemmas.{table_map, turn, leaves, leads}
 use Rattle.tele_generations.proofs.TableLemmas.{answered_long, after_is}
 use Rattle.tele_generations.proofs.TableLemmas.{after_map, after_rises}
 
@@ -106,10 +106,10 @@ module _ (workers words : ℕ) (now : List Pair) (left : List Task) (table : Lis
       let lanes : IsUnderWay (map_of now) left [] (task ∷ after) (map_of following)
       = subst (IsUnderWay (map_of now) left [] (task ∷ after))
       (sym (after_map workers words now left table more rest full r some up following h))
-      (subst (λ xs. IsUnderWay (map_of now) left xs (task ∷ after) m) (no_length more none)
+      (subst (λ xs. IsUnderWay (map_of now) left xs (task ∷ after) m) (nil_from_length more none)
       (subst (λ ts. IsUnderWay (map_of now) left more ts m) first
       (turn workers words now left table more rest full r some up))) in
-      let no_done : all_done r.runs ≡ [] = no_length (all_done r.runs)
+      let no_done : all_done r.runs ≡ [] = nil_from_length (all_done r.runs)
       (answered_long workers words now left table more rest full r some up ∙ none) in
       let same_map : map_of following ≡ map_of now
       = after_map workers words now left table more rest full r some up following h

@@ -15,7 +15,7 @@ use Rattle.ist_core.specs.Changes.{Entry, changes_of}
 use Rattle.ist_core.specs.Standing.{is_change, entry_by, StandsIn}
 use Rattle.ist_core.specs.Histories.{IsLegal}
 use Rattle.ist_core.specs.Resting.{AllStandIn, told_by_call}
-use Rattle.ist_core.proofs.ElementLemmas.{each-among, among-filter, among_filter}
+use Rattle.ist_core.proofs.ElementLemmas.{each-among, among-filter, among_filter, get_among}
 use Rattle.laws_histories.specs.Telling.{map_now}
 use Rattle.laws_histories.proofs.ContentLemmas.{told_at}
 use Rattle.laws_histories.proofs.EntryLemmas.{entry_update}
@@ -33,12 +33,6 @@ module _ {A : Type 0} where
       → ((i : ℕ) (x : A) → slice_get xs i ≡ Some x → P x) → Each P xs
   each_get P [] h = tt
   each_get P (x ∷ xs) h = (h 0 x refl, each_get P xs (λ i y e. h (suc i) y e))
-
-  -- the element at a place is an element
-  pub get_among : (xs : List A) (i : ℕ) (x : A) → slice_get xs i ≡ Some x → Among x xs
-  get_among [] i x e = absurd (cc)
-  get_among (y ∷ xs) zero x e = inl (let same : y ≡ x = cc in sym same)
-  get_among (y ∷ xs) (suc i) x e = inr (get_among xs i x e)
 
   -- an element of an image is the image of an element
   pub from_map : {B : Type 0} (f : A → B) (y : B) (xs : List A) → Among y (map f xs)

@@ -1,15 +1,16 @@
 -- The result of one generation, by the log of its table. Serves `run_round`.
 use Rattle.std.proofs.Common.{◌≡◌, inl, inr, ℕ, ◌+◌, ◌<◌, ◌≤◌, List, [], ◌∷◌, length}
-use Rattle.std.proofs.Common.{Option, refl, sym, ap, subst, ◌∙◌, arith}
+use Rattle.std.proofs.Common.{Option, sym, ap, subst, ◌∙◌, arith}
 use Rattle.std.specs.List.{flat_map}
 use Rattle.std.specs.List.Sorted.{IsStrictlyIncreasing}
-use Rattle.std.proofs.lemmas.List.{length-map}
+use Rattle.std.proofs.lemmas.List.{length-map, nil_from_length}
 use Rattle.std.proofs.lemmas.List.Sums.{count_by-le-length}
 use Rattle.std.proofs.lemmas.List.Sorted.{length_permutation}
 use Rattle.ist_core.specs.declared.pairs.Pair.{Pair}
 use Rattle.ist_core.specs.declared.ports.Full.{Full}
 use Rattle.ist_core.specs.Map.{Map, map_of, pairs_of, replay}
 use Rattle.ist_core.specs.Logs.{Log}
+use Rattle.ist_core.proofs.MapLemmas.{map_of-pairs_of}
 use Rattle.laws_calls.specs.Finishing.{is_put}
 use Rattle.laws_histories.specs.Telling.{map_now}
 use Rattle.laws_histories.proofs.ContentLemmas.{pairs_rise_at}
@@ -25,7 +26,7 @@ use Rattle.tele_generations.proofs.TurnLemmas.{lanes_turn, tasks_counted}
 use Rattle.tele_generations.proofs.SuffixLemmas.{lanes_leave}
 use Rattle.tele_generations.proofs.WholeLemmas.{nothing_left}
 use Rattle.plain_map.specs.Rising.{IsRising}
-use Rattle.plain_map.proofs.EntriesLemmas.{pairs_of-map_of, map_of-pairs_of}
+use Rattle.plain_map.proofs.EntriesLemmas.{pairs_of-map_of}
 use Rattle.tele_generations.specs.Generations.{RanFull, MayAsk, all_done, puts_done}
 use Rattle.tele_generations.specs.Tables.{RanOnTable, HasPairs}
 use Rattle.tele_generations.proofs.DoneLemmas.{length-all_done, left_some}
@@ -37,11 +38,6 @@ asks_more keys more asked le (inr (inl a)) = inr (inl a)
 asks_more keys more asked le (inr (inr (inl a))) = inr (inr (inl a))
 asks_more keys more asked le (inr (inr (inr (k, two, most, is)))) =
     inr (inr (inr (k, two, omega arith, is)))
-
--- a list of no length
-pub no_length : {X : Type 0} (xs : List X) → length xs ≡ 0 → xs ≡ []
-no_length [] e = refl
-no_length (x ∷ xs) e = absurd (omega arith)
 
 module _ (workers words : ℕ) (now : List Pair) (left : List Task) (table : List ℕ)
     (more : List Answer) (rest : List Task) (full : Option Full)
@@ -134,7 +130,7 @@ module _ (workers words : ℕ) (now : List Pair) (left : List Task) (table : Lis
       let none = length_permutation flat []
       (nothing_left workers left r.runs r.is.lanes whole).same in
       let long = length_permutation flat rest r.left_are.same in
-      no_length rest (omega arith)
+      nil_from_length rest (omega arith)
 
 -- with what is left there are no more pairs after the table than there were pairs and tasks
 pub few_following : (workers words : ℕ) (now : List Pair) (left : List Task) (table : List ℕ)

@@ -4,9 +4,9 @@ use Rattle.std.proofs.lemmas.List.{length-map}
 use Rattle.ist_core.specs.declared.pairs.Pair.{Pair}
 use Rattle.ist_core.specs.declared.ports.Full.{Full}
 use Rattle.ist_core.specs.Map.{map_of, replay, pairs_of}
+use Rattle.ist_core.proofs.MapLemmas.{map_of-pairs_of}
 use Rattle.laws_histories.proofs.ContentLemmas.{pairs_rise_at}
 use Rattle.plain_map.specs.Rising.{IsRising}
-use Rattle.plain_map.proofs.EntriesLemmas.{map_of-pairs_of}
 use Rattle.plain_map.proofs.PairCountLemmas.{adds_few_pairs}
 use Rattle.tele_lanes.specs.declared.task_lists.Task.{Task}
 use Rattle.tele_lanes.specs.Lines.{commands_of}

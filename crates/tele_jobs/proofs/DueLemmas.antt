@@ -1,11 +1,12 @@
 -- What a line adds to what is written, and what is due after it. Serves the steps of a run.
-use Rattle.std.proofs.Common.{◌≡◌, ℕ, List, ◌++◌, Bool, true, false, refl, sym, ◌∙◌, ap, subst, append_assoc}
+use Rattle.std.proofs.Common.{◌≡◌, ℕ, List, ◌++◌, Bool, true, false, sym, ◌∙◌, ap, subst, append_assoc}
 use Rattle.std.specs.Prelude.{Option, IfSome}
 use Rattle.tele_io.specs.Bytes.{Appends, AppendsPart}
 use Rattle.tele_io.proofs.AppendsLemmas.{Appends-append, AppendsPart-append, AppendsPart-longer}
 use Rattle.tele_lines.specs.Lines.{lines_of, whole_lines}
 use Rattle.tele_lines.specs.Answer.{Read, text_of, exit_status}
 use Rattle.tele_lines.specs.Progress.{read_at, GoesTo}
+use Rattle.tele_lines.proofs.PlaceLemmas.{still_going}
 use Rattle.tele_jobs.specs.Due.{Moment, Takes, due, whole_due, whole_text, RunsTo, Ends}
 use Rattle.tele_jobs.proofs.AnswerLemmas.{text-good}
 
@@ -87,11 +88,6 @@ pub ended_part : (was : Moment) (lines last : List Read) (bytes : List ℕ)
 ended_part was lines last bytes before written is reads part =
     subst (AppendsPart before written)
     (sym (ap (text_of was.m) (due-last was lines last bytes is reads))) part
-
--- what has not ended had not ended before
-still_going : (ended now : Bool) → (ended ≡ true → now ≡ true) → now ≡ false → ended ≡ false
-still_going true now lasts going = absurd (cc (lasts refl))
-still_going false now lasts going = refl
 
 -- one step after another
 pub on_and_on : (first mid last : Moment) (bytes : List ℕ) (before written later : Option (List ℕ))

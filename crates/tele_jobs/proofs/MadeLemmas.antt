@@ -13,15 +13,11 @@ use Rattle.tele_jobs.specs.Open.{Open, fresh_round, with_task, map_in}
 use Rattle.tele_jobs.specs.declared.summaries.Summary.{Summary}
 use Rattle.tele_jobs.specs.Summaries.{summary_of, value_sum}
 use Rattle.tele_jobs.specs.Made.{next_number, made_command, made_commands}
+use Rattle.laws_histories.proofs.MapLemmas.{replay-append}
 
 -- how many of the replies to some commands are values
 abbrev pub values_in : Map → List Command → ℕ
 values_in m commands = count_by is_some (replies m commands)
-
--- the map after two lists of commands
-replay-append : (m : Map) (xs ys : List Command) → replay m (xs ++ ys) ≡ replay (replay m xs) ys
-replay-append m [] ys = refl
-replay-append m (x ∷ xs) ys = replay-append (map_after m x) xs ys
 
 -- the replies to them
 replies-append : (m : Map) (xs ys : List Command) → replies m (xs ++ ys) ≡ replies m xs ++ replies

@@ -1,10 +1,10 @@
 -- The five options of the command, and the numbers that were found for them. Serves the reading of
 -- the options.
-use Rattle.std.proofs.Common.{suc, zero, ◌≡◌, ℕ, ◌<◌, ◌^◌, ◌-◌, ◌&&◌, Bool, true, false, List, [], ◌∷◌, length, refl, sym, ◌∙◌, ap, subst, inl, inr, arith, map, codes}
-use Rattle.std.specs.Prelude.{IfSome, not}
+use Rattle.std.proofs.Common.{suc, zero, ◌≡◌, ℕ, ◌<◌, ◌^◌, ◌-◌, ◌&&◌, true, false, List, [], ◌∷◌, length, refl, sym, ◌∙◌, ap, subst, inl, inr, arith, map, codes}
+use Rattle.std.specs.Prelude.{IfSome}
 use Rattle.std.specs.List.{All, slice_index_or}
 use Rattle.std.specs.Str.{bytes_eq}
-use Rattle.std.proofs.lemmas.Bool.{eqb-true}
+use Rattle.std.proofs.lemmas.Bool.{eqb-true, not-true}
 use Rattle.std.proofs.lemmas.Slice.Eq.{bytes_eq-Decides}
 use Rattle.clap.specs.Facts.{args_of, groups_of}
 use Rattle.clap.specs.Built.{IsParsedFrom, IsPlain, IsPlainArg, IsAuto}
@@ -20,6 +20,7 @@ use Rattle.clap.specs.declared.parser.matches.ArgMatches.{ArgMatches}
 use Rattle.tele_jobs.specs.CommandLine.{tele, number_option}
 use Rattle.tele_jobs.specs.Numbers.{AreNumbers}
 use Rattle.tele_jobs.proofs.OptionLemmas.{IsAlone, first_passes, passes_range}
+use Rattle.ist_core.proofs.IntervalLemmas.{both_true}
 
 -- each number below five is one of these
 below_five : (P : ℕ → Type 0) → P 0 → P 1 → P 2 → P 3 → P 4 → (j : ℕ) → j < 5 → P j
@@ -42,19 +43,10 @@ differ x y one two is is_too unlike same =
 unlike : (x y : List ℕ) → bytes_eq x y ≡ false → x ≡ y → ⊥
 unlike x y other same = let there = (bytes_eq-Decides x y).1 same in absurd (cc (other, there))
 
--- both of two tests that hold together
-both : (x y : Bool) → (x && y) ≡ true → (x ≡ true) × (y ≡ true)
-both true y h = (refl, h)
-both false y h = absurd (cc h)
-
 none_of : {X : Type 0} (xs : List X) → is_empty xs ≡ true → xs ≡ []
 none_of [] h = refl
 none_of (x ∷ xs) h = let bad : length (x ∷ xs) ≡ 0 = eqb-true (length (x ∷ xs)) 0 h in absurd
     (omega (arith, bad))
-
-not_true : (b : Bool) → not b ≡ true → b ≡ false
-not_true true h = absurd (cc h)
-not_true false h = refl
 
 -- an option with one number excludes nothing and belongs to no group
 plain_option : (a : Arg) (name : List ℕ) (low high : ℕ) → rule_of a ≡ number_option name low high →
@@ -62,12 +54,12 @@ plain_option : (a : Arg) (name : List ℕ) (low high : ℕ) → rule_of a ≡ nu
 plain_option a name low high is =
     let free : is_free_arg a ≡ true = ap (λ (r : Rule). r.is_free) is in
     let simple : is_simple_arg a ≡ true = ap (λ (r : Rule). r.is_simple) is in
-    let free_all = both _ _ free in
-    let simple_all = both _ _ simple in (
-      not_true a.exclusive free_all.0,
-      none_of a.conflicts.items (both _ _ free_all.1).0,
+    let free_all = both_true _ _ free in
+    let simple_all = both_true _ _ simple in (
+      not-true a.exclusive free_all.0,
+      none_of a.conflicts.items (both_true _ _ free_all.1).0,
       none_of a.overrides.items simple_all.0,
-      none_of a.groups.items (both _ _ (both _ _ simple_all.1).1).0,
+      none_of a.groups.items (both_true _ _ (both_true _ _ simple_all.1).1).0,
     )
 
 -- the five options of a command
@@ -114,10 +106,10 @@ module _ (old : Command) (is : app_of old ≡ tele) (m : ArgMatches) (p : IsPars
   plain_fields : (groups_of old ≡ []) × ((out-Command old).has_globals ≡ false)
   plain_fields =
       let all : has_plain_fields (out-Command old) ≡ true = ap (λ (a : App). a.top.is_plain) is in
-      let first = both _ _ all in
-      let second = both _ _ first.1 in
-      let third = both _ _ second.1 in
-      (none_of (groups_of old) first.0, not_true _ third.0)
+      let first = both_true _ _ all in
+      let second = both_true _ _ first.1 in
+      let third = both_true _ _ second.1 in
+      (none_of (groups_of old) first.0, not-true _ third.0)
 
   plain : IsPlain old
   plain = (

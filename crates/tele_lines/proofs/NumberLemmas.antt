@@ -35,7 +35,7 @@ no_number digits value h =
     let k : 2 ^ 64 ≤ fold with_digit value digits =
     omega (arith, fold_no_less digits value) in grind (arith, common_steps)
 
-not_below : (m n : ℕ) → n ≤ m → nat_lt m n ≡ false
+pub not_below : (m n : ℕ) → n ≤ m → nat_lt m n ≡ false
 not_below m n h = grind (arith, common_steps)
 
 -- a value that is small enough is read on from; any other is no number

@@ -8,12 +8,13 @@ use Rattle.std.proofs.lemmas.List.Elements.{All-cons, All-set, All-push, All-tak
 use Rattle.std.proofs.lemmas.List.Sorted.{IsPermutation-refl, IsPermutation-trans, IsPermutation-sym, IsPermutation-append_right, length_permutation}
 use Rattle.std.proofs.lemmas.List.Sums.{sum_by_push}
 use Rattle.std.proofs.lemmas.List.Concat.{flat_map-append}
+use Rattle.std.proofs.lemmas.List.{nil_from_length}
 use Rattle.crossbeam_deque.proofs.Lists.{at_set, at_snoc, set_here, set_else, at_longer}
 use Rattle.crossbeam_deque.specs.Tasks.{Pushes, Takes, Finds, Forks, Merges, Learns}
 use Rattle.tele_steal.specs.declared.tallies.Tally.{Tally}
 use Rattle.tele_steal.specs.Tallies.{of_owner, of_worker, of_none, taken_by, busy_of, IdleTookNothing, IsOwners, BalancesAt, Balances, HasTakenLanes, HasDrawn}
 use Rattle.tele_steal.proofs.ShuffleLemmas.{joins_first, joins_second, joins_third, third_to_second, moves}
-use Rattle.tele_steal.proofs.ViewLemmas.{seat_within, sum_by-seat, flat_map-seat, others, seat_last, flat_map-none, no_elements}
+use Rattle.tele_steal.proofs.ViewLemmas.{seat_within, sum_by-seat, flat_map-seat, others, seat_last, flat_map-none}
 
 module _ {X : Type 0} (Fits : X → Type 0) where
   -- the rule, and the owner, if its pass is known
@@ -203,7 +204,7 @@ module _ {X : Type 0} (Fits : X → Type 0) where
       let F = flat_map taken_by views in
       let n = counted port v items views b in
       let m = length_permutation v.put v.back back in
-      (no_elements items (omega (arith, n, m)), no_elements F (omega (arith, n, m)))
+      (nil_from_length items (omega (arith, n, m)), nil_from_length F (omega (arith, n, m)))
 
   -- the owner makes the pass of a worker, when all came back
   pub hires : (port : ℕ) (v : Tally X) → IsOwners v → IsPermutation v.put v.back

@@ -65,11 +65,6 @@ module _ {X : Type 0} where
         (second_first (f x) (f w) o.rest);
   }
 
-  -- a list of length 0 is empty
-  pub no_elements : (l : List X) → length l ≡ 0 → l ≡ []
-  no_elements [] h = refl
-  no_elements (x ∷ xs) h = absurd (omega (arith, h))
-
   -- a list of one element has nothing after its first place
   pub seat_last : (x u : X) (j : ℕ) → get_elem? (x ∷ []) j ≡ some u → j ≡ 0
   seat_last x u zero e = refl

@@ -169,18 +169,6 @@ puts_few pairs words log lists stand owners =
     let few = spread_few pairs words log 0 lists stand in
     omega arith
 
--- more entries have at least as many puts
-pub puts_rise : (old more new : List Entry) → new ≡ old ++ more → puts_in old ≤ puts_in new
-puts_rise old more new e =
-    let before = puts_in-is old in
-    let after = puts_in-is new in
-    let both : put_count (map (λ x. x.command) new) ≡ put_count (map (λ x. x.command) old)
-    + put_count (map (λ x. x.command) more)
-    = ap (λ xs. put_count (map (λ x. x.command) xs)) e
-    ∙ ap put_count (map-append (λ (x : Entry). x.command) old more)
-    ∙ put_count-append (map (λ x. x.command) old) (map (λ x. x.command) more) in
-    omega arith
-
 -- ---- by lanes
 
 -- a lane that was run, as its run

@@ -21,8 +21,10 @@ use Rattle.ist_core.specs.RowLayout.{next_place}
 use Rattle.ist_core.proofs.SpendingLemmas.{words_are_spent}
 use Rattle.ist_core.specs.StartLayout.{start}
 use Rattle.ist_core.specs.Spending.{spent}
+use Rattle.ist_core.proofs.PrefixLemmas.{goes_on_more}
 use Rattle.laws_calls.specs.Finishing.{puts_in}
-use Rattle.laws_histories.proofs.ChangeLemmas.{changes_on, on_trans}
+use Rattle.laws_calls.proofs.NumberLemmas.{puts_rise}
+use Rattle.laws_histories.proofs.ChangeLemmas.{changes_on}
 use Rattle.ist_tree.specs.Faces.{TreeFace, MakerFace, calls_in}
 use Rattle.ist_tree.specs.Opening.{IsNewTree}
 use Rattle.ist_tree.specs.Closing.{ClosesWith, calls_taken, told_to, calls_from}
@@ -37,7 +39,7 @@ use Rattle.tele_generations.specs.Generations.{RanFull, MayAsk, may_want_words}
 use Rattle.tele_generations.specs.Generations.{puts_done}
 use Rattle.tele_generations.specs.Tables.{RanOnTable, EndedWith}
 use Rattle.tele_trees.specs.Ends.{TreeLane, run_of, LaneHasEnded, CameTo}
-use Rattle.tele_trees.proofs.PutLemmas.{puts_few, puts_rise, has_run, called_puts, called_puts-done}
+use Rattle.tele_trees.proofs.PutLemmas.{puts_few, has_run, called_puts, called_puts-done}
 use Rattle.tele_trees.proofs.LogLemmas.{spent_rise, word_there}
 use Rattle.tele_trees.proofs.RefusalLemmas.{none_stopped, one_stopped, refused_with, task_there}
 
@@ -163,7 +165,7 @@ module _ (workers words : ℕ) (pairs : List Pair) (tasks : List Task) (tree : T
 
     -- what its pass had seen is a prefix of the log
     seen : GoesOn e.port.pass.seen log
-    seen = on_trans _ _ _
+    seen = goes_on_more
         (All-contains (λ (x : TreeLane). GoesOn x.port.pass.seen maker.seen) came.ends e came.seen
         is_end) closes.goes_on
 
@@ -172,7 +174,7 @@ module _ (workers words : ℕ) (pairs : List Pair) (tasks : List Task) (tree : T
     next_few =
         let then_is : r.full.next ≡ spent maker.tree.start cause.at
         = cause.few.next_is ∙ ap (λ ps. spent ps cause.at) its_start in
-        let rise = spent_rise maker.tree.start cause.at log (on_trans _ _ _ cause.until seen) in
+        let rise = spent_rise maker.tree.start cause.at log (goes_on_more cause.until seen) in
         let now_is = words_are_spent maker.tree.start (length table) log closes.stands.lawful in
         let there = word_there table next_place _ closes.stands.image.next in
         omega arith

@@ -12,7 +12,7 @@ use Rattle.ist_core.proofs.GrowingLemmas.{inner_there}
 use Rattle.ist_core.proofs.ImageLemmas.{get-words_of_slot}
 use Rattle.ist_core.proofs.LeafLemmas.{reached, slots_reached}
 use Rattle.ist_core.proofs.ReferenceLemmas.{ref_of-word_of}
-use Rattle.ist_core.proofs.SlotLemmas.{same_inner}
+use Rattle.ist_core.proofs.OptionLemmas.{same_inner}
 use Rattle.laws_links.proofs.FewLeafLemmas.{leaves_stand}
 use Rattle.laws_links.proofs.FinishedLeafLemmas.{finished_leaves}
 use Rattle.ist_rule.specs.declared.view.View.{View}

@@ -5,7 +5,6 @@ use Rattle.ist_core.specs.declared.events.Event.TheVariants.{Root, Lose}
 use Rattle.ist_core.specs.declared.lists.HeldRow.{HeldRow}
 use Rattle.ist_core.specs.declared.states.InnerRow.{InnerRow}
 use Rattle.ist_core.specs.Arithmetic.{degree, square_root, root_up_to, part_len, part_lens}
-use Rattle.ist_core.specs.Shapes.{share_from, share_from_is}
 use Rattle.ist_core.specs.References.{InnerAt, LeafAt, word_of}
 use Rattle.ist_core.specs.Pieces.{Leaf, Inner, Rebuild, Pieces, with_inners}
 use Rattle.ist_core.specs.Snapshots.{Snapshot, HoldsRow, without}
@@ -29,6 +28,7 @@ use Rattle.ist_rule.specs.Learning.{now, Looked, ExchangedOrLost}
 use Rattle.ist_rule.specs.Conditions.{StoredAll, CanExchangeOrLose}
 use Rattle.ist_rule.specs.Watching.{number_of}
 use Rattle.ist_core.specs.Authors.{no_more}
+use Rattle.ist_core.proofs.RebuildExampleLemmas.{two_is_few}
 use Rattle.laws_coming.specs.Builds.{IsRootBuilt, WasUnset}
 use Rattle.ist_rule.proofs.WentOnLemmas.{looked_went}
 use Rattle.laws_coming.proofs.RootLemmas.{root_comes_or_loses}
@@ -127,9 +127,6 @@ module _ (t : Snapshot) (base : ℕ) (above : 28 < base) (low : base < 43) (b : 
       first_part
       (one_part (LeafAt 13) (ref_of-word_of (LeafAt 13) (good 13 (omega arith) (omega arith)))
       second_part no_part))
-
-two_is_few : 2 < share_from
-two_is_few = let is = share_from_is in omega arith
 
 -- a filled row is a root for the rebuild, whose target is finished over the two leaves
 pub root_built : (v : View) (number base : ℕ) → HasPrepared v number base → IsStartedAtFour (now v)

@@ -19,7 +19,7 @@ use Rattle.ist_rule.proofs.WentOnLemmas.{looked_went, went_grow}
 use Rattle.ist_rows.specs.CallerLaws.{KeepsRows}
 use Rattle.test_parts.specs.Racing.{IsStartedAtFour}
 use Rattle.test_parts.proofs.KeptLemmas.{went_help}
-use Rattle.test_parts.proofs.NewStartLemmas.{good}
+use Rattle.test_parts.proofs.LeafLemmas.{good}
 
 -- the places of a change that the token may help lie in its table
 pub change_low : (token : TokenFace) (table : TableFace) → token.table ≡ table.table

@@ -1,6 +1,5 @@
 -- A table of the pairs (5, 7) and (9, 1) opens with its words. Serves `table_of_two`.
-use Rattle.std.proofs.Common.{◌≡◌, ℕ, zero, suc, ◌+◌, ◌-◌, ◌<◌, ◌≤◌, List, [], ◌∷◌, map, length, slice_get, Some, refl, sym, ◌∙◌, subst, inl, inr, arith}
-use Rattle.std.specs.List.Sorted.{IsStrictlyIncreasing}
+use Rattle.std.proofs.Common.{◌≡◌, ℕ, zero, suc, ◌+◌, ◌-◌, ◌<◌, ◌≤◌, List, [], ◌∷◌, length, slice_get, Some, refl, sym, ◌∙◌, subst, inl, inr, arith}
 use Rattle.ist_core.specs.declared.pairs.Pair.{Pair}
 use Rattle.ist_core.specs.Arithmetic.{degree, square_root, root_up_to, part_len, part_lens}
 use Rattle.ist_core.specs.Shapes.{ideal_words, ideal_words_within}
@@ -12,6 +11,7 @@ use Rattle.ist_core.specs.Images.{IsImage, StandsAt}
 use Rattle.ist_core.specs.Lawful.{CanOpen}
 use Rattle.ist_core.specs.ExampleTables.{two_pairs}
 use Rattle.ist_core.proofs.PieceLemmas.{among-pieces_of, slice_get-drop, stands_by}
+use Rattle.ist_image.proofs.RisingLemmas.{two_rise}
 
 -- ---- the table
 
@@ -72,14 +72,10 @@ example_open =
       free = λ place low high. after_rows place low high;
     }
 
-rising : IsStrictlyIncreasing (map (λ pair. pair.key) two_pairs)
-rising zero h = omega arith
-rising (suc k) h = absurd (omega arith)
-
 -- a table of 51 words opens with the two pairs
 pub example_opens : CanOpen two_pairs 51
 unfolding ideal_words ideal_words_within degree square_root root_up_to part_len part_lens
-example_opens = record { rising = λ k h. rising k h; room = omega arith; within = omega arith }
+example_opens = record { two_rise = λ k h. two_rise k h; room = omega arith; within = omega arith }
 
 -- a table of these pairs opens with these words
 pub opens_at : (pairs : List Pair) (words : List ℕ) → pairs ≡ two_pairs → words ≡ example_image

@@ -2,24 +2,11 @@
 use Rattle.std.proofs.Common.{◌≡◌, ℕ, ◌<◌, sym, ap, ◌∙◌, subst}
 use Rattle.ist_rule.specs.declared.view.View.{View}
 use Rattle.ist_rule.specs.Conditions.{MayWalk}
-use Rattle.ist_rule.specs.Faces.{TokenFace}
 use Rattle.ist_rule.specs.Learning.{Turned, searching}
 use Rattle.ist_rule.proofs.SearchedOnLemmas.{searching_on}
-use Rattle.ist_rows.specs.declared.callers.Caller.{Caller}
 use Rattle.ist_rows.specs.CallerLaws.{KeepsRows}
-use Rattle.ist_rows.specs.Rows.{IsCaller}
-use Rattle.ist_rows.proofs.CallerLawLemmas.{caller_went}
 use Rattle.test_parts.specs.Racing.{HasPrepared}
 use Rattle.test_parts.proofs.KeptLemmas.{filled_went}
-
--- a caller that began a search is still a caller
-pub caller_begun : (who : Caller) (token : TokenFace) → IsCaller who
-    → Turned who.token.view (searching who.token.view) token.view → IsCaller (record who { token = token })
-caller_begun who token c t =
-    let n = token.view.searches in
-    caller_went (record who { token = record who.token { view = record who.token.view { searches = n } } })
-    token record { mine = c.mine; rows = c.rows; builds = c.builds }
-    (searching_on KeepsRows who.token.view token.view t).went
 
 -- and its filled row stays filled
 pub prepared_begun : (v w : View) (number base : ℕ) → Turned v (searching v) w → HasPrepared v number base

@@ -6,11 +6,7 @@ use Rattle.ist_core.specs.Shown.{shown_slot}
 use Rattle.ist_core.proofs.NamingLemmas.{SlotNames}
 use Rattle.ist_core.proofs.OrderLemmas.{names}
 use Rattle.ist_rule.specs.Faces.{TokenFace}
-use Rattle.ist_rule.specs.Learning.{now, Looked, Turned, searching}
-use Rattle.ist_rule.proofs.SearchedOnLemmas.{searching_on}
-use Rattle.ist_rows.specs.CallerLaws.{KeepsRows}
-use Rattle.ist_rows.specs.Rows.{IsCaller}
-use Rattle.ist_rows.proofs.CallerLawLemmas.{caller_went}
+use Rattle.ist_rule.specs.Learning.{now, Looked}
 use Rattle.ist_rows.specs.declared.callers.Caller.{Caller}
 use Rattle.ist_rows.specs.Dropping.{HasPairBelow}
 
@@ -32,12 +28,3 @@ below_row_in_slot who token word pair base l is held below =
       row = row.0;
       published = row.1;
     }
-
--- a caller that began a search is still a caller
-pub caller_begun : (who : Caller) (token : TokenFace) → IsCaller who
-    → Turned who.token.view (searching who.token.view) token.view → IsCaller (record who { token = token })
-caller_begun who token c t =
-    let n = token.view.searches in
-    caller_went (record who { token = record who.token { view = record who.token.view { searches = n } } })
-    token record { mine = c.mine; rows = c.rows; builds = c.builds }
-    (searching_on KeepsRows who.token.view token.view t).went

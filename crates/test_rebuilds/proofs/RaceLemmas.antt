@@ -18,7 +18,7 @@ use Rattle.ist_core.specs.Pieces.{Inner, Rebuild, with_inners}
 use Rattle.ist_core.specs.Rebuilding.{IsFinishedWith}
 use Rattle.ist_core.specs.References.{Ref, InnerAt, ref_of, tag_count, unset_word}
 use Rattle.ist_core.specs.RowLayout.{pair_words, rebuild_root_offset}
-use Rattle.ist_core.specs.Shapes.{shape, shape_within, share_from, share_from_is}
+use Rattle.ist_core.specs.Shapes.{shape, shape_within}
 use Rattle.ist_core.specs.Snapshots.{Snapshot, bases_of, sizes_of, HoldsRows}
 use Rattle.ist_core.specs.Shown.{IsShown, shown_row}
 use Rattle.ist_core.proofs.GrowingLemmas.{rebuild_there}
@@ -41,6 +41,7 @@ use Rattle.ist_rule.specs.Watching.{number_of}
 use Rattle.ist_rule.proofs.GoingOnLemmas.{looked_goes_on}
 use Rattle.ist_rule.proofs.WentOnLemmas.{goes_on_grow, goes_on_lawful, goes_on_now, went_grow, went_lawful, went_now, later_by-goes_on}
 use Rattle.ist_core.specs.Authors.{no_more}
+use Rattle.ist_core.proofs.RebuildExampleLemmas.{two_is_few}
 use Rattle.ist_rows.specs.declared.callers.Caller.{Caller}
 use Rattle.ist_build.specs.Calls.{Builds, IsPartLaid, MayBuild, share_whole}
 use Rattle.ist_build.proofs.HeldMoreLemmas.{stored_rows}
@@ -50,9 +51,6 @@ use Rattle.test_rebuilds.specs.Races.{HasLaid, HoldsRoot, row_named, racing_at}
 use Rattle.test_rebuilds.specs.Steps.{HasMarkedTarget}
 
 -- ---- what is built
-
-two_is_few : 2 < share_from
-two_is_few = let is = share_from_is in omega arith
 
 -- a root over two keys has one row
 shape_two : shape 2 ≡ pair_words ∷ []

@@ -9,16 +9,11 @@ use Rattle.ist_core.specs.Elements.{Among, Each}
 use Rattle.ist_core.specs.Changes.{Entry, changes_of, map_at}
 use Rattle.ist_core.specs.Resting.{AllStandIn}
 use Rattle.ist_core.specs.Standing.{is_change, makes_entry, entry_by, entries_by, Follows, StandAmong}
-use Rattle.ist_core.proofs.ElementLemmas.{each-among, among_filter}
+use Rattle.ist_core.proofs.ElementLemmas.{each-among, among_filter, each_of}
 use Rattle.ist_tree.specs.Closing.{ClosesWith, calls_from}
 use Rattle.ist_tree.specs.Faces.{PassFace, MakerFace, calls_in, noted}
 use Rattle.try_example.specs.Turns.{HasPut, HasFoundNext}
 use Rattle.try_example.proofs.MapLemmas.{PutsOneOf, has_it}
-
--- what is true of whatever is an element is true of each element
-each_among : {A : Type 0} (P : A → Type 0) (xs : List A) → ((x : A) → Among x xs → P x) → Each P xs
-each_among P [] h = tt
-each_among P (x ∷ xs) h = (h x (inl refl), each_among P xs (λ y i. h y (inr i)))
 
 -- an owner with one entry has only this one
 the_one : (owner : ℕ) (only : Entry) (es : List Entry) → entries_by owner es ≡ only ∷ []
@@ -67,7 +62,7 @@ pub finds_theirs : (m : Map) (es : List Entry) (mine theirs : ℕ) (p q : Pair)
 finds_theirs m es mine theirs p q put find other late owners ours others put_is find_is other_is
     late_is apart follows =
     let all : Each (PutsOneOf q.key q.value p.key p.value apart) es
-    = each_among _ es (λ e among. ⊎_elim
+    = each_of _ es (λ e among. ⊎_elim
     (λ own. inr (puts_own put find p q.key put_is find_is m es mine ours e among own))
     (λ own. inl (puts_own other late q p.key other_is late_is m es theirs others e among own))
     (owners e among)) in

@@ -1,7 +1,8 @@
 use Rattle.ist_core.specs.References.{ref_of}
-use Rattle.check_events.proofs.MarkLemmas.{word_names, finds_empty, finds_leaf, finds_inner}
+use Rattle.check_events.proofs.MarkLemmas.{finds_empty, finds_leaf, finds_inner}
 use Rattle.check_events.proofs.MarkLemmas.{finds_rebuild}
 use Rattle.check_events.proofs.marking.keys_of_word.Goals as goal
+use Rattle.ist_layout.proofs.MeaningLemmas.{word_names}
 
 pub returns-in-Some-Empty : goal.returns-in-Some-Empty
 returns-in-Some-Empty c =

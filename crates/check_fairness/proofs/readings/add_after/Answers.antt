@@ -1,8 +1,9 @@
 use Rattle.std.proofs.Common.{map}
 use Rattle.std.proofs.lemmas.Result.{on_ok_weaker}
+use Rattle.std.proofs.lemmas.Bool.{not-true, not-false}
 use Rattle.ist_core.specs.Elements.{Among}
 use Rattle.check_fairness.specs.Readings.{rest_at}
-use Rattle.check_fairness.proofs.AddedLemmas.{two_added, three_added, not_set, is_set}
+use Rattle.check_fairness.proofs.AddedLemmas.{two_added, three_added}
 use Rattle.check_fairness.proofs.ReadingLemmas.{goes_free, goes_bound}
 use Rattle.check_fairness.proofs.readings.add_after.Goals as goal
 
@@ -14,7 +15,7 @@ returns-then-not-reading c =
       added = λ sizes.
           two_added (c.in_ok-add_left_out.ensures.added sizes) (c.in_ok-add_on.ensures.added sizes)
           (goes_bound (λ l. Among l lists) c.args.room r.may (rest_at lists r.list r.at) c.args.size
-          sizes r.free (not_set r.free c.if-not-reading.true));
+          sizes r.free (not-true r.free c.if-not-reading.true));
     }
 
 pub returns : goal.returns
@@ -27,6 +28,6 @@ returns c =
           three_added (c.in_ok-add_left_out.ensures.added sizes) (c.in_ok-add_on.ensures.added
           sizes) (f sizes)
           (goes_free (λ l. Among l lists) c.args.room r.may (rest_at lists r.list r.at) c.args.size
-          sizes r.free (is_set r.free c.if-not-reading.false)))
+          sizes r.free (not-false r.free c.if-not-reading.false)))
           c.add_begun.ensures.added;
     }

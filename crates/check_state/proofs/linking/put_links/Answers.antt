@@ -1,9 +1,9 @@
 use Rattle.std.proofs.Common.{◌∙◌, length, sym, ap, arith}
-use Rattle.ist_core.proofs.SlotLemmas.{same_inner}
 use Rattle.check_events.proofs.MirrorLemmas.{inner_stands}
 use Rattle.check_state.proofs.WaitingLemmas.{puts_one, puts_all}
 use Rattle.check_state.proofs.HangingLemmas.{word_at}
 use Rattle.check_state.proofs.linking.put_links.Goals as goal
+use Rattle.ist_core.proofs.OptionLemmas.{same_inner}
 
 pub loop-index-preserved : goal.loop-index-preserved
 loop-index-preserved c = λ t h free row e.

@@ -1,4 +1,5 @@
 use Rattle.std.proofs.Common.{◌≡◌, sym, subst, arith}
+use Rattle.std.proofs.lemmas.Option.{IfSome_then}
 use Rattle.ist_core.specs.Arithmetic.{child_count}
 use Rattle.ist_core.specs.RowLayout.{anchor}
 use Rattle.ist_core.specs.StartLayout.{start}
@@ -6,18 +7,16 @@ use Rattle.ist_core.specs.Lawful.{state_of}
 use Rattle.check_events.proofs.MirrorLemmas.{inner_stands}
 use Rattle.check_state.specs.Leading.{IsSpanOf, IsWayBy}
 use Rattle.check_state.proofs.StayingLemmas.{keys_stay}
-use Rattle.check_state.proofs.TableLemmas.{if_some}
 use Rattle.check_state.proofs.WayToRowLemmas.{below_is, row_rises, narrowed}
 use Rattle.check_state.proofs.ways.way_by.Goals as goal
 
 pub returns-then-node-from : goal.returns-then-node-from
 returns-then-node-from c = record {
-  exact = if_some c.top_way.result
+  exact = IfSome_then c.top_way.result c.top_way.ensures.exact
       (λ way f pairs words log lawful mirrors h.
       let same : anchor ≡ c.args.node = omega arith in
       subst (λ n. IsWayBy (start pairs words) log n c.args.index way) same
-      (f (start pairs words) log (keys_stay pairs words log lawful)))
-      c.top_way.ensures.exact;
+      (f (start pairs words) log (keys_stay pairs words log lawful)));
 }
 
 pub returns-in-Some-span_of : goal.returns-in-Some-span_of

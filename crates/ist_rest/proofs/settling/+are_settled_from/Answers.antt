@@ -2,9 +2,9 @@ use borrow.Author.Gap.{counting}
 use borrow.Author.Rules.{rules}
 use Rattle.std.proofs.Common.{◌≤◌, refl, sym, ◌∙◌, subst, arith}
 use Rattle.ist_rest.specs.Settling.{itself, AreSettledFrom}
-use Rattle.ist_rest.proofs.SettleLemmas.{same_child}
 use Rattle.ist_rest.proofs.SlotReadLemmas.{slot_good, child_row_good, child_in_shape, child_settled}
 use Rattle.ist_rest.proofs.SlotReadLemmas.{one_more_settled, settled_by_slots}
+use Rattle.laws_links.proofs.ReturnLemmas.{one_inner}
 use Rattle.ist_rest.proofs.settling.+are_settled_from.Goals as goal
 use Rattle.ist_rest.proofs.settling.+are_settled_from.Goals.{in-Some+else-not-are_settled_from}
 use Rattle.ist_rest.proofs.settling.+are_settled_from.Goals.{in_default}
@@ -59,7 +59,7 @@ loop-i-preserved g t c = one_more_settled _ c.args.base c.loop-i.i
     c.slot_at.ensures.value
     (λ child is. elim c.match-child_row.branch [
       | in-Some+else-not-are_settled_from w ↦ subst (AreSettledFrom _)
-          (same_child w.in-Some.child child (sym w.in-Some.ensures.found ∙ is))
+          (one_inner w.in-Some.child child (sym w.in-Some.ensures.found ∙ is))
           (w.are_settled_from.ensures.exact.0 w.if-not-are_settled_from.false)
       | in_default w ↦ absurd (c.child_row.ensures.none w.in_default.is child is)
     ])

@@ -2,10 +2,10 @@
 use Rattle.std.proofs.Common.{Ok, ap, refl}
 use Rattle.ist_tree.proofs.DueLemmas.{begins_on, other_leaves, yes_leaves}
 use Rattle.ist_tree.proofs.FreezeGoingLemmas.{begins_idle, begun_of, other_reserved, other_unstarted, start_stopped}
-use Rattle.ist_tree.proofs.ShortLemmas.{passed_on}
 use Rattle.ist_core.specs.RowLayout.{anchor}
 use Rattle.ist_core.specs.Slots.{anchor_is}
 use Rattle.ist_rebuild.specs.Going.{Begins}
+use Rattle.ist_rebuild.proofs.RefusalLemmas.{passed_on}
 use Rattle.ist_tree.proofs.FurtherLemmas.{slot_further}
 use Rattle.ist_tree.proofs.freezing.begin_rebuild.Goals as goal
 

@@ -5,11 +5,11 @@ use Rattle.ist_tree.specs.FreezeSteps.{GoesIdle, MayHaveMet, counted_as}
 use Rattle.ist_tree.specs.Working.{Rebuilds}
 use Rattle.ist_tree.proofs.FreezeGoingLemmas.{idle_same, none_met}
 use Rattle.ist_tree.proofs.SearchCountLemmas.{few_begun, further_begun, idle_after, idle_begun, met_begun, paid_begun, stopped_begun}
-use Rattle.ist_tree.proofs.ShortLemmas.{passed_on}
 use Rattle.laws_coming.proofs.FurtherLemmas.{fewer_left}
 use Rattle.ist_rows.proofs.GoneLemmas.{still_ready}
 use Rattle.ist_tree.proofs.freezing.look_below.Goals as goal
 use Rattle.ist_tree.proofs.freezing.look_below.Goals.{After-begin_search}
+use Rattle.ist_rebuild.proofs.RefusalLemmas.{passed_on}
 
 -- before the first look nothing was done
 pub turns-init : goal.turns-init

@@ -5,8 +5,9 @@ use Rattle.ist_updates.specs.Asking.{command_for}
 use Rattle.ist_tree.specs.Calls.{AddsCall}
 use Rattle.ist_tree.specs.Updates.{HasAnswered}
 use Rattle.ist_tree.proofs.RoundEndLemmas.{answered_found, answered_taken, met_reply, round_fewer, round_over, rounds_begin, run_found, run_taken, turned_from}
-use Rattle.ist_tree.proofs.ShortLemmas.{passed_on, some_is}
+use Rattle.ist_tree.proofs.ShortLemmas.{some_is}
 use Rattle.ist_tree.proofs.updating.run_rounds.Goals as goal
+use Rattle.ist_rebuild.proofs.RefusalLemmas.{passed_on}
 
 pub rounds-init : goal.rounds-init
 rounds-init c = rounds_begin _ c.know.ensures.lawful

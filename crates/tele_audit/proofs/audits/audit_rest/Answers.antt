@@ -1,11 +1,13 @@
 use Rattle.std.proofs.Common.{◌≡◌, ◌∙◌, ◌++◌, ap, sym, subst, drop, Some, []}
+use Rattle.std.proofs.lemmas.Option.{IfSome_then}
 use Rattle.tele_io.proofs.OutcomeLemmas.{at_ok}
 use Rattle.tele_audit.specs.Dumps.{IsLawfulDump}
 use Rattle.tele_audit.specs.Flaws.{IsFirstFlaw, number_encoded, used_told}
-use Rattle.tele_audit.proofs.FrontLemmas.{Reaches, reached_flaw, reached_all, ok_so, some_so}
+use Rattle.tele_audit.proofs.FrontLemmas.{Reaches, reached_flaw, reached_all}
 use Rattle.tele_audit.proofs.FrontLemmas.{extended_head, extended_used}
 use Rattle.tele_audit.proofs.audits.audit_rest.Goals as goal
 use Rattle.tele_audit.proofs.audits.audit_rest.Goals.{After-length_flaw}
+use Rattle.ist_rest.proofs.WholeLemmas.{if_ok_so}
 
 pub length_flaw-requires-clause-used : goal.length_flaw-requires-clause-used
 length_flaw-requires-clause-used g c =
@@ -47,9 +49,9 @@ pub returns-in-None-clause-lawful : goal.returns-in-None-clause-lawful
 returns-in-None-clause-lawful g c =
     let h = reaches g (goal.at.returns-in-None-clause-lawful g c).After-length_flaw in
     let all = reached_all _ _ _ _ _ _ _ _ h c.in-None.is in
-    ok_so _ _ c.audit_bytes.result
-    (λ told lawful. some_so _ (λ left. IsLawfulDump (c.args.bytes.items ++ left) told) _
-    (λ left p. subst (λ xs. IsLawfulDump xs told) p.0 lawful) all)
+    if_ok_so _ _ c.audit_bytes.result
+    (λ told lawful. IfSome_then _ {Q = λ left. IsLawfulDump (c.args.bytes.items ++ left) told} all
+    (λ left p. subst (λ xs. IsLawfulDump xs told) p.0 lawful))
     c.audit_bytes.ensures.lawful
 
 pub returns-in-None-clause-whole : goal.returns-in-None-clause-whole
@@ -57,11 +59,11 @@ returns-in-None-clause-whole g c =
     let h = reaches g (goal.at.returns-in-None-clause-whole g c).After-length_flaw in
     let all = reached_all _ _ _ _ _ _ _ _ h c.in-None.is in
     at_ok c.audit_bytes.result
-    (some_so _ (λ left. g.S.Source.left c.take_bytes.new.source ≡ Some []) _ (λ left p. p.1) all)
+    (IfSome_then _ {Q = λ left. g.S.Source.left c.take_bytes.new.source ≡ Some []} all (λ left p. p.1))
 
 pub returns-in-None-clause-flaw : goal.returns-in-None-clause-flaw
 returns-in-None-clause-flaw g c flaw e =
     let h = reaches g (goal.at.returns-in-None-clause-flaw g c).After-length_flaw in
     let all = reached_all _ _ _ _ _ _ _ _ h c.in-None.is in
-    some_so _ (λ left. IsFirstFlaw (c.args.bytes.items ++ left) flaw) _
-    (λ left p. subst (λ xs. IsFirstFlaw xs flaw) p.0 (c.audit_bytes.ensures.flaw flaw e)) all
+    IfSome_then _ {Q = λ left. IsFirstFlaw (c.args.bytes.items ++ left) flaw} all
+    (λ left p. subst (λ xs. IsFirstFlaw xs flaw) p.0 (c.audit_bytes.ensures.flaw flaw e))

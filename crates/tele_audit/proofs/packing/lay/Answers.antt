@@ -1,7 +1,7 @@
 use Rattle.std.proofs.Common.{◌+◌, ◌∙◌, ap, length, arith, List}
 use Rattle.ist_core.specs.declared.pairs.Pair.{Pair}
 use Rattle.ist_core.specs.Map.{map_of}
-use Rattle.plain_map.proofs.PairCountLemmas.{length-pairs_of}
+use Rattle.ist_core.proofs.MapLemmas.{length-pairs_of}
 use Rattle.tele_audit.proofs.PackLemmas.{can_open, table_laid, lawful_new}
 use Rattle.tele_audit.proofs.packing.lay.Goals as goal
 use Rattle.tele_audit.proofs.packing.lay.Goals.{After-ideal_words}

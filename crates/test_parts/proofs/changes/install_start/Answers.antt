@@ -1,8 +1,9 @@
 use Rattle.std.proofs.Common.{ap, refl, ◌∙◌}
 use Rattle.ist_rule.specs.declared.view.View.{View}
 use Rattle.ist_rows.specs.declared.callers.Caller.{Caller}
+use Rattle.ist_rows.proofs.CallerLawLemmas.{caller_begun}
 use Rattle.test_parts.proofs.NewStartLemmas.{HasFilledStart, begins_met, start_filled, met_installable, start_helps}
-use Rattle.test_parts.proofs.TopLemmas.{caller_begun, walk_stored}
+use Rattle.test_parts.proofs.TopLemmas.{walk_stored}
 use Rattle.test_parts.proofs.changes.install_start.Goals as goal
 use Rattle.test_parts.proofs.changes.install_start.Goals.{After-fill_row-2}
 

@@ -4,10 +4,9 @@ use Rattle.ist_rule.proofs.GoingOnLemmas.{looked_goes_on}
 use Rattle.ist_rule.proofs.WentOnLemmas.{went_all}
 use Rattle.ist_rows.specs.Rows.{IsCaller}
 use Rattle.ist_rows.proofs.CallerGoingLemmas.{caller_goes_on}
-use Rattle.ist_rows.proofs.CallerLawLemmas.{caller_went}
+use Rattle.ist_rows.proofs.CallerLawLemmas.{caller_went, caller_begun}
 use Rattle.ist_dcss.proofs.HelperLemmas.{serves_keep}
 use Rattle.test_parts.proofs.PutLemmas.{put_met}
-use Rattle.test_parts.proofs.TopLemmas.{caller_begun}
 use Rattle.test_parts.proofs.helping.help_met.Goals as goal
 use Rattle.test_parts.proofs.helping.help_met.Goals.{After-begin_search}
 

@@ -2,8 +2,8 @@ use Rattle.std.proofs.Common.{◌∙◌}
 use Rattle.ist_rule.proofs.GoingOnLemmas.{looked_goes_on}
 use Rattle.ist_rows.specs.Rows.{IsCaller}
 use Rattle.ist_rows.proofs.CallerGoingLemmas.{caller_goes_on}
+use Rattle.ist_rows.proofs.CallerLawLemmas.{caller_begun}
 use Rattle.test_parts.proofs.LowPairLemmas.{caller_both, pair_low}
-use Rattle.test_parts.proofs.TopLemmas.{caller_begun}
 use Rattle.test_parts.proofs.races.give_up_low.Goals as goal
 use Rattle.test_parts.proofs.races.give_up_low.Goals.{After-begin_search}
 

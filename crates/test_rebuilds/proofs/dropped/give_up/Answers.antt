@@ -1,10 +1,11 @@
-use Rattle.ist_mark.proofs.BelowLemmas.{read_as}
 use Rattle.ist_rule.proofs.GoingOnLemmas.{looked_goes_on}
 use Rattle.ist_rows.specs.Rows.{IsCaller}
 use Rattle.ist_rows.proofs.CallerGoingLemmas.{caller_goes_on}
-use Rattle.test_rebuilds.proofs.DroppedLemmas.{below_row_in_slot, caller_begun}
+use Rattle.ist_rows.proofs.CallerLawLemmas.{caller_begun}
+use Rattle.test_rebuilds.proofs.DroppedLemmas.{below_row_in_slot}
 use Rattle.test_rebuilds.proofs.dropped.give_up.Goals as goal
 use Rattle.test_rebuilds.proofs.dropped.give_up.Goals.{After-load_top-word}
+use Rattle.ist_layout.proofs.MeaningLemmas.{word_names}
 
 -- a caller that has begun a search and made a load is still a caller
 still : (c : After-load_top-word) → IsCaller (record c.args.who.now { token = c.load_top-word.new.token })
@@ -29,7 +30,7 @@ drop_pair-requires-clause-caller c =
 pub drop_pair-requires-clause-below : goal.drop_pair-requires-clause-below
 drop_pair-requires-clause-below c =
     below_row_in_slot (record c.args.who.now { token = c.begin_search.new.token }) c.load_top-word.new.token _ _ _ c.load_top-word.ensures.looked
-    (read_as _ _ _ _ c.from_word.ensures.value c.in-Some-Inner.is c.in-Some-Inner.field-0-is)
+    (word_names _ _ _ _ c.from_word.ensures.value c.in-Some-Inner.is c.in-Some-Inner.field-0-is)
     c.in-Some.is c.if-pair-base.true
 
 pub returns-in_default-pair-clause-caller : goal.returns-in_default-pair-clause-caller
