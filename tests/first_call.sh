@@ -2,17 +2,7 @@
 # Tests the first call of ./tele by the kit itself, which tests/launcher.sh has a stub for: in a fresh copy the README's lines are answered
 # by an unproved build, while the proof goes on. The call is ended then. The last line is 'N passed, M failed'.
 . "$(dirname -- "$0")/head.sh"
-
-# Whether the two are the same.
-expect() {
-    if [ "$2" = "$3" ]; then
-        passed=$((passed + 1))
-    else
-        failed=$((failed + 1))
-        printf 'FAILED: %s\n--- found\n%s\n--- wanted\n%s\n' "$1" "$2" "$3"
-        tail -n 5 "$all/said"
-    fi
-}
+unset TELE_WAIT TELE_RT GLIBC_TUNABLES
 
 mkdir "$all/copy" "$all/copy/crates"
 cp -R "$here"/{tele,tools,crates.txt,HANDLES} "$all/copy"
@@ -31,4 +21,5 @@ kill -TERM "$(cat "$all/leader")"
 while kill -0 "$(cat "$all/leader")" 2>/dev/null; do sleep 0.2; done
 expect "nothing is left in its folder of unproved builds" "$(ls "$all/build" | grep '^unproved-')" ""
 
+[ "$failed" = 0 ] || tail -n 5 "$all/said"
 finish

@@ -5,18 +5,6 @@
 unset RT_JOBS TELE_JOBS TELE_BUILD TELE_RT
 export STUB_LOG=$all/log STUB_FAILS=
 
-expect() {
-    if [ "$2" = "$3" ]; then
-        passed=$((passed + 1))
-    else
-        failed=$((failed + 1))
-        printf 'FAILED: %s: wanted\n%s\nand got\n%s\n' "$1" "$3" "$2"
-    fi
-}
-
-# Whether the text has these words.
-has() { case $2 in *"$3"*) passed=$((passed + 1)) ;; *) expect "$1" "$2" "$3" ;; esac; }
-
 # A stub in the place of `rt`: it notes each call, and fails those that STUB_FAILS names.
 mkdir -p "$all/kit/bin"
 cat >"$all/kit/bin/rt" <<'STUB'
@@ -139,7 +127,7 @@ done <<'CASES'
 4|11|| RT_JOBS=4|rt ci runs 4 checks side by side, with one job each
 2|6|| RT_JOBS=2|rt ci runs 2 checks side by side, with one job each
 4|10|||rt ci runs as many checks side by side as it finds memory for
-4|11|3| RT_JOBS=3|1 of 1[0-9], rt ci
+4|11|3| RT_JOBS=3|1 of [0-9]*, rt ci
 CASES
 parts=$(grep -c '^part ' "$here/check")
 expect 'all parts ran and were counted' "$(tail -n 1 "$all/out")" "$((3 + 2 * (parts - 1))) passed, 0 failed"

@@ -129,16 +129,6 @@ run() {
     err=$(cat "$dir/err")
 }
 calls() { grep -c "$1" "$STUB_LOG"; }
-
-expect() {
-    if [ "$2" = "$3" ]; then
-        passed=$((passed + 1))
-    else
-        failed=$((failed + 1))
-        printf 'FAILED: %s\n  wanted: %s\n  found:  %s\n' "$1" "$3" "$2"
-    fi
-}
-has() { case $2 in *"$3"*) expect "$1" yes yes ;; *) expect "$1" "$2" "..$3.." ;; esac }
 wait_for() { for _ in $(seq 1200); do grep -qs "$1" "$2" && return; sleep 0.05; done; }
 # What the launcher passes if its caller says nothing of it.
 preset=--words=3145728

@@ -10,16 +10,6 @@ for it in cc ld objcopy ar nm; do
     finish
 done
 
-expect() {
-    if [ "$2" = "$3" ]; then passed=$((passed + 1)); else failed=$((failed + 1)); printf 'FAILED: %s\n got:    %s\n wanted: %s\n' "$1" "$2" "$3"; fi
-}
-has() {
-    case $2 in
-    *"$3"*) passed=$((passed + 1)) ;;
-    *) failed=$((failed + 1)); printf 'FAILED: %s\n got:    %s\n wanted: %s\n' "$1" "$2" "$3" ;;
-    esac
-}
-
 # A kit whose `rt try` hands a module to its clang, whose clang turns a module's entries into C functions, and whose `rt lib` leaves
 # the library of what the crate's file says.
 kit=$all/kit
