@@ -1,4 +1,5 @@
 -- What a caller has taken as its log goes on. Serves the crates above.
+use Rattle.std.proofs.lemmas.Bool.{ne_eqb}
 use Rattle.std.proofs.Common.{◌≡◌, ◌≢◌, ℕ, ◌+◌, ◌≤◌, Bool, if◌then◌else◌, ◌∷◌, refl, ap, ◌∙◌, subst, inl, inr, arith}
 use Rattle.ist_core.specs.declared.events.Event.{Event}
 use Rattle.ist_core.specs.declared.events.Event.TheVariants.{Reserve}
@@ -11,7 +12,7 @@ use Rattle.ist_rule.proofs.LaterLemmas.{later_more}
 use Rattle.ist_rows.specs.CallerLaws.{KeepsRows}
 use Rattle.ist_rows.specs.Rows.{Reserved}
 use Rattle.ist_rows.specs.Taken.{taken_at, taken_by}
-use Rattle.ist_rows.proofs.CallerGoingLemmas.{base_differs, base_same}
+use Rattle.ist_rows.proofs.CallerGoingLemmas.{base_same}
 
 -- ---- one event
 
@@ -20,7 +21,7 @@ pub other_takes : (number : ℕ) (event : Event) → whose event ≢ CallerOf nu
     → taken_at number event ≡ 0
 other_takes number (Reserve caller base size) other =
     ap (λ (b : Bool). if b then size else 0)
-    (base_differs caller number (λ same. other (ap CallerOf same)))
+    (ne_eqb caller number (λ same. other (ap CallerOf same)))
 other_takes number _ other = refl
 
 -- nor does one that reserves nothing
