@@ -5,10 +5,12 @@
 //! crates of laws below them.
 #![tactic(auto)]
 
+mod conditional;
 mod faults;
 mod finding;
 mod freezing;
 pub mod laws;
+mod notes;
 mod passes;
 mod ports;
 mod rebuilding;

@@ -1,5 +1,5 @@
 //! The tree and its calls.
-ghost use Rattle.std.specs.Prelude.{◌≡◌, ◌≢◌, ◌+◌, ◌^◌, ◌<◌, ◌≤◌, ◌||◌, true, [], ◌∷◌, length, map, is_some};
+ghost use Rattle.std.specs.Prelude.{◌≡◌, ◌+◌, ◌^◌, ◌<◌, ◌≤◌, ◌||◌, true, [], ◌∷◌, length, map, is_some};
 ghost use Rattle.std.specs.Prelude.{Some, None, IfSome, IfOk, IfErr, OnOk, OnErr};
 ghost use Rattle.std.specs.List.Sorted.{IsStrictlyIncreasing};
 ghost use Rattle.ist_core.specs.RowLayout.{place_limit};
@@ -12,27 +12,25 @@ ghost use Rattle.ist_core.specs.StartLayout.{start};
 ghost use Rattle.laws_histories.specs.Searching.{HasPosition};
 ghost use Rattle.ist_rule.specs.Speaking.{MomentsGoOn};
 ghost use Rattle.ist_find.specs.Spans.{pair_value, EndAtEdges};
-ghost use Rattle.ist_tree.specs.Faces.{noted, calls_in, HasItsCalls};
-ghost use Rattle.ist_tree.specs.Calls.{HasSeenMore, HasLearnt, AddsCall, BeginsFewWalks};
-ghost use Rattle.ist_tree.specs.Calls.{WeavesWith, HasLoadedFew};
+ghost use Rattle.ist_tree.specs.Faces.{calls_in, HasItsCalls};
+ghost use Rattle.ist_tree.specs.Calls.{HasSeenMore, AddsCall, BeginsFewWalks, HasLoadedFew};
 ghost use Rattle.ist_tree.specs.Closing.{ClosesWith};
 ghost use Rattle.ist_tree.specs.DueRows.{CountsNowhere, FinishesUpdate, HasCountedInCall, LeavesNoneDue, StartsOnlyDue};
 ghost use Rattle.ist_tree.specs.Opening.{IsNewTree, IsFaultOf};
 ghost use Rattle.ist_tree.specs.RealTime.{ReturnsInTime, ClosesInTime};
 ghost use Rattle.ist_tree.specs.Refusals.{HasStartsDone, IsRefused, KeepsRowRefusal};
-ghost use Rattle.ist_tree.specs.Rounds.{BeginsFewRounds};
 ghost use Rattle.ist_tree.specs.Spans.{AllHave, HasLoadedFewOver, state_seen};
 
 use crate::faults::OpenFault;
 use crate::finding::begin_find;
-use crate::passes::{Maker, Note, Pass};
-use crate::updating::{apply_in_call, update_if};
+use crate::passes::{Maker, Pass};
+use crate::updating::apply_in_call;
 use ist_core::{Full, Pair, Reply};
 use ist_find::{Span, find_span};
 use ist_image::{Image, needed_words};
 use ist_rest::Closed;
 use ist_rows::{Caller, enter};
-use ist_rule::{TreeTable, begin_read, close, end_call, join, know, open_table_over, split};
+use ist_rule::{TreeTable, begin_read, close, end_call, join, know, open_table_over};
 use ist_updates::{Update, When};
 use std::alloc::Global;
 use std::marker::Model;
@@ -155,57 +153,6 @@ impl Tree {
         maker.refused |= refused.is_some();
     }
 
-    /// Makes a note of all that the pass has seen. If a note is dropped it is lost, and nothing
-    /// else changes.
-    pub fn note(&self, pass: &mut Pass) -> Note
-        requires same_tree { pass.old.tree ≡ self.now }
-        ensures value { result ≡ noted pass.old }
-        ensures unchanged { pass.new ≡ pass.old }
-    {
-        know(&pass.caller.token);
-        let token = split(&self.table, &mut pass.caller.token);
-        Note { token }
-    }
-
-    /// Lets the pass learn what the note holds. Its calls are as before.
-    ///
-    /// The calls of both passes are then woven into one legal history. Each later call of this pass
-    /// comes after each call that the note keeps.
-    pub fn meet(&self, pass: &mut Pass, note: Note)
-        requires same_tree { pass.old.tree ≡ self.now }
-        requires its_tree { note.tree ≡ self.now }
-        ensures seen { HasSeenMore pass.old pass.new }
-        ensures no_walk { pass.new.searches ≡ pass.old.searches }
-        ensures calls { pass.new.calls ≡ pass.old.calls }
-        ensures learnt { HasLearnt pass.new note }
-        ensures woven { WeavesWith pass.new note }
-        ensures note_heard { MomentsGoOn note.moments pass.new.moments }
-        ensures refused { pass.new.refused ≡ pass.old.refused }
-    {
-        let Note { token } = note;
-        join(&self.table, &mut pass.caller.token, token);
-    }
-
-    /// Lets the maker learn what the note holds. Each pass that it makes from then on has seen all
-    /// of that, so that its calls come after each call that the note keeps.
-    pub fn learn(&self, maker: &mut Maker, note: Note)
-        requires same_tree { maker.old.tree ≡ self.now }
-        requires its_tree { note.tree ≡ self.now }
-        ensures same_tree { maker.new.tree ≡ maker.old.tree }
-        ensures made { maker.new.made ≡ maker.old.made }
-        ensures taken { maker.new.taken ≡ maker.old.taken }
-        ensures seen { GoesOn maker.old.seen maker.new.seen }
-        ensures stamp { maker.old.stamp ≤ maker.new.stamp }
-        ensures note_seen { GoesOn note.seen maker.new.seen }
-        ensures note_stamp { note.stamp ≤ maker.new.stamp }
-        ensures heard { MomentsGoOn maker.old.moments maker.new.moments }
-        ensures note_heard { MomentsGoOn note.moments maker.new.moments }
-        ensures refused { maker.new.refused ≡ maker.old.refused }
-    {
-        let Note { token } = note;
-        join(&self.table, &mut maker.token, token);
-    }
-
     /// Returns the value of the key, if it has one. Never allocates, always returns.
     ///
     /// The call is added to the calls of the pass: the map has this value for the key after some
@@ -321,76 +268,6 @@ impl Tree {
             Ok(outcome) => Ok(outcome.reply()),
             Err(full) => Err(full),
         }
-    }
-
-    /// Puts the value at the key if the key has the value that is expected, or no value if none is
-    /// expected, and returns the value that the key had.
-    ///
-    /// If the reply is what was expected, the call is a put in the history of the pass, as with
-    /// `put`. If it is another value, the call is a find, and nothing was changed or counted.
-    /// `Full` is as with `put`: the call didn't happen then. It never allocates and always returns:
-    /// it tries again only after another change of the map.
-    ///
-    /// Source: compare-and-set of a map's entry, as in `java.util.concurrent.ConcurrentMap.replace`
-    /// and `putIfAbsent`.
-    pub fn put_if(
-        &self,
-        pass: &mut Pass,
-        key: u64,
-        expected: Option<u64>,
-        value: u64,
-    ) -> Result<Reply, Full>
-        requires same_tree { pass.old.tree ≡ self.now }
-        ensures seen { HasSeenMore pass.old pass.new }
-        ensures put { IfOk result (λ reply. reply ≡ expected
-            → AddsCall pass.old pass.new (Put key value) reply) }
-        ensures got { IfOk result (λ reply. reply ≢ expected
-            → AddsCall pass.old pass.new (Get key) reply) }
-        ensures counted { IfOk result (λ reply. reply ≡ expected
-            → HasCountedInCall pass.old pass.new (Put key value)) }
-        ensures due { OnOk result (LeavesNoneDue pass.old pass.new) }
-        ensures starts { StartsOnlyDue pass.old pass.new }
-        ensures few_walks { BeginsFewRounds pass.old pass.new }
-        ensures idle { IfOk result (λ reply. reply ≢ expected
-            → CountsNowhere pass.old pass.new) }
-        ensures full { IfErr result (λ full. IsRefused pass.old pass.new key (Some value) full) }
-        ensures calls { OnErr result (pass.new.calls ≡ pass.old.calls) }
-        ensures placed { OnErr result (HasItsCalls pass.new) }
-        ensures uncounted { OnErr result (CountsNowhere pass.old pass.new) }
-        ensures unrefused { OnErr result (pass.new.refused ≡ pass.old.refused) }
-        ensures refused { KeepsRowRefusal pass.old pass.new }
-        ensures finished { FinishesUpdate pass.old pass.new }
-        ensures done { HasStartsDone pass.new }
-    {
-        update_if(self, pass, key, Some(value), expected)
-    }
-
-    /// Removes the key if it has the value that is expected, and returns the value that it had. All
-    /// else is as with `put_if`.
-    pub fn remove_if(&self, pass: &mut Pass, key: u64, expected: u64) -> Result<Reply, Full>
-        requires same_tree { pass.old.tree ≡ self.now }
-        ensures seen { HasSeenMore pass.old pass.new }
-        ensures removed { IfOk result (λ reply. reply ≡ Some expected
-            → AddsCall pass.old pass.new (Remove key) reply) }
-        ensures got { IfOk result (λ reply. reply ≢ Some expected
-            → AddsCall pass.old pass.new (Get key) reply) }
-        ensures counted { IfOk result (λ reply. reply ≡ Some expected
-            → HasCountedInCall pass.old pass.new (Remove key)) }
-        ensures due { OnOk result (LeavesNoneDue pass.old pass.new) }
-        ensures starts { StartsOnlyDue pass.old pass.new }
-        ensures few_walks { BeginsFewRounds pass.old pass.new }
-        ensures idle { IfOk result (λ reply. reply ≢ Some expected
-            → CountsNowhere pass.old pass.new) }
-        ensures full { IfErr result (λ full. IsRefused pass.old pass.new key None full) }
-        ensures calls { OnErr result (pass.new.calls ≡ pass.old.calls) }
-        ensures placed { OnErr result (HasItsCalls pass.new) }
-        ensures uncounted { OnErr result (CountsNowhere pass.old pass.new) }
-        ensures unrefused { OnErr result (pass.new.refused ≡ pass.old.refused) }
-        ensures refused { KeepsRowRefusal pass.old pass.new }
-        ensures finished { FinishesUpdate pass.old pass.new }
-        ensures done { HasStartsDone pass.new }
-    {
-        update_if(self, pass, key, None, Some(expected))
     }
 
     /// Closes the tree and returns its words after the last call, without a copy. All passes were
