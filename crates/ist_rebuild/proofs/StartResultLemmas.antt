@@ -87,7 +87,7 @@ module _ (number parent index target rebuild change : ℕ) (apart : rebuild ≢ 
   put_started good v w h =
       let x = put_change v true w h in
       let r = put_rebuild v true w h in
-      let same = same_change v true w h _ h.decided.row x.0 h.decided.published x.1 in
+      let same = same_change _ h.decided.row x.0 h.decided.published x.1 in
       record {
         row = r.0;
         published = r.1;
@@ -111,7 +111,7 @@ module _ (number parent index target rebuild change : ℕ) (apart : rebuild ≢ 
       → ¬ (IsOpen (now w) parent)
   put_closed v w s h =
       let x = put_change v false w h in
-      let same = same_change v false w h _ h.decided.row x.0 h.decided.published x.1 in
+      let same = same_change _ h.decided.row x.0 h.decided.published x.1 in
       subst (λ n. ¬ (IsOpen (now w) n)) (ap (λ (c : ChangeRow). c.node) x.2.others)
       (refused_closed w.start w.words s.lawful.opens w.log s.lawful.enabled change x.0 x.1
       (ap (λ (c : ChangeRow). c.decision) (sym same) ∙ h.decided.decision))
@@ -123,7 +123,7 @@ module _ (number parent index target rebuild change : ℕ) (apart : rebuild ≢ 
       → y.decision ≡ h.decided.row.decision
   put_said v said w h y e =
       ap (λ (c : ChangeRow). c.decision)
-      (same_change v said w h _ y h.decided.row e h.decided.published)
+      (same_change _ y h.decided.row e h.decided.published)
 
   -- the change starts that rebuild and no other
   pub put_to : (v : View) (said : Bool) (w : View)
@@ -132,7 +132,7 @@ module _ (number parent index target rebuild change : ℕ) (apart : rebuild ≢ 
       → ref_of y.to ≡ Some (RebuildAt other) → other ≡ rebuild
   put_to v said w h good y e other to =
       let x = put_change v said w h in
-      let same = same_change v said w h _ x.0 y x.1 e in
+      let same = same_change _ x.0 y x.1 e in
       one_ref _ (sym (ap (λ (c : ChangeRow). ref_of c.to) (sym same)
       ∙ ap (λ (c : ChangeRow). ref_of c.to) x.2.others)) to
       (ref_of-word_of (RebuildAt rebuild) good)
