@@ -14,7 +14,7 @@ use Rattle.ist_core.specs.Logs.{Log, GoesOn}
 use Rattle.ist_core.specs.Lawful.{state_of}
 use Rattle.ist_core.proofs.FateLemmas.{enabled_before, grow_between}
 use Rattle.ist_core.proofs.GrowingLemmas.{inner_there}
-use Rattle.ist_core.proofs.PrefixLemmas.{goes_on_length, goes_on_more}
+use Rattle.ist_core.proofs.PrefixLemmas.{goes_on_length, goes_on_more as log_goes_on}
 use Rattle.laws_histories.proofs.SearchLemmas.{leads_there}
 use Rattle.ist_math.specs.Guess.{guess_in, distance}
 use Rattle.ist_rule.specs.declared.view.View.{View}
@@ -109,7 +109,7 @@ module _ (v u w : View) (node first low high last i count spent : ℕ) (ref : Re
               let two = e.loads in
               record {
                 at = saw.at;
-                until = goes_on_more (saw_until w r.seen.sound s.at first last low high node
+                until = log_goes_on (saw_until w r.seen.sound s.at first last low high node
                     ref h.from r.ends.some r.ends.top saw) (goes_log w x d);
                 led = led_on w x d saw.at first last node saw.led;
                 row = 0;
