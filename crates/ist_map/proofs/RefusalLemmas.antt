@@ -1,4 +1,4 @@
--- A refusal of a handle is one on its tree, and stays one while the tree is open. Serves `Worker`.
+-- A refusal of a pass is one on its tree, and stays one while the tree is open. Serves `Worker`.
 use Rattle.std.proofs.Common.{◌≡◌, ◌∙◌, ◌⊎◌, ⊎_elim, inl, inr, ℕ, Option, Result, Some, None, IfSome, IfErr, sym}
 use Rattle.std.proofs.lemmas.Option.{none-some}
 use Rattle.std.proofs.lemmas.Result.{IfErr-weaker}
@@ -8,16 +8,16 @@ use Rattle.ist_core.proofs.PrefixLemmas.{goes_on_more}
 use Rattle.ist_tree.specs.Calls.{HasSeenMore}
 use Rattle.ist_tree.specs.Faces.{TreeFace, PassFace}
 use Rattle.ist_tree.specs.Refusals.{IsRefused, KeepsRowRefusal}
-use Rattle.ist_map.specs.Refusing.{IsRefusedTo, to_update, to_rebuild, HandleWasRefused, IsRefusalOn}
+use Rattle.ist_map.specs.Refusing.{IsRefusedTo, to_update, to_rebuild, WasRefusedSince, IsRefusalOn}
 
 -- ---- one call
 
--- a refused update was refused to the handle
+-- a refused update was refused to the pass
 pub update_refused : {A : Type 0} (p q : PassFace) (key : ℕ) (value : Option ℕ) (r : Result A Full)
     → IfErr r (λ full. IsRefused p q key value full) → IfErr r (IsRefusedTo p q)
 update_refused p q key value r = IfErr-weaker r _ _ (λ full refused. to_update refused)
 
--- so was a rebuild that the handle keeps the refusal of, if it kept none before
+-- so was a rebuild that the pass keeps the refusal of, if it kept none before
 pub rebuild_refused : (p q : PassFace) → KeepsRowRefusal p q → (full : Full)
     → q.refused ≡ Some full → (p.refused ≡ Some full) ⊎ IsRefusedTo p q full
 rebuild_refused p q keeps full now = ⊎_elim
@@ -29,7 +29,7 @@ rebuild_refused p q keeps full now = ⊎_elim
 
 -- the last of some calls was refused
 pub refused_now : (first p q : PassFace) (full : Full) → HasSeenMore first p → HasSeenMore p q
-    → IsRefusedTo p q full → HandleWasRefused first q.seen full
+    → IsRefusedTo p q full → WasRefusedSince first q.seen full
 refused_now first p q full since call cause = record {
   began = p;
   ended = q;
@@ -42,7 +42,7 @@ refused_now first p q full since call cause = record {
 -- a rebuild was refused in the last of some calls, since no refusal was kept before it
 pub kept_now : (first p q : PassFace) (full : Full) → HasSeenMore first p → HasSeenMore p q
     → p.refused ≡ None → (p.refused ≡ Some full) ⊎ IsRefusedTo p q full
-    → HandleWasRefused first q.seen full
+    → WasRefusedSince first q.seen full
 kept_now first p q full since call none = ⊎_elim
     (λ some. absurd (none-some full (sym none ∙ some)))
     (refused_now first p q full since call)

@@ -161,7 +161,7 @@ underway_more first middle last asked left next later before between after old r
     (run_further first middle last asked left later before between after refused u.ran
     (subst (λ n. HasRunOnOne middle last n later between after refused) (sym u.next_is) one) some)
 
--- a handle was refused by the end of what the maker had seen, and so on the tree that it closed
+-- a pass was refused by the end of what the maker had seen, and so on the tree that it closed
 pub refused_on : (m : MakerFace) (last : List ℕ) (c : ClosesWith m last) (tree : TreeFace)
     → m.tree ≡ tree → length last ≡ tree.words → (refused : Option Full)
     → IfSome refused (IsRefusalOn tree m.seen)

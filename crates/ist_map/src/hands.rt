@@ -7,9 +7,8 @@ ghost use Rattle.ist_core.specs.Logs.{GoesOn};
 ghost use Rattle.ist_core.specs.Replies.{Answered};
 ghost use Rattle.ist_core.specs.Resting.{told_by_call};
 ghost use Rattle.ist_map.specs.Hands.{IsHired, IsOn, pass_number, calls_by, seen_by, HaveWorked};
-ghost use Rattle.ist_map.specs.Refusing.{HandleWasRefused, IsRefusalOn};
+ghost use Rattle.ist_map.specs.Refusing.{IsRefusalOn, WasRefusedSince};
 
-use crate::handles::MapHandle;
 use ist_core::Full;
 use ist_tree::{Maker, Pass, Tree};
 use std::thread;
@@ -22,20 +21,21 @@ pub trait Worker {
     // it has nothing left to do
     ghost is_done: { Self → Type 0 };
 
-    /// Makes calls by this handle, which has made none on its tree, until there is nothing left to do
-    /// or a call is refused.
+    /// Makes calls on the tree by this pass, which has made none, until there is nothing left to do or
+    /// a call is refused.
     ///
-    /// `Err` asks for another tree with the same pairs and more words, since a call by this handle was
-    /// refused, or a rebuild after one. `work` is called again there, with a new handle, and goes on
+    /// `Err` asks for another tree with the same pairs and more words, since a call by this pass was
+    /// refused, or a rebuild after one. `work` is called again there, with a new pass, and goes on
     /// with the call that was refused.
-    fn work(&mut self, handle: &mut MapHandle<'_>) -> Result<(), Full>
-        requires no_calls { handle.old.calls ≡ [] }
-        ensures same_tree { handle.new.tree ≡ handle.old.tree }
-        ensures number { handle.new.number ≡ handle.old.number }
-        ensures told { told self.new ≡ told self.old ++ map told_by_call handle.new.calls }
+    fn work(&mut self, tree: &Tree, pass: &mut Pass) -> Result<(), Full>
+        requires same_tree { pass.old.tree ≡ tree.now }
+        requires no_calls { pass.old.calls ≡ [] }
+        ensures same_tree { pass.new.tree ≡ tree.now }
+        ensures number { pass.new.number ≡ pass.old.number }
+        ensures told { told self.new ≡ told self.old ++ map told_by_call pass.new.calls }
         ensures done { OnOk result (is_done self.new) }
-        ensures refused { handle.old.refused ≡ None
-            → IfErr result (HandleWasRefused handle.old handle.new.seen) };
+        ensures refused { pass.old.refused ≡ None
+            → IfErr result (WasRefusedSince pass.old pass.new.seen) };
 }
 
 /// A worker, with its pass while there is a tree to work on.
@@ -89,10 +89,9 @@ impl<W: Worker> Hand<W> {
         ensures done { self.new.refused ≡ None → W.is_done self.new.worker }
         ensures refused { IfSome self.new.refused (IsRefusalOn tree.now (seen_by self.new.pass)) }
     {
-        if let Some(pass) = self.pass.take() {
-            let mut handle = MapHandle::of(tree, pass);
-            self.refused = self.worker.work(&mut handle).err();
-            self.pass = Some(handle.into_pass());
+        if let Some(mut pass) = self.pass.take() {
+            self.refused = self.worker.work(tree, &mut pass).err();
+            self.pass = Some(pass);
         }
     }
 

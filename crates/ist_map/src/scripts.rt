@@ -8,9 +8,9 @@ ghost use Rattle.ist_tree.specs.Calls.{HasSeenMore};
 ghost use Rattle.ist_map.specs.Refusing.{IsRefusedTo};
 ghost use Rattle.ist_map.specs.Scripts.{told_in};
 
-use crate::handles::MapHandle;
 use crate::hands::Worker;
 use ist_core::{Command, Full, Reply};
+use ist_tree::{Pass, Tree};
 use std::alloc::{AllocError, Global};
 use std::marker::Model;
 
@@ -41,12 +41,12 @@ impl Worker for Script {
 
     ghost is_done = { λ s. length s.replies ≡ length s.commands };
 
-    fn work(&mut self, handle: &mut MapHandle<'_>) -> Result<(), Full> {
+    fn work(&mut self, tree: &Tree, pass: &mut Pass) -> Result<(), Full> {
         while self.replies.len() < self.commands.len() {
             let command = self.commands[self.replies.len()];
-            let reply = call(handle, command)?;
+            let reply = call(tree, pass, command)?;
             self.replies.push_reserved(reply);
-            if let Some(full) = handle.rebuild_refused() {
+            if let Some(full) = pass.rebuild_refused() {
                 return Err(full);
             }
         }
@@ -80,18 +80,19 @@ impl Script {
 }
 
 // Makes one call.
-fn call(handle: &mut MapHandle<'_>, command: Command) -> Result<Reply, Full>
-    ensures seen { HasSeenMore handle.old handle.new }
-    ensures added { IfOk result (λ reply. map told_by_call handle.new.calls
-        ≡ map told_by_call handle.old.calls ++ told command reply ∷ []) }
-    ensures unchanged { OnErr result (handle.new.calls ≡ handle.old.calls) }
-    ensures full { IfErr result (IsRefusedTo handle.old handle.new) }
-    ensures refused { (full : Full) → handle.new.refused ≡ Some full
-        → (handle.old.refused ≡ Some full) ⊎ IsRefusedTo handle.old handle.new full }
+fn call(tree: &Tree, pass: &mut Pass, command: Command) -> Result<Reply, Full>
+    requires same_tree { pass.old.tree ≡ tree.now }
+    ensures seen { HasSeenMore pass.old pass.new }
+    ensures added { IfOk result (λ reply. map told_by_call pass.new.calls
+        ≡ map told_by_call pass.old.calls ++ told command reply ∷ []) }
+    ensures unchanged { OnErr result (pass.new.calls ≡ pass.old.calls) }
+    ensures full { IfErr result (IsRefusedTo pass.old pass.new) }
+    ensures refused { (full : Full) → pass.new.refused ≡ Some full
+        → (pass.old.refused ≡ Some full) ⊎ IsRefusedTo pass.old pass.new full }
 {
     match command {
-        Command::Put { key, value } => handle.insert(key, value),
-        Command::Remove { key } => handle.remove(key),
-        Command::Get { key } => Ok(handle.get(key)),
+        Command::Put { key, value } => tree.put(pass, key, value),
+        Command::Remove { key } => tree.remove(pass, key),
+        Command::Get { key } => Ok(tree.find(pass, key)),
     }
 }

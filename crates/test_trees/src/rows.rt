@@ -115,8 +115,9 @@ fn the_tenth_put_rebuilds_the_first_pair_row(rt: HostRuntime) -> Result<(), Fail
     Ok(())
 }
 
-// What the puts, finds and removes of two passes answer, each of which is told what the other has done.
-fn told_in_turn(alloc: Global) -> Result<[Result<Reply, Full>; 4], OpenFault> {
+// What the puts, finds and removes of two passes answer, each of which is told what the other has done, and
+// a find of a third, whose maker is told.
+fn told_in_turn(alloc: Global) -> Result<[Result<Reply, Full>; 5], OpenFault> {
     let (tree, mut maker) = Tree::open(alloc, 24, &[])?;
     let mut one = tree.pass(&mut maker);
     let mut two = tree.pass(&mut maker);
@@ -128,12 +129,16 @@ fn told_in_turn(alloc: Global) -> Result<[Result<Reply, Full>; 4], OpenFault> {
     let told = tree.note(&mut two);
     tree.meet(&mut one, told);
     let gone = ask(&tree, &mut one, Find(1));
-    Ok([put, found, removed, gone])
+    let told = tree.note(&mut one);
+    tree.learn(&mut maker, told);
+    let mut three = tree.pass(&mut maker);
+    let still = ask(&tree, &mut three, Find(1));
+    Ok([put, found, removed, gone, still])
 }
 
 #[test]
 fn passes_that_meet_see_what_each_has_done(rt: HostRuntime) -> Result<(), Fail> {
-    let answers = [Ok(None), Ok(Some(1)), Ok(Some(1)), Ok(None)];
-    same(&rt, &told_in_turn(rt.alloc())?, &answers, "two passes");
+    let answers = [Ok(None), Ok(Some(1)), Ok(Some(1)), Ok(None), Ok(None)];
+    same(&rt, &told_in_turn(rt.alloc())?, &answers, "three passes");
     Ok(())
 }

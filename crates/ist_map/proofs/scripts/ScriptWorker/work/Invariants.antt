@@ -7,13 +7,13 @@ use Rattle.ist_map.proofs.scripts.ScriptWorker.work.Given as goal
 -- the calls of the pass are those that were told since it began
 abbrev pub invariant-loop-self : goal.invariant-loop-self
 invariant-loop-self l = record {
-  seen : HasSeenMore l.fn.handle l.handle;
-  unrefused : l.fn.handle.refused ≡ None → l.handle.refused ≡ None;
+  seen : HasSeenMore l.fn.pass l.pass;
+  unrefused : l.fn.pass.refused ≡ None → l.pass.refused ≡ None;
   commands : l.self-inside.commands.items ≡ l.fn.self.commands;
   few : length l.self-inside.replies.items ≤ length l.self-inside.commands.items;
   room : length l.self-inside.commands.items ≤ vec_capacity l.self-inside.replies;
   told : told_in l.self-inside.commands.items l.self-inside.replies.items
-      ≡ told_in l.fn.self.commands l.fn.self.replies ++ map told_by_call l.handle.calls;
+      ≡ told_in l.fn.self.commands l.fn.self.replies ++ map told_by_call l.pass.calls;
 }
 
 abbrev pub decreases-loop-self : goal.decreases-loop-self
