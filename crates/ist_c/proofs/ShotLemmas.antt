@@ -1,10 +1,9 @@
 -- What a pass behind a handle did with a shot.
-use Rattle.std.proofs.Common.{◌≡◌, ℕ, List, length, sym, subst, ◌∙◌}
+use Rattle.std.proofs.Common.{◌≡◌, ℕ, List, length, sym, subst}
 use Rattle.std.specs.Arc.{arc_value}
 use Rattle.ist_core.specs.declared.ports.Full.{Full}
 use Rattle.ist_tree.specs.declared.freezing.Frozen.{Frozen}
 use Rattle.ist_tree.specs.Calls.{HasSeenMore}
-use Rattle.ist_tree.specs.Faces.{PassFace}
 use Rattle.ist_tree.specs.Freezing.{HasStartedNone}
 use Rattle.ist_scan.specs.Room.{HadRoom, IsShotRefused}
 use Rattle.ist_scan.specs.Shots.{HasTakenShot}
@@ -25,16 +24,16 @@ use Rattle.ist_c.specs.Shots.{pass_takes, shot_refused, none_takes, counts_shot,
 -- a shot that the pass took is held with the pass
 pub shot_taken : (p q : TreePass) (s : ShotFace) (shot : Frozen) (words : ℕ) (short : Shortage)
     → arc_value q.tree ≡ arc_value p.tree → HasSeenMore p.pass q.pass → q.pass.calls ≡ p.pass.calls
-    → HasTakenShot p.pass q.pass shot → HadRoom p.pass q.pass words → s.tree ≡ arc_value q.tree
-    → s.pass ≡ q.pass → s.shot ≡ shot → TakesShot (of.Pass p) (of.Shot s) words done short short
-shot_taken p q s shot words short tree seen calls taken room its_tree its_pass its_shot =
+    → HasTakenShot p.pass q.pass shot → HadRoom p.pass q.pass words → s.taker ≡ q → s.shot ≡ shot
+    → TakesShot (of.Pass p) (of.Shot s) words done short short
+shot_taken p q s shot words short tree seen calls taken room its_taker its_shot =
     pass_takes p s words short (record {
-      same_tree = its_tree ∙ tree;
-      seen = subst (λ (f : PassFace). HasSeenMore p.pass f) (sym its_pass) seen;
-      calls = subst (λ (f : PassFace). f.calls ≡ p.pass.calls) (sym its_pass) calls;
-      taken = subst (λ (f : PassFace). HasTakenShot p.pass f s.shot) (sym its_pass)
-          (subst (λ (t : Frozen). HasTakenShot p.pass q.pass t) (sym its_shot) taken);
-      room = subst (λ (f : PassFace). HadRoom p.pass f words) (sym its_pass) room;
+      same_tree = subst (λ (t : TreePass). arc_value t.tree ≡ arc_value p.tree) (sym its_taker) tree;
+      seen = subst (λ (t : TreePass). HasSeenMore p.pass t.pass) (sym its_taker) seen;
+      calls = subst (λ (t : TreePass). t.pass.calls ≡ p.pass.calls) (sym its_taker) calls;
+      taken = subst (λ (t : TreePass). HasTakenShot p.pass t.pass s.shot) (sym its_taker)
+          (subst (λ (f : Frozen). HasTakenShot p.pass q.pass f) (sym its_shot) taken);
+      room = subst (λ (t : TreePass). HadRoom p.pass t.pass words) (sym its_taker) room;
     })
 
 -- one that was refused leaves the pass
@@ -84,10 +83,11 @@ listed_shot held s t first last room after before piece is same listed =
     (lists_shot s t first last room after before piece same listed)
 
 -- a handle of a shot that was dropped holds its pass
-pub dropped_shot : (held : Held) (s : ShotFace) (p : TreePass) → held ≡ of.Shot s
-    → arc_value p.tree ≡ s.tree → p.pass ≡ s.pass → DropsShot held (of.Pass p) done
-dropped_shot held s p is tree pass =
-    subst (λ (h : Held). DropsShot h (of.Pass p) done) (sym is) (drops_shot s p tree pass)
+pub dropped_shot : (held : Held) (s : ShotFace) (p : TreePass) → held ≡ of.Shot s → p ≡ s.taker
+    → DropsShot held (of.Pass p) done
+dropped_shot held s p is its =
+    subst (λ (h : Held). DropsShot h (of.Pass p) done) (sym is)
+    (subst (λ (q : TreePass). DropsShot (of.Shot s) (of.Pass q) done) (sym its) (drops_shot s))
 
 -- a handle of something else is as before
 pub dropped_none : (held other : Held) → other ≡ held → IsNoShot other → DropsShot held other misuse

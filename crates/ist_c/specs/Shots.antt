@@ -22,11 +22,11 @@ use Rattle.ist_c.specs.Kinds.{IsNoPass, IsNoShot}
 -- the pass is of the same tree, and made no call; it took this shot, whose position isn't before what it
 -- had seen, and at one moment of the call at least this many words were left
 pub record HasShot (p : TreePass) (s : ShotFace) (words : ℕ) : Type 0 where
-  pub same_tree : s.tree ≡ arc_value p.tree
-  pub seen : HasSeenMore p.pass s.pass
-  pub calls : s.pass.calls ≡ p.pass.calls
-  pub taken : HasTakenShot p.pass s.pass s.shot
-  pub room : HadRoom p.pass s.pass words
+  pub same_tree : arc_value s.taker.tree ≡ arc_value p.tree
+  pub seen : HasSeenMore p.pass s.taker.pass
+  pub calls : s.taker.pass.calls ≡ p.pass.calls
+  pub taken : HasTakenShot p.pass s.taker.pass s.shot
+  pub room : HadRoom p.pass s.taker.pass words
 
 -- the pass is of the same tree, made no call and started no rebuild: a shot was refused with these numbers
 pub record HasNoShot (p q : TreePass) (words : ℕ) (numbers : Full) : Type 0 where
@@ -59,11 +59,11 @@ pub data CountsShot : Held → ℕ → ℕ → ℕ → Type 0 where
 -- first key of a range up to the key to go on from
 pub record HasListedShot (s t : ShotFace) (first last : ℕ) (room : List Entry) (piece : Piece)
     : Type 0 where
-  pub same_tree : t.tree ≡ s.tree
+  pub same_tree : arc_value t.taker.tree ≡ arc_value s.taker.tree
   pub same_shot : t.shot ≡ s.shot
-  pub looked : HasOnlyLooked s.pass t.pass
+  pub looked : HasOnlyLooked s.taker.pass t.taker.pass
   pub within : piece.count ≤ length room
-  pub pairs : IsShotPiece s.pass s.shot first last (next_key piece) (pairs_in piece.count room)
+  pub pairs : IsShotPiece s.taker.pass s.shot first last (next_key piece) (pairs_in piece.count room)
 
 -- a handle of a shot holds it still, and a range of it was written, or the first part of it; only without
 -- room, or by a handle of something else, is it misuse, and the handle is as before
@@ -80,6 +80,5 @@ pub data ListsShot : Held → Held → ℕ → ℕ → ℕ → List Entry → Li
 -- a handle of a shot holds the pass that took it, as it was; only a handle of something else is misused,
 -- and is as before
 pub data DropsShot : Held → Held → ℕ → Type 0 where
-  drops_shot : (s : ShotFace) (p : TreePass) → arc_value p.tree ≡ s.tree → p.pass ≡ s.pass
-      → DropsShot (of.Shot s) (of.Pass p) done
+  drops_shot : (s : ShotFace) → DropsShot (of.Shot s) (of.Pass s.taker) done
   drops_no_shot : (held : Held) → IsNoShot held → DropsShot held held misuse

@@ -18,7 +18,7 @@ fn put_if_in(
         short.old short.new }
 {
     match held {
-        Held::Pass(pass) => match pass.put_if(key, expected, value) {
+        Held::Pass(pass) => match pass.tree.tree.put_if(&mut pass.pass, key, expected, value) {
             Ok(reply) => replied(reply),
             Err(numbers) => refused(numbers, short),
         },
@@ -96,7 +96,7 @@ fn remove_if_in(held: &mut Held, key: u64, expected: u64, short: &mut Shortage) 
         short.old short.new }
 {
     match held {
-        Held::Pass(pass) => match pass.remove_if(key, expected) {
+        Held::Pass(pass) => match pass.tree.tree.remove_if(&mut pass.pass, key, expected) {
             Ok(reply) => replied(reply),
             Err(numbers) => refused(numbers, short),
         },

@@ -11,7 +11,7 @@ fn find_in(held: &mut Held, key: u64) -> CallResult
     ensures finds { FindsBy held.old held.new key result }
 {
     match held {
-        Held::Pass(pass) => replied(pass.find(key)),
+        Held::Pass(pass) => replied(pass.tree.tree.find(&mut pass.pass, key)),
         _ => misused(),
     }
 }

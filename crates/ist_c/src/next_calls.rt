@@ -4,6 +4,7 @@ ghost use Rattle.ist_c.specs.Reads.{ReadsBy, up, down};
 ghost use Rattle.ist_handles.specs.Results.{misuse};
 
 use ist_handles::{Entry, Handle, Held, MISUSE, write_pair};
+use ist_live::{at_least, at_most};
 use std::alloc::Global;
 
 // Writes the pair with the least key that is at least `key`.
@@ -11,7 +12,7 @@ fn at_least_in(held: &mut Held, key: u64, found: &mut Entry) -> u32
     ensures reads { ReadsBy up held.old held.new key result found.old found.new }
 {
     match held {
-        Held::Pass(pass) => write_pair(pass.at_least(key), found),
+        Held::Pass(pass) => write_pair(at_least(&pass.tree.tree, &mut pass.pass, key), found),
         _ => MISUSE,
     }
 }
@@ -21,7 +22,7 @@ fn at_most_in(held: &mut Held, key: u64, found: &mut Entry) -> u32
     ensures reads { ReadsBy down held.old held.new key result found.old found.new }
 {
     match held {
-        Held::Pass(pass) => write_pair(pass.at_most(key), found),
+        Held::Pass(pass) => write_pair(at_most(&pass.tree.tree, &mut pass.pass, key), found),
         _ => MISUSE,
     }
 }

@@ -63,7 +63,7 @@ fn meet_in(alloc: Global, held: &mut Held, note: &mut Handle) -> u32
                 *note = Handle::of(told);
                 return MISUSE;
             }
-            pass.meet(met);
+            pass.tree.tree.meet(&mut pass.pass, met.note);
             DONE
         }
         other => {

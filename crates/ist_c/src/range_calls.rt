@@ -3,7 +3,7 @@ ghost use Rattle.std.specs.Prelude.{◌≡◌, true, false};
 ghost use Rattle.ist_c.specs.Reads.{ListsBy};
 ghost use Rattle.ist_handles.specs.Results.{misuse};
 
-use ist_handles::{DONE, Entry, Handle, Held, MISUSE, Piece};
+use ist_handles::{DONE, Entry, Handle, Held, MISUSE, Piece, read_piece};
 use std::alloc::Global;
 
 // Writes the pairs from `first` to `last`, as many as there is room for.
@@ -16,7 +16,7 @@ fn list_in(held: &mut Held, first: u64, last: u64, room: &mut [Entry], piece: &m
     }
     match held {
         Held::Pass(pass) => {
-            *piece = pass.list(first, last, room);
+            *piece = read_piece(&pass.tree.tree, &mut pass.pass, first, last, room);
             DONE
         }
         _ => MISUSE,

@@ -8,7 +8,7 @@ ghost use Rattle.ist_handles.specs.Results.{misuse};
 use ist_handles::{
     DONE, Entry, Handle, Held, MISUSE, PAIRS_LIMIT, Piece, Shortage, TreePass, TreeShot, refused,
 };
-use ist_scan::shot_words;
+use ist_scan::{Shot, shot_words};
 use std::alloc::Global;
 use std::mem;
 
@@ -30,7 +30,8 @@ fn take(taker: TreePass, words: u64, short: &mut Shortage, held: &mut Held) -> u
     ensures takes { TakesShot (Pass taker) held.new words result short.old short.new }
 {
     let mut pass = taker;
-    match pass.shot(words) {
+    let by = &mut pass;
+    match Shot::take_if_room(&by.tree.tree, &mut by.pass, words) {
         Ok(shot) => {
             *held = Held::Shot(TreeShot::of(pass, shot));
             DONE

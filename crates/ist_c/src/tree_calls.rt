@@ -155,7 +155,7 @@ fn take_in(alloc: Global, held: &mut Held, pass: &mut Handle) -> u32
                 *pass = Handle::of(given);
                 return MISUSE;
             }
-            owner.take_back(taken);
+            owner.tree.tree.take_back(&mut owner.maker, taken.pass);
             DONE
         }
         other => {

@@ -6,12 +6,11 @@ use Rattle.ist_tree.specs.declared.freezing.Frozen.{Frozen}
 use Rattle.ist_tree.specs.Faces.{PassFace}
 use Rattle.ist_live.specs.Pieces.{end_of}
 use Rattle.ist_scan.specs.Shots.{ArePairsOf, IsOf, map_seen}
-use Rattle.ist_handles.specs.declared.trees.NumberedTree.{NumberedTree}
+use Rattle.ist_handles.specs.declared.passes.TreePass.{TreePass}
 
--- a pass that took a shot: their tree, the pass, and the shot
+-- a pass that took a shot, and the shot
 pub record ShotFace : Type 0 where
-  pub tree : NumberedTree
-  pub pass : PassFace
+  pub taker : TreePass
   pub shot : Frozen
 
 -- the pairs are those of the shot from the first key of an interval up to the next piece; they are the

@@ -26,7 +26,7 @@ pub use crate::held::Held;
 pub use crate::opaques::Opaque;
 pub use crate::owners::{PAIRS_LIMIT, TreeOwner};
 pub use crate::passes::{TreeNote, TreePass};
-pub use crate::pieces::Piece;
+pub use crate::pieces::{Piece, read_piece};
 pub use crate::results::{
     BUSY, CallResult, DONE, FULL, MEMORY, MISUSE, NO_KEY, SMALL, Shortage, Stats, misused, refused,
     replied,

@@ -1,10 +1,9 @@
-//! The owner of a tree: it makes passes, takes them back, and closes the tree.
+//! The owner of a tree: it makes passes, and closes the tree.
 ghost use Rattle.std.specs.Prelude.{◌≡◌, ◌+◌, ◌<◌, ◌≤◌, ◌^◌, [], ◌∷◌, length, map, IfOk, IfErr, OnOk, OnErr};
 ghost use Rattle.std.specs.Arc.{arc_value};
 ghost use Rattle.std.specs.List.Sorted.{IsStrictlyIncreasing};
 ghost use Rattle.ist_core.specs.RowLayout.{place_limit};
 ghost use Rattle.ist_tree.specs.Closing.{ClosesWith};
-ghost use Rattle.ist_tree.specs.Faces.{calls_in};
 ghost use Rattle.ist_tree.specs.Opening.{IsNewTree, IsFaultOf};
 
 use crate::closed_trees::ClosedTree;
@@ -68,17 +67,6 @@ impl TreeOwner {
         let tree = Arc::try_clone(&self.tree)?;
         let pass = self.tree.tree.pass(&mut self.maker);
         Ok(TreePass { tree, pass })
-    }
-
-    /// Takes a pass of the tree back.
-    pub fn take_back(&mut self, given: TreePass)
-        requires same_tree { arc_value given.tree ≡ arc_value self.old.tree }
-        ensures tree { arc_value self.new.tree ≡ arc_value self.old.tree }
-        ensures taken { self.new.maker.taken ≡ calls_in given.pass ∷ self.old.maker.taken }
-        ensures made { self.new.maker.made ≡ self.old.maker.made }
-    {
-        let TreePass { tree: _, pass } = given;
-        self.tree.tree.take_back(&mut self.maker, pass);
     }
 
     /// Closes the tree and returns its words after the last call. If a pass or a note is out it returns the

@@ -44,13 +44,7 @@ pub(crate) fn next_piece(count: usize, from: u64) -> Piece
 
 /// Writes the pairs from `first` to `last`, as many as there is room for, by one search after another.
 /// Never blocks, never allocates, always returns.
-pub(crate) fn read_piece(
-    tree: &Tree,
-    pass: &mut Pass,
-    first: u64,
-    last: u64,
-    room: &mut [Entry],
-) -> Piece
+pub fn read_piece(tree: &Tree, pass: &mut Pass, first: u64, last: u64, room: &mut [Entry]) -> Piece
     requires same_tree { pass.old.tree ≡ tree.now }
     requires some { 0 < length room.old }
     ensures read { HasOnlyRead pass.old pass.new }

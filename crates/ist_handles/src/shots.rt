@@ -10,59 +10,44 @@ use crate::entries::Entry;
 use crate::passes::TreePass;
 use crate::pieces::Piece;
 use crate::shot_pieces::read_shot;
-use crate::trees::NumberedTree;
 use ist_scan::Shot;
-use ist_tree::Pass;
-use std::alloc::Global;
 use std::marker::Model;
-use std::sync::Arc;
 
-/// A pass that took a shot, with their tree and the shot. It reads the shot alone until that is dropped.
+/// A pass that took a shot, with the shot. It only reads the shot until that is dropped.
 ///
-/// Contracts see what the tree, the pass and the shot are.
+/// Contracts see the pass and what the shot is.
 #[derive(Drop)]
 pub struct TreeShot {
-    tree: Arc<NumberedTree, Global>,
-    pass: Pass,
+    taker: TreePass,
     shot: Shot,
 }
 
 impl Model for TreeShot {
-    ghost use Rattle.std.specs.Prelude.{◌≡◌};
-    ghost use Rattle.std.specs.Arc.{arc_value};
     ghost use Rattle.ist_tree.specs.Freezing.{IsFrozenFor};
     ghost use Rattle.ist_handles.specs.ShotPieces.{ShotFace};
 
     ghost Value = { ShotFace };
 
-    ghost view = { λ s. record { tree = arc_value s.tree; pass = s.pass; shot = s.shot } };
+    ghost view = { λ s. record { taker = s.taker; shot = s.shot } };
 
-    ghost invariant = { λ s. (s.pass.tree ≡ (arc_value s.tree).tree) × IsFrozenFor s.pass s.shot };
+    ghost invariant = { λ s. IsFrozenFor s.taker.pass s.shot };
 }
 
 impl TreeShot {
     /// Returns the pass with its shot.
     pub fn of(taker: TreePass, shot: Shot) -> TreeShot
         requires frozen { IsFrozenFor taker.pass shot }
-        ensures tree { result.tree ≡ arc_value taker.tree }
-        ensures pass { result.pass ≡ taker.pass }
+        ensures taker { result.taker ≡ taker }
         ensures shot { result.shot ≡ shot }
     {
-        let TreePass { tree, pass } = taker;
-        TreeShot { tree, pass, shot }
+        TreeShot { taker, shot }
     }
 
     /// Drops the shot, and returns the pass.
     pub fn into_pass(self) -> TreePass
-        ensures tree { arc_value result.tree ≡ self.tree }
-        ensures pass { result.pass ≡ self.pass }
+        ensures value { result ≡ self.taker }
     {
-        let TreeShot {
-            tree,
-            pass,
-            shot: _,
-        } = self;
-        TreePass { tree, pass }
+        self.taker
     }
 
     /// Returns how many pairs the shot has.
@@ -75,21 +60,16 @@ impl TreeShot {
     /// Writes the pairs of the shot from `first` to `last`, as many as there is room for.
     pub fn list(&mut self, first: u64, last: u64, room: &mut [Entry]) -> Piece
         requires some { 0 < length room.old }
-        ensures tree { self.new.tree ≡ self.old.tree }
+        ensures tree { arc_value self.new.taker.tree ≡ arc_value self.old.taker.tree }
         ensures shot { self.new.shot ≡ self.old.shot }
-        ensures looked { HasOnlyLooked self.old.pass self.new.pass }
-        ensures pairs { IsShotPiece self.old.pass self.old.shot first last (next_key result)
+        ensures looked { HasOnlyLooked self.old.taker.pass self.new.taker.pass }
+        ensures pairs { IsShotPiece self.old.taker.pass self.old.shot first last (next_key result)
             (pairs_in result.count room.new) }
         ensures within { result.count ≤ length room.new }
         ensures room { length room.new ≡ length room.old }
     {
-        read_shot(
-            &self.tree.tree,
-            &mut self.pass,
-            &self.shot,
-            first,
-            last,
-            room,
-        )
+        let taker = &mut self.taker;
+        let tree = &taker.tree.tree;
+        read_shot(tree, &mut taker.pass, &self.shot, first, last, room)
     }
 }

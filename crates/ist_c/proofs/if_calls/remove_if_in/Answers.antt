@@ -1,5 +1,5 @@
 -- A pass has updated the key if it was as expected, or was refused; a handle of something else is as before.
-use Rattle.std.proofs.Common.{Some, None}
+use Rattle.std.proofs.Common.{Some, None, refl}
 use Rattle.ist_c.specs.Conditions.{none_updates_if}
 use Rattle.ist_c.proofs.ConditionLemmas.{updated_if, was_refused_if}
 use Rattle.ist_c.proofs.if_calls.remove_if_in.Goals as goal
@@ -8,9 +8,9 @@ pub returns-in-Ok : goal.returns-in-Ok
 returns-in-Ok c =
     let e = c.remove_if.ensures in
     record {
-      updates = updated_if c.args.held.now c.in-Pass.pass c.remove_if.new.self c.args.key (Some c.args.expected)
+      updates = updated_if c.args.held.now c.in-Pass.pass _ c.args.key (Some c.args.expected)
           None c.remove_if.result c.in-Ok.reply c.replied.result c.args.short.now
-          c.in-Pass.is c.in-Ok.is e.tree e.seen e.removed e.got c.replied.ensures.status
+          c.in-Pass.is c.in-Ok.is refl e.seen e.removed e.got c.replied.ensures.status
           c.replied.ensures.reply;
     }
 
@@ -18,9 +18,9 @@ pub returns-in-Err : goal.returns-in-Err
 returns-in-Err c =
     let e = c.remove_if.ensures in
     record {
-      updates = was_refused_if c.args.held.now c.in-Pass.pass c.remove_if.new.self c.args.key
+      updates = was_refused_if c.args.held.now c.in-Pass.pass _ c.args.key
           (Some c.args.expected) None c.remove_if.result c.in-Err.numbers c.refused.result
-          c.args.short.now c.refused.new.shortage c.in-Pass.is c.in-Err.is e.tree e.seen e.full e.calls
+          c.args.short.now c.refused.new.shortage c.in-Pass.is c.in-Err.is refl e.seen e.full e.calls
           c.refused.ensures.status c.refused.ensures.numbers;
     }
 

@@ -1,5 +1,5 @@
 -- A pass has listed this; a handle of something else is as before.
-use Rattle.std.proofs.Common.{inl, inr, rules}
+use Rattle.std.proofs.Common.{inl, inr, refl, rules}
 use Rattle.ist_c.specs.Reads.{none_lists}
 use Rattle.ist_c.proofs.ReadLemmas.{read_range}
 use Rattle.ist_c.proofs.range_calls.list_in.Goals as goal
@@ -13,11 +13,11 @@ returns-then-is_empty c =
 
 pub returns-in-Pass : goal.returns-in-Pass
 returns-in-Pass c =
-    let e = c.list.ensures in
+    let e = c.read_piece.ensures in
     record {
-      lists = read_range c.args.held.now c.in-Pass.pass c.list.new.self c.args.first c.args.last
-          c.args.room.now c.list.new.room c.args.piece.now c.list.result c.in-Pass.is e.room (record {
-            read = record { same_tree = e.tree; read = e.read };
+      lists = read_range c.args.held.now c.in-Pass.pass _ c.args.first c.args.last
+          c.args.room.now c.read_piece.new.room c.args.piece.now c.read_piece.result c.in-Pass.is e.room (record {
+            read = record { same_tree = refl; read = e.read };
             within = e.within;
             pairs = e.pairs;
           });

@@ -5,10 +5,9 @@ use Rattle.ist_c.proofs.shot_calls.drop_in.Goals as goal
 
 pub returns-in-Shot : goal.returns-in-Shot
 returns-in-Shot c =
-    let e = c.into_pass.ensures in
     record {
       drops = dropped_shot c.args.held.now c.in-Shot.shot c.into_pass.result
-          (sym c.replace.ensures.value ∙ c.in-Shot.is) e.tree e.pass;
+          (sym c.replace.ensures.value ∙ c.in-Shot.is) c.into_pass.ensures.value;
     }
 
 pub returns-in_default : goal.returns-in_default
