@@ -5,7 +5,6 @@ use Rattle.ist_core.specs.declared.lists.HeldRow.{HeldRow}
 use Rattle.ist_core.specs.declared.events.Event.TheVariants.{Enter}
 use Rattle.ist_core.specs.RowLayout.{callers_place}
 use Rattle.ist_core.specs.Elements.{Among}
-use Rattle.ist_core.specs.StartLayout.{start}
 use Rattle.ist_core.specs.Fairness.{AreBuilds, no_build}
 use Rattle.ist_core.specs.Logs.{Log}
 use Rattle.ist_core.specs.Enabled.{CanEnter, caller_limit}

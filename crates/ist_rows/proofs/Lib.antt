@@ -14,6 +14,8 @@ pub mod SpareTakenLemmas
 pub mod GivenRowsLemmas
 pub mod CallerLawLemmas
 pub mod TakenLemmas
+pub mod FewLemmas
+pub mod FewStepLemmas
 pub mod DropLemmas
 pub mod FillingLemmas
 pub mod GoneLemmas

@@ -1,8 +1,12 @@
--- How many words a caller has taken in a log.
-use Rattle.std.specs.Prelude.{ℕ, ◌+◌, ◌==◌, if◌then◌else◌, [], ◌∷◌}
+-- How many words a caller has taken in a log, and whether that is few.
+use Rattle.std.specs.Prelude.{◌≡◌, ℕ, ◌+◌, ◌<◌, ◌≤◌, ◌==◌, if◌then◌else◌, List, [], ◌∷◌, Result, Ok, Err}
 use Rattle.ist_core.specs.declared.events.Event.{Event}
 use Rattle.ist_core.specs.declared.events.Event.TheVariants.{Reserve}
-use Rattle.ist_core.specs.Logs.{Log}
+use Rattle.ist_core.specs.declared.pairs.Pair.{Pair}
+use Rattle.ist_core.specs.declared.ports.Full.{Full}
+use Rattle.ist_core.specs.Logs.{GoesOn, Log}
+use Rattle.ist_core.specs.Spending.{spent}
+use Rattle.ist_rows.specs.declared.callers.Caller.{Caller}
 
 -- how many words an event takes for this caller
 abbrev pub taken_at : ℕ → Event → ℕ
@@ -13,3 +17,50 @@ taken_at number _ = 0
 abbrev pub taken_by : ℕ → Log → ℕ
 taken_by number [] = 0
 taken_by number (event ∷ log) = taken_by number log + taken_at number event
+
+-- ---- few words
+
+-- after a log between these too few words were left for rows with which the caller would have taken
+-- at most n words since the earlier log
+pub record RanOut (number n words : ℕ) (pairs : List Pair) (earlier log : Log) : Type 0 where
+  pub at : Log
+  pub since : GoesOn earlier at
+  pub until : GoesOn at log
+  pub asked : ℕ
+  pub few : taken_by number at + asked ≤ taken_by number earlier + n
+  pub small : words < spent pairs at + asked
+
+-- since the earlier log the caller took at most n words, and so many less that `left` of the n are
+-- left; or the words ran out for that
+pub data TakesFew (number n left words : ℕ) (pairs : List Pair) (earlier log : Log) : Type 0 where
+  took_few : taken_by number log + left ≤ taken_by number earlier + n
+      → TakesFew number n left words pairs earlier log
+  ran_out : RanOut number n words pairs earlier log
+      → TakesFew number n left words pairs earlier log
+
+-- the later state is of the same caller, with the same table and a longer log
+pub record IsLaterCaller (old new : Caller) : Type 0 where
+  pub number : new.number ≡ old.number
+  pub start : new.token.view.start ≡ old.token.view.start
+  pub words : new.token.view.words ≡ old.token.view.words
+  pub on : GoesOn old.token.view.log new.token.view.log
+
+-- the caller went on and took no words
+pub record TakesNoWords (old new : Caller) : Type 0 where
+  pub later : IsLaterCaller old new
+  pub none : taken_by old.number new.token.view.log ≡ taken_by old.number old.token.view.log
+
+-- the words ran out so for the caller
+abbrev pub HasRunOut : ℕ → Caller → Caller → Type 0
+HasRunOut n old new =
+    let v = old.token.view in RanOut old.number n v.words v.start v.log new.token.view.log
+
+-- the caller took few words so
+abbrev pub HasTakenFew : ℕ → ℕ → Caller → Caller → Type 0
+HasTakenFew n left old new =
+    let v = old.token.view in TakesFew old.number n left v.words v.start v.log new.token.view.log
+
+-- so it did in a call with this result: if that is an error, the words ran out
+abbrev pub HasTakenFewIn : {A : Type 0} → Result A Full → ℕ → ℕ → Caller → Caller → Type 0
+HasTakenFewIn (Ok x) n left old new = HasTakenFew n left old new
+HasTakenFewIn (Err full) n left old new = HasRunOut n old new

@@ -1,0 +1,212 @@
+-- Steps that take few words, or none, or for which too few are left. Serves the crates above.
+use Rattle.std.proofs.Common.{◌≡◌, ℕ, ◌+◌, ◌<◌, List, [], ◌∷◌, Result, refl, sym, ap, ◌∙◌, subst, arith}
+use Rattle.std.specs.List.{sum}
+use Rattle.std.proofs.lemmas.List.Sums.{sum_by-cons}
+use Rattle.ist_core.specs.declared.events.Event.{Event}
+use Rattle.ist_core.specs.declared.events.Event.TheVariants.{Reserve}
+use Rattle.ist_core.specs.declared.events.Who.TheVariants.{Caller as CallerOf}
+use Rattle.ist_core.specs.declared.ports.Full.{Full}
+use Rattle.ist_core.specs.Authors.{Later, LaterBy}
+use Rattle.ist_core.specs.Logs.{GoesOn, Log, one_event, same_log}
+use Rattle.ist_core.specs.RowLayout.{next_place}
+use Rattle.ist_core.specs.Spending.{spent}
+use Rattle.ist_core.proofs.PrefixLemmas.{goes_on_by}
+use Rattle.ist_core.proofs.SpendingLemmas.{words_are_spent}
+use Rattle.ist_rule.specs.declared.view.View.{View}
+use Rattle.ist_rule.specs.Going.{WentOn}
+use Rattle.ist_rule.specs.Faces.{TokenFace}
+use Rattle.ist_rule.specs.Learning.{GoesOnTo, Logged, LoggedLoad, Looked}
+use Rattle.ist_rule.specs.Several.{with_events}
+use Rattle.ist_rule.proofs.GoingOnLemmas.{goes_on_who, looked_goes_on}
+use Rattle.ist_rule.proofs.LaterLemmas.{later_more}
+use Rattle.ist_rule.proofs.WentOnLemmas.{goes_on_went}
+use Rattle.ist_rows.specs.declared.callers.Caller.{Caller}
+use Rattle.ist_rows.specs.Block.{HasNoRoom, ReservedAll, reservings}
+use Rattle.ist_rows.specs.CallerLaws.{KeepsRows}
+use Rattle.ist_rows.specs.Rows.{IsCaller, IsFull, Reserved}
+use Rattle.ist_rows.specs.Taken.{HasRunOut, HasTakenFew, HasTakenFewIn, TakesNoWords, IsLaterCaller, RanOut, taken_at, taken_by, took_few}
+use Rattle.ist_rows.proofs.ReserveLemmas.{looked_next}
+use Rattle.ist_rows.proofs.TakenLemmas.{own_takes, taken_keeps, taken_later, taken_reserved}
+use Rattle.ist_rows.proofs.FewLemmas.{later_went, later_twice, few_more, few_then}
+
+-- ---- steps that take none
+
+-- then all that the caller may take is left
+pub few_none : (n : ℕ) (old new : Caller) → TakesNoWords old new → HasTakenFew n n old new
+few_none n old new h = let none = h.none in took_few (omega arith)
+
+-- and none of it is too many
+pub few_any : (n : ℕ) (old new : Caller) → TakesNoWords old new → HasTakenFew n 0 old new
+few_any n old new h = let none = h.none in took_few (omega arith)
+
+-- nothing was done
+pub few_same : (n : ℕ) (who : Caller) → HasTakenFew n n who who
+few_same n who = took_few (omega arith)
+
+-- after other steps as few words were taken
+pub few_kept : (n left : ℕ) (old mid new : Caller) → IsLaterCaller old mid → TakesNoWords mid new
+    → HasTakenFew n left old mid → HasTakenFew n left old new
+few_kept n left old mid new a h f =
+    few_more old mid new a h.later n left left f (few_none left mid new h)
+
+-- before a call too
+pub few_call : {A : Type 0} (r : Result A Full) (n left : ℕ) (old mid new : Caller)
+    → TakesNoWords old mid → IsLaterCaller mid new → HasTakenFewIn r n left mid new
+    → HasTakenFewIn r n left old new
+few_call r n left old mid new h b f =
+    few_then old mid new h.later b n n left r (few_none n old mid h) f
+
+-- twice
+pub none_more : (old mid new : Caller) → TakesNoWords old mid → TakesNoWords mid new
+    → TakesNoWords old new
+none_more old mid new a b =
+    record {
+      later = later_twice old mid new a.later b.later;
+      none = subst (λ k. taken_by k new.token.view.log ≡ taken_by k mid.token.view.log) a.later.number
+          b.none ∙ a.none;
+    }
+
+-- nothing was done
+pub none_same : (who : Caller) → TakesNoWords who who
+none_same who =
+    record {
+      later = record { number = refl; start = refl; words = refl; on = same_log };
+      none = refl;
+    }
+
+-- by events that reserve nothing
+pub none_kept : (P : Event → Type 0) → ((event : Event) → P event → KeepsRows event)
+    → (old new : Caller) → new.number ≡ old.number → old.token.view.who ≡ CallerOf old.number
+    → WentOn P old.token.view new.token.view → TakesNoWords old new
+none_kept P keeps old new number mine went =
+    let v = old.token.view in
+    let w = new.token.view in
+    record {
+      later = later_went P old new number went;
+      none = taken_keeps old.number keeps (subst (λ x. LaterBy x P v.log w.log) mine went.later);
+    }
+
+-- by loads
+pub none_seen : (old new : Caller) → new.number ≡ old.number
+    → old.token.view.who ≡ CallerOf old.number → GoesOnTo old.token.view new.token.view
+    → TakesNoWords old new
+none_seen old new number mine g =
+    none_kept (λ event. ⊥) (λ event is. absurd is) old new number mine
+    (goes_on_went (λ event. ⊥) old.token.view new.token.view g)
+
+-- by loads of its token
+pub none_loads : (who : Caller) (token : TokenFace) → who.token.view.who ≡ CallerOf who.number
+    → GoesOnTo who.token.view token.view → TakesNoWords who (record who { token = token })
+none_loads who token mine g = none_seen who (record who { token = token }) refl mine g
+
+module _ (who : Caller) (token : TokenFace) (mine : who.token.view.who ≡ CallerOf who.number)
+    (event : Event) where
+  by_event : taken_at who.number event ≡ 0 → (before : Log)
+      → Later who.token.view.who who.token.view.log before
+      → token.view.log ≡ event ∷ before → token.view.start ≡ who.token.view.start
+      → token.view.words ≡ who.token.view.words → TakesNoWords who (record who { token = token })
+  by_event nothing before later log_is start_is words_is =
+      let others = taken_later who.number
+      (subst (λ x. Later x who.token.view.log before) mine later) in
+      let all = ap (taken_by who.number) log_is in
+      record {
+        later = record {
+          number = refl;
+          start = start_is;
+          words = words_is;
+          on = subst (GoesOn who.token.view.log) (sym log_is) (one_event event (goes_on_by later));
+        };
+        none = omega arith;
+      }
+
+  -- by an event that reserves nothing
+  pub none_logged : Logged who.token.view event token.view → taken_at who.number event ≡ 0
+      → TakesNoWords who (record who { token = token })
+  none_logged l nothing =
+      by_event nothing l.before l.later (ap (λ x. x.log) l.view) (ap (λ x. x.start) l.view)
+      (ap (λ x. x.words) l.view)
+
+  -- by one that came at a load
+  pub none_logged_load : (place word : ℕ) → LoggedLoad who.token.view event place word token.view
+      → taken_at who.number event ≡ 0 → TakesNoWords who (record who { token = token })
+  none_logged_load place word l nothing =
+      by_event nothing l.before l.later (ap (λ x. x.log) l.view) (ap (λ x. x.start) l.view)
+      (ap (λ x. x.words) l.view)
+
+-- ---- reservings
+
+-- the words of a row
+pub few_reserved : (old new : Caller) → IsCaller old → (base size : ℕ)
+    → Reserved old.token.view old.number base size new.token.view → HasTakenFew size 0 old new
+few_reserved old new c base size r =
+    let is = taken_reserved old.token.view old.number base size new.token.view c.mine r in
+    took_few (omega arith)
+
+-- the words of several rows
+taken_all : (number base : ℕ) (sizes : List ℕ) (log : Log)
+    → taken_by number (with_events (reservings number base sizes) log)
+    ≡ taken_by number log + sum sizes
+taken_all number base [] log = let h : taken_by number log ≡ taken_by number log + 0 = omega arith in h
+taken_all number base (size ∷ more) log =
+    let rest = taken_all number (base + size) more (Reserve number base size ∷ log) in
+    let here = own_takes number base size in
+    let all : sum (size ∷ more) ≡ size + sum more = sum_by-cons (λ x. x) size more in
+    omega arith
+
+pub few_reserved_all : (old new : Caller) → IsCaller old → (base : ℕ) (sizes : List ℕ)
+    → ReservedAll old.token.view old.number base sizes new.token.view
+    → HasTakenFew (sum sizes) 0 old new
+few_reserved_all old new c base sizes r =
+    let v = old.token.view in
+    let l = r.reserved in
+    let log = with_events (reservings old.number base sizes) l.before in
+    let later = later_more r.seen.later (subst (λ x. Later x r.before.log l.before)
+    (goes_on_who r.seen) l.later) in
+    let others = taken_later old.number (subst (λ x. Later x v.log l.before) c.mine later) in
+    let rows = taken_all old.number base sizes l.before in
+    let is : taken_by old.number new.token.view.log ≡ taken_by old.number log
+    = ap (λ (x : View). taken_by old.number x.log) l.view in
+    took_few (omega arith)
+
+-- ---- refusals
+
+-- a load of the first free word that left too few words
+looked_out : (who : Caller) → IsCaller who → (u : View) (next asked : ℕ) (w : View)
+    → GoesOnTo who.token.view u → Looked u next_place next w
+    → who.token.view.words < next + asked
+    → RanOut who.number asked who.token.view.words who.token.view.start who.token.view.log w.log
+looked_out who c u next asked w g looked small =
+    let v = who.token.view in
+    let to = looked_goes_on u next_place next w looked in
+    let later = later_more g.later (subst (λ x. Later x u.log w.log) (goes_on_who g) to.later) in
+    let none = taken_later who.number (subst (λ x. Later x v.log w.log) c.mine later) in
+    let start_is : w.start ≡ v.start = ap (λ x. x.start) to.same ∙ ap (λ x. x.start) g.same in
+    let next_is : next ≡ spent v.start w.log =
+    looked_next u next w looked ∙ words_are_spent w.start w.words w.log to.sound.lawful
+    ∙ ap (λ p. spent p w.log) start_is in
+    record {
+      at = w.log;
+      since = goes_on_by later;
+      until = same_log;
+      asked = asked;
+      few = omega arith;
+      small = omega arith;
+    }
+
+-- a reserving that was refused
+pub full_out : (old new : Caller) → IsCaller old → (words size : ℕ) (full : Full)
+    → words ≡ old.token.view.words → IsFull old.token.view words size full new.token.view
+    → HasRunOut size old new
+full_out old new c words size full words_is f =
+    let s = f.short in
+    let small = s.small in
+    let asked = f.asked in
+    looked_out old c s.before full.next size new.token.view s.seen s.looked (omega arith)
+
+-- one of several rows
+pub no_room_out : (old new : Caller) → IsCaller old → (words asked : ℕ)
+    → words ≡ old.token.view.words → HasNoRoom old.token.view words asked new.token.view
+    → HasRunOut asked old new
+no_room_out old new c words asked words_is h =
+    let small = h.small in
+    looked_out old c h.read.before h.next asked new.token.view h.read.seen h.read.looked (omega arith)
