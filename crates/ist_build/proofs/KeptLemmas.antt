@@ -25,15 +25,18 @@ shared_back old new s b h =
       degree_is = h.degree_is;
     }
 
+-- a target stays finished
+pub told_back : (old new : Caller) (rebuild k : ℕ) → IsBack old new
+    → IsTold (now old.token.view) rebuild k → IsTold (now new.token.view) rebuild k
+told_back old new rebuild k b told =
+    told_on (now old.token.view) (now new.token.view)
+    (put_grow old.token.view new.token.view b.put) rebuild k told
+
 -- a rebuild that may be built stays one
 pub buildable_back : (old new : Caller) (rebuild : ℕ) → IsBack old new
     → IsBuildable (now old.token.view) rebuild → IsBuildable (now new.token.view) rebuild
 buildable_back old new rebuild b h =
-    record {
-      k = h.k;
-      told = told_on (now old.token.view) (now new.token.view)
-          (put_grow old.token.view new.token.view b.put) rebuild h.k h.told;
-    }
+    record { k = h.k; told = told_back old new rebuild h.k b h.told }
 
 -- a rebuild with a root keeps one
 pub rooted_back : (old new : Caller) (rebuild : ℕ) → IsBack old new

@@ -43,3 +43,5 @@ pub mod FilledLemmas
 pub mod KeptLemmas
 pub mod FillLemmas
 pub mod AnswerLemmas
+pub mod FewLemmas
+pub mod LeftLemmas

@@ -1,6 +1,6 @@
 -- Lists that rise, filters, and lists of held rows by their bases. Serves the calls that put a build in
 -- place.
-use Rattle.std.proofs.Common.{◌≡◌, ℕ, ◌<◌, ◌≤◌, Bool, true, false, if◌then◌else◌, List, [], ◌∷◌, ◌++◌, length, map, filter, refl, sym, ap, ap₂, ◌∙◌, subst, inl, inr, ⊎_elim, length-append, arith}
+use Rattle.std.proofs.Common.{◌≡◌, ℕ, ◌<◌, ◌≤◌, Bool, true, false, if◌then◌else◌, List, [], ◌∷◌, ◌++◌, length, map, filter, refl, sym, ap, ap₂, subst, inl, inr, ⊎_elim, length-append, arith}
 use Rattle.ist_core.specs.declared.lists.HeldRow.{HeldRow}
 use Rattle.ist_core.specs.Elements.{Among, Distinct}
 use Rattle.ist_core.proofs.ElementLemmas.{among-append, among_left, among_right, each-among, each_append}

@@ -1,5 +1,6 @@
 -- What the calls of this crate require, and what they promise.
-use Rattle.std.specs.Prelude.{◌≡◌, ◌≢◌, ℕ, ◌<◌, ◌≤◌, List, slice_get, Some}
+use Rattle.std.specs.Prelude.{◌≡◌, ◌≢◌, ℕ, ◌-◌, ◌<◌, ◌≤◌, nat_lt, if◌then◌else◌, List, slice_get, Some}
+use Rattle.std.specs.List.{sum}
 use Rattle.ist_core.specs.declared.events.Event.{Event}
 use Rattle.ist_core.specs.declared.events.Event.TheVariants.{Reserve, Root, Draw, Place, Lose}
 use Rattle.ist_core.specs.declared.lists.Row.{Row}
@@ -11,7 +12,8 @@ use Rattle.ist_core.specs.Leaves.{PlacedLeaf}
 use Rattle.ist_core.specs.Pieces.{Rebuild, with_inners}
 use Rattle.ist_core.specs.Rebuilding.{IsStarted, IsFinishedWith, IsBuilt}
 use Rattle.ist_core.specs.References.{Ref, LeafAt, ref_of, unset_word}
-use Rattle.ist_core.specs.Shapes.{share_from}
+use Rattle.ist_core.specs.RowLayout.{inner_words}
+use Rattle.ist_core.specs.Shapes.{shape, share_from}
 use Rattle.ist_core.specs.Snapshots.{Snapshot, bases_of}
 use Rattle.ist_rule.specs.declared.view.View.{View}
 use Rattle.ist_rule.specs.Going.{WentOn}
@@ -73,6 +75,17 @@ Builds (Draw caller rebuild part) = Unit {0}
 Builds (Place caller rebuild i word rows) = Unit {0}
 Builds (Lose caller bases) = Unit {0}
 Builds _ = ⊥
+
+-- ---- how many words it takes
+
+-- the words of the rows of a root over k keys: of the whole ideal tree if they are few, and else of
+-- its top row only
+abbrev pub root_words : ℕ → ℕ
+root_words k = if nat_lt k share_from then sum (shape k) else inner_words (degree k)
+
+-- the words of all other rows of the ideal tree of k keys
+abbrev pub parts_words : ℕ → ℕ
+parts_words k = sum (shape k) - root_words k
 
 -- ---- what is promised
 

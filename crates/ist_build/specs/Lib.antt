@@ -4,6 +4,7 @@ pub mod Calls
 -- what the functions inside this crate promise each other
 pub mod Putting
 pub mod Back
+pub mod Left
 pub mod Midway
 pub mod Reading
 pub mod Naming

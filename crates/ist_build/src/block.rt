@@ -9,8 +9,9 @@ ghost use Rattle.ist_rule.specs.Rule.{own_at};
 ghost use Rattle.ist_rule.specs.Learning.{now, GoesOnTo};
 ghost use Rattle.ist_rows.specs.Rows.{IsCaller, spares_of};
 ghost use Rattle.ist_rows.specs.Building.{HasTaken, HasRefused};
+ghost use Rattle.ist_rows.specs.Taken.{HasTakenFewIn};
 ghost use Rattle.ist_build.specs.Laying.{BuiltOn, HaveLeaves, AreKeysOf, ArePlaced, IsLaid, AreNextRows, IsShort, IsWritten, IsLaidBelow};
-ghost use Rattle.ist_rows.specs.Block.{HoldsBlock, ReservedAll};
+ghost use Rattle.ist_rows.specs.Block.{HasNoRoom, HoldsBlock, ReservedAll};
 
 use crate::building::{build, open_row, set_part, small_word};
 use ist_core::Full;
@@ -82,6 +83,8 @@ fn reserve_shape(table: &TreeTable, who: &mut Caller, size: u64) -> Option<u32>
         ReservedAll who.old.token.view who.old.number base (shape size) who.new.token.view) }
     ensures taken { IfSome result (λ base. HasTaken who.old (shape size) who.new) }
     ensures none { result ≡ None → GoesOnTo who.old.token.view who.new.token.view }
+    ensures full { result ≡ None → HasNoRoom who.old.token.view (word_count_of table.now)
+        (sum (shape size)) who.new.token.view }
 {
     let inner = ideal_words(size) - 2 * size;
     reserve_block(table, who, inner)
@@ -110,6 +113,8 @@ pub(crate) fn build_at_once(
         → ArePlaced (now who.old.token.view) leaves.now placed
         → IsLaid who.new.token.view who.new.number (now who.old.token.view).next word placed) }
     ensures taken { IfOk result (λ word. HasTaken who.old (shape (length leaves.now)) who.new) }
+    ensures few { let n = sum (shape (length leaves.now)) in
+        2 ≤ length leaves.now → HasTakenFewIn result n 0 who.old who.new }
     ensures full { IfErr result (λ full. IsShort who.old.token.view (word_count_of table.now)
         (length leaves.now) full who.new.token.view) }
     ensures refused { IfErr result (λ full. HasRefused who.new) }

@@ -9,7 +9,9 @@ ghost use Rattle.ist_rule.specs.Going.{WentOn, KeepsWords};
 ghost use Rattle.ist_rule.specs.Learning.{now, GoesOnTo};
 ghost use Rattle.ist_rows.specs.Rows.{IsCaller, spares_of};
 ghost use Rattle.ist_rows.specs.Building.{HasRefused, IsInBuild, sizes_built};
-ghost use Rattle.ist_build.specs.Calls.{HasKeys, MayBuild, IsBuildable, IsPartLaid, IsLeafAmong};
+ghost use Rattle.ist_rows.specs.Taken.{HasTakenFewIn};
+ghost use Rattle.ist_build.specs.Calls.{HasKeys, MayBuild, IsBuildable, IsTold, IsPartLaid, IsLeafAmong};
+ghost use Rattle.ist_build.specs.Calls.{parts_words, root_words};
 ghost use Rattle.ist_build.specs.Calls.{Builds, HasRootAs, IsRooted, IsBuiltOut, IsOutOfWords, RebuildIsShort};
 
 use crate::descent::leaf_base;
@@ -132,6 +134,8 @@ pub fn set_root(table: &TreeTable, who: &mut Caller, rebuild: u32) -> Result<Ref
     ensures words { KeepsWords who.old.token.view who.new.token.view }
     ensures root { IfOk result (λ root.
         HasRootAs (now who.new.token.view) rebuild (ref_meant root)) }
+    ensures few { (k : ℕ) → IsTold (now who.old.token.view) rebuild k
+        → HasTakenFewIn result (root_words k) 0 who.old who.new }
     ensures full { IfErr result (λ full.
         RebuildIsShort who.old.token.view rebuild (word_count_of table.now) full who.new.token.view) }
     ensures refused { HasRefused who.new }
@@ -162,6 +166,8 @@ pub fn fill_parts(table: &TreeTable, who: &mut Caller, rebuild: u32) -> Result<(
     ensures went { WentOn Builds who.old.token.view who.new.token.view }
     ensures words { KeepsWords who.old.token.view who.new.token.view }
     ensures filled { IfOk result (λ done. IsBuiltOut (now who.new.token.view) rebuild) }
+    ensures few { (k : ℕ) → IsTold (now who.old.token.view) rebuild k
+        → HasTakenFewIn result (parts_words k) 0 who.old who.new }
     ensures full { IfErr result (λ full.
         RebuildIsShort who.old.token.view rebuild (word_count_of table.now) full who.new.token.view) }
     ensures refused { HasRefused who.new }

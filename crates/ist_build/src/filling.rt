@@ -1,15 +1,19 @@
 //! The parts of a shared root: building those that are Unset, and putting them in place.
-ghost use Rattle.std.specs.Prelude.{◌≡◌, ◌≢◌, ℕ, ◌<◌, ◌≤◌, IfOk, IfErr};
+ghost use Rattle.std.specs.Prelude.{◌≡◌, ◌≢◌, ℕ, ◌<◌, ◌≤◌, false, IfOk, IfErr};
+ghost use Rattle.std.specs.List.{sum};
+ghost use Rattle.ist_core.specs.Arithmetic.{part_len};
 ghost use Rattle.ist_core.specs.Marking.{HasTarget};
 ghost use Rattle.ist_core.specs.References.{unset_word};
-ghost use Rattle.ist_core.specs.Shapes.{share_from};
+ghost use Rattle.ist_core.specs.Shapes.{shape, share_from};
 ghost use Rattle.ist_core.specs.RowLayout.{slot_place};
 ghost use Rattle.ist_rule.specs.Faces.{word_count_of};
 ghost use Rattle.ist_rule.specs.Learning.{now, ExchangedOrLost};
 ghost use Rattle.ist_rule.specs.Conditions.{CanExchangeOrLose};
+ghost use Rattle.ist_rows.specs.Taken.{HasTakenFewIn, TakesNoWords};
 ghost use Rattle.laws_coming.specs.Builds.{WasUnset};
 ghost use Rattle.ist_build.specs.Naming.{placing, losing};
-ghost use Rattle.ist_build.specs.Calls.{IsTold, IsBuildable, IsRooted, IsBuiltOut};
+ghost use Rattle.ist_build.specs.Calls.{IsTold, IsBuildable, IsRooted, IsBuiltOut, parts_words};
+ghost use Rattle.ist_build.specs.Left.{left_for, slot_is_set};
 ghost use Rattle.ist_build.specs.Putting.{IsSlotSet, IsStopped};
 ghost use Rattle.ist_build.specs.Back.{IsFreeToBuild, IsBack, IsSharedAs, IsPartMade, PartWasMade, EndsPart};
 
@@ -30,7 +34,10 @@ fn slot_of(table: &TreeTable, who: &mut Caller, shared: Shared, i: u64) -> u64
     requires within { i < shared.degree }
     ensures same_table { who.new.token.table ≡ table.now.table }
     ensures back { IsBack who.old who.new }
+    ensures none { TakesNoWords who.old who.new }
     ensures set { result ≢ unset_word → IsSlotSet (now who.new.token.view) shared.root i }
+    ensures vacant { result ≡ unset_word
+        → slot_is_set ((now who.new.token.view).pieces shared.root) i ≡ false }
     ensures unset { result ≡ unset_word → WasUnset who.new.token.view who.new.number
         (slot_place shared.root shared.degree i) }
 {
@@ -70,6 +77,7 @@ fn put_slot(table: &TreeTable, who: &mut Caller, shared: Shared, i: u64, word: u
     requires made { PartWasMade who.old shared i word }
     ensures same_table { who.new.token.table ≡ table.now.table }
     ensures put { EndsPart who.old shared i word who.new }
+    ensures none { TakesNoWords who.old who.new }
 {
     know(&who.token);
     let place = slot_place(shared.root, shared.degree, i);
@@ -86,6 +94,8 @@ fn build_slot(table: &TreeTable, who: &mut Caller, shared: Shared, i: u64) -> Re
         (slot_place shared.root shared.degree i) }
     ensures same_table { who.new.token.table ≡ table.now.table }
     ensures made { IfOk result (λ word. IsPartMade who.old who.new shared i word) }
+    ensures few { let n = sum (shape (part_len shared.keys i)) in
+        HasTakenFewIn result n 0 who.old who.new }
     ensures back { IfErr result (λ full. IsBack who.old who.new) }
     ensures full { IfErr result (λ full. IsStopped who.old.token.view shared.rebuild
         (word_count_of table.now) full who.new.token.view) }
@@ -103,6 +113,8 @@ fn fill_slot(table: &TreeTable, who: &mut Caller, shared: Shared, i: u64) -> Res
     requires within { i < shared.degree }
     ensures same_table { who.new.token.table ≡ table.now.table }
     ensures back { IsBack who.old who.new }
+    ensures few { let left = left_for who.new shared in
+        HasTakenFewIn result (left_for who.old shared) left who.old who.new }
     ensures set { IfOk result (λ done. IsSlotSet (now who.new.token.view) shared.root i) }
     ensures full { IfErr result (λ full. IsStopped who.old.token.view shared.rebuild
         (word_count_of table.now) full who.new.token.view) }
@@ -124,6 +136,7 @@ fn draw(table: &TreeTable, who: &mut Caller, shared: Shared) -> u64
     requires shared { IsSharedAs (now who.old.token.view) shared }
     ensures same_table { who.new.token.table ≡ table.now.table }
     ensures back { IsBack who.old who.new }
+    ensures none { TakesNoWords who.old who.new }
 {
     know(&who.token);
     let place = u64::from(shared.rebuild) + REBUILD_DRAW_OFFSET;
@@ -142,6 +155,8 @@ fn fill_drawn(table: &TreeTable, who: &mut Caller, shared: Shared) -> Result<(),
     requires shared { IsSharedAs (now who.old.token.view) shared }
     ensures same_table { who.new.token.table ≡ table.now.table }
     ensures back { IsBack who.old who.new }
+    ensures few { let left = left_for who.new shared in
+        HasTakenFewIn result (left_for who.old shared) left who.old who.new }
     ensures full { IfErr result (λ full. IsStopped who.old.token.view shared.rebuild
         (word_count_of table.now) full who.new.token.view) }
 {
@@ -163,6 +178,8 @@ fn fill_unset(table: &TreeTable, who: &mut Caller, shared: Shared) -> Result<(),
     requires shared { IsSharedAs (now who.old.token.view) shared }
     ensures same_table { who.new.token.table ≡ table.now.table }
     ensures back { IsBack who.old who.new }
+    ensures few { let left = left_for who.new shared in
+        HasTakenFewIn result (left_for who.old shared) left who.old who.new }
     ensures filled { IfOk result (λ done. IsBuiltOut (now who.new.token.view) shared.rebuild) }
     ensures full { IfErr result (λ full. IsStopped who.old.token.view shared.rebuild
         (word_count_of table.now) full who.new.token.view) }
@@ -181,6 +198,8 @@ fn fill_shared(table: &TreeTable, who: &mut Caller, shared: Shared) -> Result<()
     requires shared { IsSharedAs (now who.old.token.view) shared }
     ensures same_table { who.new.token.table ≡ table.now.table }
     ensures back { IsBack who.old who.new }
+    ensures few { let left = left_for who.new shared in
+        HasTakenFewIn result (left_for who.old shared) left who.old who.new }
     ensures filled { IfOk result (λ done. IsBuiltOut (now who.new.token.view) shared.rebuild) }
     ensures full { IfErr result (λ full. IsStopped who.old.token.view shared.rebuild
         (word_count_of table.now) full who.new.token.view) }
@@ -199,8 +218,10 @@ fn shared_root(table: &TreeTable, who: &mut Caller, rebuild: u32, target: Target
     requires many { share_from ≤ target.keys }
     ensures same_table { who.new.token.table ≡ table.now.table }
     ensures back { IsBack who.old who.new }
+    ensures none { TakesNoWords who.old who.new }
     ensures shared { IsSharedAs (now who.new.token.view) result }
     ensures rebuild { result.rebuild ≡ rebuild }
+    ensures keys { result.keys ≡ target.keys }
 {
     know(&who.token);
     // The word of an inner row is 8 * base + 2.
@@ -228,6 +249,7 @@ fn fill_many(table: &TreeTable, who: &mut Caller, rebuild: u32, target: Target) 
     requires many { share_from ≤ target.keys }
     ensures same_table { who.new.token.table ≡ table.now.table }
     ensures back { IsBack who.old who.new }
+    ensures few { HasTakenFewIn result (parts_words target.keys) 0 who.old who.new }
     ensures filled { IfOk result (λ done. IsBuiltOut (now who.new.token.view) rebuild) }
     ensures full { IfErr result (λ full.
         IsStopped who.old.token.view rebuild (word_count_of table.now) full who.new.token.view) }
@@ -249,6 +271,8 @@ pub(crate) fn fill_root(table: &TreeTable, who: &mut Caller, rebuild: u32) -> Re
     requires rooted { IsRooted (now who.old.token.view) rebuild }
     ensures same_table { who.new.token.table ≡ table.now.table }
     ensures back { IsBack who.old who.new }
+    ensures few { (k : ℕ) → IsTold (now who.old.token.view) rebuild k
+        → HasTakenFewIn result (parts_words k) 0 who.old who.new }
     ensures filled { IfOk result (λ done. IsBuiltOut (now who.new.token.view) rebuild) }
     ensures full { IfErr result (λ full.
         IsStopped who.old.token.view rebuild (word_count_of table.now) full who.new.token.view) }

@@ -1,5 +1,6 @@
 //! Leaves and parts of a finished target.
 ghost use Rattle.std.specs.Prelude.{◌≡◌, ◌+◌, ◌<◌, ◌≤◌, ℕ, List, [], ◌∷◌, length, map, take, drop, Some, IfOk, IfErr};
+ghost use Rattle.std.specs.List.{sum};
 ghost use Rattle.ist_core.specs.Leaves.{PlacedLeaf, HasLeaves};
 ghost use Rattle.ist_core.specs.Rebuilding.{IsFinishedWith};
 ghost use Rattle.ist_core.specs.References.{InnerAt};
@@ -9,6 +10,7 @@ ghost use Rattle.ist_rule.specs.Faces.{word_count_of};
 ghost use Rattle.ist_rule.specs.Learning.{now, GoesOnTo};
 ghost use Rattle.ist_rows.specs.Rows.{IsCaller, spares_of};
 ghost use Rattle.ist_rows.specs.Building.{HasTaken, HasRefused, IsInBuild, sizes_built};
+ghost use Rattle.ist_rows.specs.Taken.{HasTakenFewIn};
 ghost use Rattle.ist_build.specs.Calls.{MayBuild, HasKeys};
 ghost use Rattle.ist_build.specs.Laying.{BuiltOn, AreKeysOf, IsLaid, AreNextRows, IsShort};
 ghost use Rattle.ist_build.specs.Reading.{HasReadOut};
@@ -80,6 +82,8 @@ fn build_read(
         → IsLaid who.new.token.view who.new.number (now who.old.token.view).next word
         (take (length leaves.old) (drop start all))) }
     ensures taken { IfOk result (λ word. HasTaken who.old (shape (length leaves.old)) who.new) }
+    ensures few { let n = sum (shape (length leaves.old)) in
+        2 ≤ length leaves.old → HasTakenFewIn result n 0 who.old who.new }
     ensures full { IfErr result (λ full. IsShort who.old.token.view (word_count_of table.now)
         (length leaves.old) full who.new.token.view) }
     ensures refused { IfErr result (λ full. HasRefused who.new) }
@@ -111,6 +115,7 @@ fn build_few(
         → IsLaid who.new.token.view who.new.number (now who.old.token.view).next word
         (take len (drop start all))) }
     ensures taken { IfOk result (λ word. HasTaken who.old (shape len) who.new) }
+    ensures few { 2 ≤ len → HasTakenFewIn result (sum (shape len)) 0 who.old who.new }
     ensures full { IfErr result (λ full. IsShort who.old.token.view (word_count_of table.now) len
         full who.new.token.view) }
     ensures refused { IfErr result (λ full. HasRefused who.new) }
@@ -150,6 +155,7 @@ fn build_many(
         → IsLaid who.new.token.view who.new.number (now who.old.token.view).next word
         (take len (drop start all))) }
     ensures taken { IfOk result (λ word. HasTaken who.old (shape len) who.new) }
+    ensures few { 2 ≤ len → HasTakenFewIn result (sum (shape len)) 0 who.old who.new }
     ensures full { IfErr result (λ full. IsShort who.old.token.view (word_count_of table.now) len
         full who.new.token.view) }
     ensures refused { IfErr result (λ full. HasRefused who.new) }
@@ -194,6 +200,7 @@ pub(crate) fn build_share(
         (take len (drop start all))) }
     ensures at { IfOk result (λ word. 2 ≤ len
         → IsInBuild who.new (sizes_built who.old) (shape len) []) }
+    ensures few { 2 ≤ len → HasTakenFewIn result (sum (shape len)) 0 who.old who.new }
     ensures full { IfErr result (λ full. IsShort who.old.token.view (word_count_of table.now) len
         full who.new.token.view) }
     ensures refused { IfErr result (λ full. HasRefused who.new) }

@@ -10,9 +10,10 @@ ghost use Rattle.ist_rule.specs.Faces.{word_count_of};
 ghost use Rattle.ist_rule.specs.Learning.{now, GoesOnTo};
 ghost use Rattle.ist_rows.specs.Rows.{IsCaller, spares_of};
 ghost use Rattle.ist_rows.specs.Building.{HasRefused};
+ghost use Rattle.ist_rows.specs.Taken.{HasTakenFewIn, TakesNoWords};
 ghost use Rattle.laws_coming.specs.Builds.{WasUnset};
 ghost use Rattle.ist_build.specs.Laying.{BuiltOn, IsRootLaid, IsTarget, IsShort};
-ghost use Rattle.ist_build.specs.Calls.{IsTold, IsBuildable};
+ghost use Rattle.ist_build.specs.Calls.{IsTold, IsBuildable, root_words};
 ghost use Rattle.ist_build.specs.Putting.{HasRoot, IsStopped};
 ghost use Rattle.ist_build.specs.Back.{IsFreeToBuild, IsBack, RootWasMade, EndsRoot};
 
@@ -33,6 +34,7 @@ fn root_of(table: &TreeTable, who: &mut Caller, rebuild: u32) -> u64
     requires buildable { IsBuildable (now who.old.token.view) rebuild }
     ensures same_table { who.new.token.table ≡ table.now.table }
     ensures back { IsBack who.old who.new }
+    ensures none { TakesNoWords who.old who.new }
     ensures set { result ≢ unset_word → HasRoot (now who.new.token.view) rebuild result }
     ensures unset { result ≡ unset_word
         → WasUnset who.new.token.view who.new.number (rebuild + rebuild_root_offset) }
@@ -61,6 +63,7 @@ fn build_root(table: &TreeTable, who: &mut Caller, target: u32, keys: u64) -> Re
     ensures laid { IfOk result (λ word. (leaves : List PlacedLeaf)
         → HasLeaves (now who.old.token.view).pieces (Some (InnerAt target)) leaves
         → IsRootLaid who.old who.new target keys word leaves) }
+    ensures few { HasTakenFewIn result (root_words keys) 0 who.old who.new }
     ensures full { IfErr result (λ full.
         IsShort who.old.token.view (word_count_of table.now) keys full who.new.token.view) }
     ensures refused { IfErr result (λ full. HasRefused who.new) }
@@ -79,6 +82,7 @@ fn put_root(table: &TreeTable, who: &mut Caller, rebuild: u32, word: u64) -> u64
     requires made { RootWasMade who.old rebuild word }
     ensures same_table { who.new.token.table ≡ table.now.table }
     ensures put { EndsRoot who.old rebuild word who.new result }
+    ensures none { TakesNoWords who.old who.new }
 {
     know(&who.token);
     let unset = Ref::Unset.to_word();
@@ -98,6 +102,7 @@ fn set_rows(table: &TreeTable, who: &mut Caller, rebuild: u32, target: Target) -
     requires unset { WasUnset who.old.token.view who.old.number (rebuild + rebuild_root_offset) }
     ensures same_table { who.new.token.table ≡ table.now.table }
     ensures back { IsBack who.old who.new }
+    ensures few { HasTakenFewIn result (root_words target.keys) 0 who.old who.new }
     ensures root { IfOk result (λ word. HasRoot (now who.new.token.view) rebuild word) }
     ensures full { IfErr result (λ full.
         IsStopped who.old.token.view rebuild (word_count_of table.now) full who.new.token.view) }
@@ -135,6 +140,7 @@ fn set_small(table: &TreeTable, who: &mut Caller, rebuild: u32, target: Target) 
     requires few { target.keys < 2 }
     ensures same_table { who.new.token.table ≡ table.now.table }
     ensures back { IsBack who.old who.new }
+    ensures none { TakesNoWords who.old who.new }
     ensures root { HasRoot (now who.new.token.view) rebuild result }
 {
     know(&who.token);
@@ -159,6 +165,8 @@ pub(crate) fn place_root(table: &TreeTable, who: &mut Caller, rebuild: u32) -> R
     requires buildable { IsBuildable (now who.old.token.view) rebuild }
     ensures same_table { who.new.token.table ≡ table.now.table }
     ensures back { IsBack who.old who.new }
+    ensures few { (k : ℕ) → IsTold (now who.old.token.view) rebuild k
+        → HasTakenFewIn result (root_words k) 0 who.old who.new }
     ensures root { IfOk result (λ word. HasRoot (now who.new.token.view) rebuild word) }
     ensures full { IfErr result (λ full.
         IsStopped who.old.token.view rebuild (word_count_of table.now) full who.new.token.view) }

@@ -9,6 +9,7 @@ ghost use Rattle.ist_rule.specs.Faces.{word_count_of};
 ghost use Rattle.ist_rule.specs.Learning.{now, GoesOnTo};
 ghost use Rattle.ist_rows.specs.Rows.{IsCaller, spares_of};
 ghost use Rattle.ist_rows.specs.Building.{HasRefused, sizes_built};
+ghost use Rattle.ist_rows.specs.Taken.{HasTakenFewIn};
 ghost use Rattle.ist_build.specs.Calls.{HasKeys};
 ghost use Rattle.ist_build.specs.Laying.{BuiltOn, IsTopLaid, IsTarget, IsShort};
 ghost use Rattle.ist_build.specs.Midway.{IsTopMidway, IsTopRowRefused};
@@ -55,6 +56,7 @@ fn begin_top(
     requires small { degree < place_limit }
     ensures same_table { who.new.token.table ≡ table.now.table }
     ensures begun { IfOk result (λ base. IsTopMidway who.old target keys base degree 0 who.new) }
+    ensures few { HasTakenFewIn result (inner_words degree) 0 who.old who.new }
     ensures refused { IfErr result (λ full. IsTopRowRefused who.old (word_count_of table.now) keys full
         who.new) }
 {
@@ -87,6 +89,7 @@ pub(crate) fn build_top(
         → IsTopLaid who.new.token.view who.new.number (now who.old.token.view).next word leaves) }
     ensures sizes { IfOk result (λ word.
         sizes_built who.new ≡ sizes_built who.old ++ inner_words (degree_of keys) ∷ []) }
+    ensures few { HasTakenFewIn result (inner_words (degree_of keys)) 0 who.old who.new }
     ensures full { IfErr result (λ full.
         IsShort who.old.token.view (word_count_of table.now) keys full who.new.token.view) }
     ensures refused { IfErr result (λ full. HasRefused who.new) }

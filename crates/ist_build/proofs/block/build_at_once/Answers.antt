@@ -1,5 +1,12 @@
-use Rattle.std.proofs.Common.{length, rules, refl, sym, subst}
+use Rattle.std.proofs.Common.{length, rules, refl, sym, ap, ◌∙◌, subst, arith}
+use Rattle.std.specs.List.{sum}
+use Rattle.ist_core.specs.Shapes.{shape}
+use Rattle.ist_core.proofs.PrefixLemmas.{goes_on_by}
 use Rattle.ist_rule.specs.Faces.{word_count_of}
+use Rattle.ist_rows.specs.declared.callers.Caller.{Caller}
+use Rattle.ist_rows.specs.Taken.{HasTakenFew}
+use Rattle.ist_rows.proofs.FewLemmas.{out_in, out_on}
+use Rattle.ist_rows.proofs.FewStepLemmas.{few_reserved_all, no_room_out}
 use Rattle.ist_build.specs.Laying.{AreNextRows}
 use Rattle.ist_build.proofs.BuiltLemmas.{loads_built, built_grow}
 use Rattle.ist_build.proofs.KeyLemmas.{keys_on}
@@ -7,6 +14,12 @@ use Rattle.ist_build.proofs.ShareLemmas.{due_on}
 use Rattle.ist_build.proofs.AtOnceLemmas.{BlockReady, placed_on, block_ready, later_built}
 use Rattle.ist_build.proofs.block.build_at_once.Goals as goal
 use Rattle.ist_build.proofs.block.build_at_once.Goals.{After-from-next}
+
+-- ---- few leaves
+
+pub returns-then-leaves-lt2-clause-few : goal.returns-then-leaves-lt2-clause-few
+returns-then-leaves-lt2-clause-few c =
+    λ two. let less = c.if-leaves-lt2.true in absurd (omega arith)
 
 -- ---- if the rows fit
 
@@ -50,6 +63,14 @@ returns-in-Some-clause-taken c =
     ((ready (goal.at.returns-in-Some-clause-taken c).After-from-next).laid c.lay.new.who
     c.lay.new.next c.lay.result c.lay.ensures.written c.lay.ensures.laid).taken
 
+pub returns-in-Some-clause-few : goal.returns-in-Some-clause-few
+returns-in-Some-clause-few c =
+    λ two.
+    let n = sum (shape (length c.args.leaves.now)) in
+    subst (λ (x : Caller). HasTakenFew n 0 c.args.who.now x) (sym c.lay.ensures.written.same)
+    (few_reserved_all c.args.who.now c.reserve_shape.new.who c.requires.caller _ _
+    c.in-Some.ensures.reserved)
+
 -- ---- if they don't, only loads were made
 
 pub build-requires-in-None-clause-due : goal.build-requires-in-None-clause-due
@@ -84,6 +105,12 @@ returns-in-None c =
       built = o.built;
       laid = o.laid;
       taken = o.taken;
+      few = λ two. out_in c.build-in-None.result _ 0 c.args.who.now c.build-in-None.new.who
+          (out_on _ c.args.who.now c.reserve_shape.new.who c.build-in-None.new.who
+          (goes_on_by e.built.later)
+          (no_room_out c.args.who.now c.reserve_shape.new.who c.requires.caller _ _
+          (sym (c.know.ensures.words ∙ ap (λ t. t.words) c.requires.same_table))
+          (c.in-None.ensures.full refl)));
       full = o.full;
       refused = e.refused;
     }

@@ -32,6 +32,14 @@ returns-clause-taken g c =
     subst (λ xs. IfSome c.reserve_block.result (λ base. HasTaken c.args.who.now xs
     c.reserve_block.new.who)) c.requires.0 c.reserve_block.ensures.taken
 
--- if they don't fit, only loads were made
+-- if they don't fit, the first free word says so
+pub returns-clause-full : goal.returns-clause-full
+returns-clause-full g c none =
+    let is = c.ideal_words.ensures.value ∙ ideal_words_is c.args.size in
+    let h = c.reserve_block.ensures.none none in
+    let small = h.small in
+    record { next = h.next; read = h.read; small = omega arith }
+
+-- and only loads were made
 pub returns-clause-none : goal.returns-clause-none
 returns-clause-none g c none = read_on _ _ _ (c.reserve_block.ensures.none none).read

@@ -1,6 +1,9 @@
-use Rattle.std.proofs.Common.{◌<◌, subst, arith}
+use Rattle.std.proofs.Common.{◌<◌, ◌≤◌, subst, arith}
+use Rattle.std.specs.List.{sum}
+use Rattle.ist_core.specs.Shapes.{shape}
+use Rattle.ist_rows.specs.Taken.{HasTakenFewIn}
 use Rattle.ist_build.proofs.PartPutLemmas.{slot_built}
-use Rattle.ist_build.proofs.PartSlotLemmas.{shared_share}
+use Rattle.ist_build.proofs.PartSlotLemmas.{part_two, shared_share}
 use Rattle.ist_build.proofs.TopLeafLemmas.{target_few, many_two}
 use Rattle.ist_build.proofs.filling.build_slot.Goals as goal
 
@@ -37,4 +40,15 @@ returns c =
     e.caller c.requires.shared c.requires.within c.requires.unset c.part-share.ensures.start
     c.part-share.ensures.len c.part-share.ensures.fewer c.build_share.result e.laid e.at e.full
     e.refused in
-    record { same_table = e.same_table; made = b.made; back = b.back; full = b.full }
+    let two : 2 ≤ c.part-share.result.len =
+    let t = part_two c.args.shared.keys c.args.i c.requires.shared.is.shared in
+    let len = c.part-share.ensures.len in
+    omega arith in
+    record {
+      same_table = e.same_table;
+      made = b.made;
+      few = subst (λ n. HasTakenFewIn c.build_share.result (sum (shape n)) 0 c.args.who.now
+          c.build_share.new.who) c.part-share.ensures.len (e.few two);
+      back = b.back;
+      full = b.full;
+    }

@@ -1,6 +1,8 @@
-use Rattle.std.proofs.Common.{◌+◌, ap, ◌∙◌, arith}
+use Rattle.std.proofs.Common.{◌+◌, refl, ap, ◌∙◌, arith}
 use Rattle.ist_build.proofs.FillLemmas.{MayDraw, may_draw}
 use Rattle.ist_build.proofs.RootBuiltLemmas.{rebuild_within, rebuild_off}
+use Rattle.ist_rows.proofs.FewStepLemmas.{none_loads, none_logged, none_more}
+use Rattle.ist_rule.proofs.GoingOnLemmas.{goes_on_who, looked_goes_on}
 use Rattle.ist_build.proofs.filling.draw.Goals as goal
 use Rattle.ist_build.proofs.filling.draw.Goals.{After-load-next}
 
@@ -42,3 +44,17 @@ pub returns-clause-back : goal.returns-clause-back
 returns-clause-back c =
     (may (goal.at.returns-clause-back c).After-load-next).back c.add.new.token c.add.result
     c.add.ensures.added.logged
+
+pub returns-then-next-shared-clause-none : goal.returns-then-next-shared-clause-none
+returns-then-next-shared-clause-none c =
+    none_loads c.args.who.now c.load-next.new.token c.requires.ready.caller.mine
+    (looked_goes_on _ _ _ _ c.load-next.ensures.looked)
+
+pub returns-clause-none : goal.returns-clause-none
+returns-clause-none c =
+    let loads = looked_goes_on _ _ _ _ c.load-next.ensures.looked in
+    let mine = c.requires.ready.caller.mine in
+    let mid = record (c.args.who.now) { token = c.load-next.new.token } in
+    none_more c.args.who.now mid (record (c.args.who.now) { token = c.add.new.token })
+    (none_loads c.args.who.now c.load-next.new.token mine loads)
+    (none_logged mid c.add.new.token (goes_on_who loads ∙ mine) _ c.add.ensures.added.logged refl)

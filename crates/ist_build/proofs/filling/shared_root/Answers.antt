@@ -4,6 +4,7 @@ use Rattle.ist_build.proofs.BackLemmas.{back_loads}
 use Rattle.ist_build.proofs.FilledLemmas.{NamesRoot, names_root}
 use Rattle.ist_build.proofs.RootBuiltLemmas.{rebuild_within, rebuild_off}
 use Rattle.ist_build.proofs.TopLeafLemmas.{many_two, target_few}
+use Rattle.ist_rows.proofs.FewStepLemmas.{none_loads}
 use Rattle.ist_build.proofs.filling.shared_root.Goals as goal
 use Rattle.ist_build.proofs.filling.shared_root.Goals.{After-load-root}
 
@@ -43,3 +44,8 @@ pub returns-clause-shared : goal.returns-clause-shared
 returns-clause-shared c =
     let n = names (goal.at.returns-clause-shared c).After-load-root in
     record { is = n.shared; degree_is = c.degree.ensures.value }
+
+pub returns-clause-none : goal.returns-clause-none
+returns-clause-none c =
+    none_loads c.args.who.now c.load-root.new.token c.requires.ready.caller.mine
+    (looked_goes_on _ _ _ _ c.load-root.ensures.looked)

@@ -4,6 +4,8 @@ use Rattle.ist_rule.proofs.GoingOnLemmas.{looked_goes_on}
 use Rattle.ist_dcss.proofs.FieldLemmas.{row_above}
 use Rattle.ist_build.proofs.BackLemmas.{back_loads}
 use Rattle.ist_build.proofs.PartSlotLemmas.{degree_low, shared_slots, slot_looked, slot_unset}
+use Rattle.ist_rows.proofs.FewStepLemmas.{none_loads}
+use Rattle.ist_build.proofs.LeftLemmas.{slot_open}
 use Rattle.ist_build.proofs.filling.slot_of.Goals as goal
 
 pub slot_place-requires-clause-fits : goal.slot_place-requires-clause-fits
@@ -39,5 +41,16 @@ returns-clause-set c =
 pub returns-clause-unset : goal.returns-clause-unset
 returns-clause-unset c =
     slot_unset _ _ c.know.ensures.sound c.args.shared.root c.args.shared.degree c.args.i _ _ _
+    (shared_slots _ _ c.requires.shared) c.requires.within c.slot_place.ensures.value
+    c.load.ensures.looked
+
+pub returns-clause-none : goal.returns-clause-none
+returns-clause-none c =
+    none_loads c.args.who.now c.load.new.token c.requires.ready.caller.mine
+    (looked_goes_on _ _ _ _ c.load.ensures.looked)
+
+pub returns-clause-vacant : goal.returns-clause-vacant
+returns-clause-vacant c =
+    slot_open _ _ c.args.shared.root c.args.shared.degree c.args.i _ _
     (shared_slots _ _ c.requires.shared) c.requires.within c.slot_place.ensures.value
     c.load.ensures.looked

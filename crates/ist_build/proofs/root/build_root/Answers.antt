@@ -1,6 +1,8 @@
-use Rattle.std.proofs.Common.{arith}
+use Rattle.std.proofs.Common.{sym, subst, arith}
 use Rattle.ist_core.specs.Shapes.{share_from_is}
 use Rattle.ist_build.proofs.RootBuiltLemmas.{whole_share, ok_whole, ok_top}
+use Rattle.ist_rows.specs.Taken.{HasTakenFewIn}
+use Rattle.ist_build.proofs.FewLemmas.{root_few, root_many}
 use Rattle.ist_build.proofs.root.build_root.Goals as goal
 
 pub build_share-requires-clause-share : goal.build_share-requires-clause-share
@@ -30,3 +32,18 @@ returns-clause-laid c =
     ok_top c.args.who.now c.build_top.new.who c.args.target c.args.keys c.know.ensures.sound
     c.build_top.ensures.number c.build_top.ensures.built c.requires.target (omega arith)
     c.build_top.result c.build_top.ensures.laid c.build_top.ensures.sizes
+
+-- few words were taken
+pub returns-then-keys-lt-SHARE_FROM-clause-few : goal.returns-then-keys-lt-SHARE_FROM-clause-few
+returns-then-keys-lt-SHARE_FROM-clause-few c =
+    let less = c.if-keys-lt-SHARE_FROM.true in
+    let number = share_from_is in
+    subst (λ n. HasTakenFewIn c.build_share.result n 0 c.args.who.now c.build_share.new.who)
+    (sym (root_few c.args.keys (omega arith))) (c.build_share.ensures.few c.requires.several)
+
+pub returns-clause-few : goal.returns-clause-few
+returns-clause-few c =
+    let more = c.if-keys-lt-SHARE_FROM.false in
+    let number = share_from_is in
+    subst (λ n. HasTakenFewIn c.build_top.result n 0 c.args.who.now c.build_top.new.who)
+    (sym (root_many c.args.keys (omega arith))) c.build_top.ensures.few

@@ -1,7 +1,9 @@
-use Rattle.std.proofs.Common.{◌+◌, sym, ap, ◌∙◌, arith}
+use Rattle.std.proofs.Common.{◌+◌, refl, sym, ap, ◌∙◌, arith}
 use Rattle.ist_rows.specs.declared.callers.Caller.{Caller}
 use Rattle.ist_build.specs.Back.{IsRootMade}
 use Rattle.ist_build.proofs.RootPutLemmas.{MayRoot, may_root}
+use Rattle.ist_rows.proofs.FewStepLemmas.{none_logged, none_logged_load}
+use Rattle.ist_build.proofs.FewLemmas.{built_mine}
 use Rattle.ist_build.proofs.root.put_root.Goals as goal
 use Rattle.ist_build.proofs.root.put_root.Goals.{After-from-place}
 
@@ -36,3 +38,16 @@ returns-else-stood-unset-clause-put c =
     c.exchange_or_lose-stood.new.token _
     (λ e. c.if-stood-unset.false (e ∙ sym c.to_word-unset.ensures.value))
     (c.exchange_or_lose-stood.ensures.exchanged.1 c.if-stood-unset.false)
+
+-- no word was taken
+pub returns-then-stood-unset-clause-none : goal.returns-then-stood-unset-clause-none
+returns-then-stood-unset-clause-none c =
+    none_logged c.args.who.now c.exchange_or_lose-stood.new.token
+    (built_mine c.requires.made.old c.args.who.now c.requires.made.made.has_built) _
+    (c.exchange_or_lose-stood.ensures.exchanged.0 c.if-stood-unset.true) refl
+
+pub returns-else-stood-unset-clause-none : goal.returns-else-stood-unset-clause-none
+returns-else-stood-unset-clause-none c =
+    none_logged_load c.args.who.now c.exchange_or_lose-stood.new.token
+    (built_mine c.requires.made.old c.args.who.now c.requires.made.made.has_built) _ _ _
+    (c.exchange_or_lose-stood.ensures.exchanged.1 c.if-stood-unset.false) refl

@@ -1,0 +1,104 @@
+-- How few words a build takes, function by function. Serves `block`, `parts`, `top` and `root`.
+use Rattle.std.proofs.Common.{◌≡◌, ℕ, ◌+◌, ◌<◌, ◌≤◌, nat_lt, Bool, true, false, if◌then◌else◌, List, length, Result, refl, sym, ap, ◌∙◌, subst, arith}
+use Rattle.std.specs.List.{sum}
+use Rattle.std.proofs.lemmas.Bool.Decides.{nat_tests}
+use Rattle.ist_core.specs.declared.events.Event.{Event}
+use Rattle.ist_core.specs.declared.ports.Full.{Full}
+use Rattle.ist_core.specs.declared.events.Who.TheVariants.{Caller as CallerOf}
+use Rattle.ist_core.specs.Arithmetic.{degree}
+use Rattle.ist_core.specs.Rebuilding.{IsFinishedWith}
+use Rattle.ist_core.specs.RowLayout.{inner_words}
+use Rattle.ist_core.specs.Shapes.{shape, share_from}
+use Rattle.ist_core.specs.Snapshots.{Snapshot}
+use Rattle.ist_core.proofs.DrawLemmas.{finished_once}
+use Rattle.ist_core.proofs.OptionLemmas.{same_rebuild}
+use Rattle.ist_rule.specs.Faces.{TokenFace}
+use Rattle.ist_rule.specs.declared.view.View.{View}
+use Rattle.ist_rule.specs.Learning.{GoesOnTo, storing}
+use Rattle.ist_rows.specs.declared.callers.Caller.{Caller}
+use Rattle.ist_rows.specs.Rows.{IsCaller}
+use Rattle.ist_rows.specs.Taken.{HasTakenFew, HasTakenFewIn, IsLaterCaller, TakesFew}
+use Rattle.ist_rows.proofs.FewLemmas.{later_went}
+use Rattle.ist_rows.proofs.FewStepLemmas.{few_call, few_kept, none_loads}
+use Rattle.ist_build.specs.Back.{HasBuilt, IsBack}
+use Rattle.ist_build.specs.Calls.{Builds, IsTold, root_words}
+use Rattle.ist_build.specs.Laying.{BuiltOn, IsReservation, LaidOn}
+use Rattle.ist_build.specs.Midway.{setting}
+use Rattle.ist_build.specs.Reading.{HasReadOut}
+use Rattle.ist_build.proofs.LaidOnLemmas.{laid_went}
+
+-- a caller that laid rows is a later state
+pub after_laid : (P : Event → Type 0) (old new : Caller) → new.number ≡ old.number
+    → LaidOn P old.token.view new.token.view → IsLaterCaller old new
+after_laid P old new number b =
+    later_went P old new number (laid_went P old.token.view new.token.view b)
+
+-- so is one that is back
+pub after_back : (old new : Caller) → IsBack old new → IsLaterCaller old new
+after_back old new b = after_laid Builds old new b.number b.put
+
+-- ---- parts
+
+-- a build over leaves that were read out
+pub few_loaded : (who : Caller) (token : TokenFace) (new : Caller) (target start len : ℕ)
+    (bases : List ℕ) → IsCaller who → HasReadOut who.token.view target start len bases token.view
+    → new.number ≡ who.number → BuiltOn token.view new.token.view → (answer : Result ℕ Full)
+    → (2 ≤ length bases
+    → HasTakenFewIn answer (sum (shape (length bases))) 0 (record who { token = token }) new)
+    → 2 ≤ len → HasTakenFewIn answer (sum (shape len)) 0 who new
+few_loaded who token new target start len bases c r number b answer few two =
+    let mid = record who { token = token } in
+    few_call answer (sum (shape len)) 0 who mid new (none_loads who token c.mine r.seen)
+    (after_laid IsReservation mid new number b)
+    (subst (λ n. HasTakenFewIn answer (sum (shape n)) 0 mid new) r.size
+    (few (subst (λ n. 2 ≤ n) (sym r.size) two)))
+
+-- ---- the top row
+
+-- a caller that loaded and then stored took as few words
+pub few_stored : (n left : ℕ) (old who : Caller) (token : TokenFace) (new : Caller)
+    → who.number ≡ old.number → BuiltOn old.token.view who.token.view → IsCaller who
+    → GoesOnTo who.token.view token.view → new.token.view.log ≡ token.view.log
+    → HasTakenFew n left old who → HasTakenFew n left old new
+few_stored n left old who token new number b c seen log_is f =
+    let v = old.token.view in
+    subst (TakesFew old.number n left v.words v.start v.log) (sym log_is)
+    (few_kept n left old who (record who { token = token }) (after_laid IsReservation old who number b)
+    (none_loads who token c.mine seen) f)
+
+-- storing a slot changes no log
+pub set_log : (v : View) (base d j key word : ℕ) (new mid : Caller)
+    → new ≡ record mid { token = record mid.token { view = setting v base d j key word } }
+    → new.token.view.log ≡ v.log
+set_log v base d j key word new mid e =
+    ap (λ (x : Caller). x.token.view.log) e ∙ by (nat_lt 0 j)
+  where
+    by : (b : Bool) → (if b then storing (storing v (base + (3 + d + j)) word) (base + (3 + j)) key
+        else storing v (base + (3 + d + j)) word).log ≡ v.log
+    by true = refl
+    by false = refl
+
+-- ---- the root
+
+-- over few keys the root is the whole tree
+pub root_few : (k : ℕ) → k < share_from → root_words k ≡ sum (shape k)
+root_few k few =
+    ap (λ (b : Bool). if b then sum (shape k) else inner_words (degree k))
+    (let is : nat_lt k share_from ≡ true = grind (arith, nat_tests) in is)
+
+-- over many it is its top row
+pub root_many : (k : ℕ) → share_from ≤ k → root_words k ≡ inner_words (degree k)
+root_many k many =
+    ap (λ (b : Bool). if b then sum (shape k) else inner_words (degree k))
+    (let is : nat_lt k share_from ≡ false = grind (arith, nat_tests) in is)
+
+-- the token of a caller that has built is the caller's
+pub built_mine : (old mid : Caller) → HasBuilt old mid → mid.token.view.who ≡ CallerOf mid.number
+built_mine old mid a = ap (λ x. x.who) a.built.same ∙ a.ready.caller.mine ∙ ap CallerOf (sym a.number)
+
+-- a rebuild has one target, with one number of keys
+pub told_once : (t : Snapshot) (rebuild j k : ℕ) → IsTold t rebuild j → IsTold t rebuild k → j ≡ k
+told_once t rebuild j k h l =
+    let row_is = same_rebuild (t.pieces rebuild) h.row l.row h.published l.published in
+    finished_once t l.row.target j k (subst (λ r. IsFinishedWith t r.target j) row_is h.finished)
+    l.finished
