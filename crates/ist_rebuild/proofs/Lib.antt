@@ -13,6 +13,7 @@ pub mod BegunLemmas
 pub mod EventLemmas
 pub mod OwnChangeLemmas
 pub mod HelpedLemmas
+pub mod FewLemmas
 pub mod StoredLemmas
 pub mod SiteLemmas
 pub mod SlotLemmas

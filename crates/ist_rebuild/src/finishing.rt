@@ -1,13 +1,18 @@
 //! Putting the root of a rebuild in its place, by a change.
 ghost use Rattle.std.specs.Prelude.{◌≡◌, ◌≢◌, ℕ, Ok, None, Some, IfOk, IfErr};
+ghost use Rattle.std.specs.List.{sum};
 ghost use Rattle.ist_core.specs.Installing.{IsUnrefused};
 ghost use Rattle.ist_core.specs.Pieces.{Change as ChangeRowOf, words_of};
 ghost use Rattle.ist_core.specs.Rebuilding.{IsReplaced};
 ghost use Rattle.ist_core.specs.References.{IsGoodBase, RebuildAt, word_of};
+ghost use Rattle.ist_core.specs.RowLayout.{change_words};
+ghost use Rattle.ist_core.specs.Shapes.{shape};
 ghost use Rattle.ist_core.specs.Slots.{SlotHolds, IsOpen};
 ghost use Rattle.ist_rule.specs.Faces.{word_count_of};
 ghost use Rattle.ist_rule.specs.Learning.{now};
-ghost use Rattle.ist_build.specs.Calls.{IsBuildable, IsBuiltOut};
+ghost use Rattle.ist_build.specs.Calls.{IsBuildable, IsBuiltOut, IsTold};
+ghost use Rattle.ist_rows.specs.Taken.{HasTakenFewIn, TakesNoWords};
+ghost use Rattle.ist_rebuild.specs.Needs.{wanting};
 ghost use Rattle.ist_rebuild.specs.declared.answers.Helped.TheVariants.{Replaced, ParentMarked};
 ghost use Rattle.ist_rebuild.specs.declared.finishing.Tried.TheVariants.{Yes, No, Other};
 ghost use Rattle.ist_rebuild.specs.Finishing.{IsPlan, IsPrepared};
@@ -43,6 +48,8 @@ pub(crate) fn build_out(table: &TreeTable, who: &mut Caller, rebuild: u32) -> Re
     requires buildable { IsBuildable (now who.old.token.view) rebuild }
     ensures same_table { who.new.token.table ≡ table.now.table }
     ensures helped { HasHelped who.old who.new }
+    ensures few { (k : ℕ) → IsTold (now who.old.token.view) rebuild k
+        → HasTakenFewIn result (sum (shape k)) 0 who.old who.new }
     ensures built { IfOk result (λ done. IsBuiltOut (now who.new.token.view) rebuild) }
     ensures full { IfErr result (λ full.
         IsHelpRefused who.old.token.view rebuild (word_count_of table.now) full who.new.token.view) }
@@ -80,6 +87,8 @@ fn prepare(table: &TreeTable, who: &mut Caller, plan: PlannedFinish) -> Result<u
     requires unrefused { IsUnrefused (now who.old.token.view) who.old.number plan.parent }
     ensures same_table { who.new.token.table ≡ table.now.table }
     ensures helped { HasHelped who.old who.new }
+    ensures few { let n = wanting who.old.change change_words in
+        HasTakenFewIn result n 0 who.old who.new }
     ensures prepared { IfOk result (λ change. IsPrepared who.new plan change) }
     ensures full { IfErr result (λ full. IsHelpRefused who.old.token.view plan.rebuild
         (word_count_of table.now) full who.new.token.view) }
@@ -102,6 +111,8 @@ fn carry(table: &TreeTable, who: &mut Caller, plan: PlannedFinish, change: u32) 
     requires prepared { IsPrepared who.old plan change }
     ensures same_table { who.new.token.table ≡ table.now.table }
     ensures helped { HasHelped who.old who.new }
+    ensures none { TakesNoWords who.old who.new }
+    ensures held { (word : ℕ) → result ≡ Other word → who.new.change ≡ who.old.change }
     ensures yes { result ≡ Yes → IsReplaced (now who.new.token.view) plan.rebuild }
     ensures no { result ≡ No → ¬ (IsOpen (now who.new.token.view) plan.parent) }
     ensures other { (word : ℕ) → result ≡ Other word
@@ -141,6 +152,9 @@ fn conclude(
     requires differs { (word : ℕ) → tried ≡ Other word → word ≢ word_of (RebuildAt plan.rebuild) }
     ensures same_table { who.new.token.table ≡ table.now.table }
     ensures helped { HasHelped who.old who.new }
+    ensures none { TakesNoWords who.old who.new }
+    ensures held { who.new.change ≡ who.old.change }
+    ensures again { result ≡ None → (word : ℕ) × (tried ≡ Other word) }
     ensures replaced { result ≡ Some Replaced → IsReplaced (now who.new.token.view) plan.rebuild }
     ensures left { result ≡ Some ParentMarked
         → IsLeftToParent (now who.new.token.view) plan.rebuild }
@@ -173,6 +187,9 @@ fn try_finish(
     requires plan { IsPlan who.old.token.view plan }
     ensures same_table { who.new.token.table ≡ table.now.table }
     ensures helped { HasHelped who.old who.new }
+    ensures few { let n = wanting who.old.change change_words in
+        HasTakenFewIn result n 0 who.old who.new }
+    ensures held { result ≡ Ok None → wanting who.new.change change_words ≡ 0 }
     ensures replaced { result ≡ Ok (Some Replaced)
         → IsReplaced (now who.new.token.view) plan.rebuild }
     ensures left { result ≡ Ok (Some ParentMarked)
@@ -203,6 +220,8 @@ pub(crate) fn finish(
     requires plan { IsPlan who.old.token.view plan }
     ensures same_table { who.new.token.table ≡ table.now.table }
     ensures helped { HasHelped who.old who.new }
+    ensures few { let n = wanting who.old.change change_words in
+        HasTakenFewIn result n 0 who.old who.new }
     ensures replaced { result ≡ Ok Replaced → IsReplaced (now who.new.token.view) plan.rebuild }
     ensures left { result ≡ Ok ParentMarked
         → IsLeftToParent (now who.new.token.view) plan.rebuild }

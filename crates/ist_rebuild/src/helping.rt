@@ -1,10 +1,14 @@
 //! Helping a rebuild until it is done.
-ghost use Rattle.std.specs.Prelude.{◌≡◌, Ok, IfErr};
+ghost use Rattle.std.specs.Prelude.{◌≡◌, ℕ, ◌+◌, Ok, IfErr};
+ghost use Rattle.std.specs.List.{sum};
+ghost use Rattle.ist_core.specs.RowLayout.{change_words};
+ghost use Rattle.ist_core.specs.Shapes.{shape};
 ghost use Rattle.ist_core.specs.Rebuilding.{IsStarted, IsReplaced};
 ghost use Rattle.ist_rebuild.specs.declared.answers.Helped.TheVariants.{Replaced, ParentMarked};
 ghost use Rattle.ist_rule.specs.Faces.{word_count_of};
 ghost use Rattle.ist_rule.specs.Learning.{now};
-ghost use Rattle.ist_build.specs.Calls.{IsBuildable};
+ghost use Rattle.ist_build.specs.Calls.{IsBuildable, IsTold};
+ghost use Rattle.ist_rows.specs.Taken.{HasTakenFewIn, TakesNoWords};
 ghost use Rattle.ist_rows.specs.Going.{IsReady};
 ghost use Rattle.ist_rebuild.specs.Helping.{IsLeftToParent, IsHelpRefused, HasHelped};
 
@@ -24,6 +28,7 @@ fn mark_target(table: &TreeTable, who: &mut Caller, rebuild: u32)
     requires started { IsStarted (now who.old.token.view) rebuild }
     ensures same_table { who.new.token.table ≡ table.now.table }
     ensures helped { HasHelped who.old who.new }
+    ensures none { TakesNoWords who.old who.new }
     ensures buildable { IsBuildable (now who.new.token.view) rebuild }
 {
     know(&who.token);
@@ -50,6 +55,8 @@ pub fn help_rebuild(table: &TreeTable, who: &mut Caller, rebuild: u32) -> Result
     requires started { IsStarted (now who.old.token.view) rebuild }
     ensures same_table { who.new.token.table ≡ table.now.table }
     ensures helped { HasHelped who.old who.new }
+    ensures few { (k : ℕ) → IsTold (now who.old.token.view) rebuild k
+        → HasTakenFewIn result (sum (shape k) + change_words) 0 who.old who.new }
     ensures finished { IsBuildable (now who.new.token.view) rebuild }
     ensures replaced { result ≡ Ok Replaced → IsReplaced (now who.new.token.view) rebuild }
     ensures parent_marked { result ≡ Ok ParentMarked

@@ -11,6 +11,7 @@ ghost use Rattle.ist_rebuild.specs.declared.sites.Met.TheVariants.{Change, Itsel
 ghost use Rattle.ist_dcss.specs.Reading.{IsRebuildRow};
 ghost use Rattle.ist_rebuild.specs.Finishing.{IsWordOf, IsPlan};
 ghost use Rattle.ist_rows.specs.Going.{IsReady};
+ghost use Rattle.ist_rows.specs.Taken.{TakesNoWords};
 ghost use Rattle.ist_rebuild.specs.Helping.{IsLeftToParent, HasHelped};
 
 use crate::answers::Helped;
@@ -125,6 +126,8 @@ pub(crate) fn settle(table: &TreeTable, who: &mut Caller, plan: PlannedFinish) -
     requires closed { ¬ (IsOpen (now who.old.token.view) plan.parent) }
     ensures same_table { who.new.token.table ≡ table.now.table }
     ensures helped { HasHelped who.old who.new }
+    ensures none { TakesNoWords who.old who.new }
+    ensures held { who.new.change ≡ who.old.change }
     ensures replaced { result ≡ Replaced → IsReplaced (now who.new.token.view) plan.rebuild }
     ensures left { result ≡ ParentMarked → IsLeftToParent (now who.new.token.view) plan.rebuild }
 {

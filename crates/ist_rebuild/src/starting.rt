@@ -10,6 +10,8 @@ ghost use Rattle.ist_rule.specs.Going.{WentOn};
 ghost use Rattle.ist_rule.specs.Learning.{now};
 ghost use Rattle.ist_rows.specs.Building.{HasRefused};
 ghost use Rattle.ist_rows.specs.Rows.{IsCaller};
+ghost use Rattle.ist_rows.specs.Taken.{HasTakenFew, TakesNoWords};
+ghost use Rattle.ist_rebuild.specs.Needs.{needed};
 ghost use Rattle.ist_rebuild.specs.Going.{Begins, KeepsFresh, StartsAt};
 ghost use Rattle.ist_rebuild.specs.Lacking.{LacksKind};
 ghost use Rattle.ist_rows.specs.Going.{IsQuiet};
@@ -43,6 +45,7 @@ fn put_in(table: &TreeTable, who: &mut Caller, plan: FilledStart) -> Started
         ≡ start_filling number plan.parent plan.index plan.target plan.rows.rebuild }
     ensures same_table { who.new.token.table ≡ table.now.table }
     ensures begun { HasBegun plan.target who.old who.new }
+    ensures none { TakesNoWords who.old who.new }
     ensures told { TellsStart who.old who.new plan.parent plan.index plan.target (Ok result) }
 {
     know(&who.token);
@@ -93,6 +96,7 @@ fn start_open(
     requires unrefused { IsUnrefused (now who.old.token.view) who.old.number parent }
     ensures same_table { who.new.token.table ≡ table.now.table }
     ensures begun { HasBegun target who.old who.new }
+    ensures few { HasTakenFew (needed who.old) 0 who.old who.new }
     ensures told { TellsStart who.old who.new parent index target result }
     ensures full { IfErr result (λ full.
         IsStartRefused who.old.token.view (word_count_of table.now) full who.new.token.view) }
@@ -139,6 +143,7 @@ pub fn start(
     ensures aims { WentOn (StartsAt target) who.old.token.view who.new.token.view }
     ensures quiet { IsQuiet who.new }
     ensures refused { HasRefused who.old → HasRefused who.new }
+    ensures few { HasTakenFew (needed who.old) 0 who.old who.new }
     ensures yes { (rebuild : ℕ) → result ≡ Ok (Yes rebuild)
         → IsStartedAt (now who.new.token.view) rebuild parent index target }
     ensures other { (word : ℕ) → result ≡ Ok (Other word)

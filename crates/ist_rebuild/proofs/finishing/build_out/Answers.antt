@@ -1,9 +1,16 @@
+use Rattle.std.proofs.Common.{◌+◌, rules, arith}
+use Rattle.std.specs.List.{sum}
 use Rattle.ist_build.specs.Calls.{Builds}
 use Rattle.ist_build.proofs.ShareLemmas.{err_map}
 use Rattle.ist_rebuild.proofs.HelpedLemmas.{built_helped, helped_more}
 use Rattle.ist_rebuild.proofs.BuiltOutLemmas.{buildable_went}
 use Rattle.ist_rebuild.proofs.RefusalLemmas.{passed_on, short_refused, refused_more}
 use Rattle.ist_rows.proofs.GoneLemmas.{still_ready}
+use Rattle.ist_core.specs.Shapes.{shape}
+use Rattle.ist_rows.proofs.FewLemmas.{later_went, few_low, few_then, few_wider, out_wider}
+use Rattle.ist_build.specs.Calls.{parts_words, root_words}
+use Rattle.ist_build.proofs.LeftLemmas.{root_most}
+use Rattle.ist_rebuild.proofs.FewLemmas.{told_went}
 use Rattle.ist_rebuild.proofs.finishing.build_out.Goals as goal
 
 -- a root that was refused
@@ -38,3 +45,28 @@ returns-clause-full c =
     err_map _ _ c.fill_parts.result
     (λ full h. refused_more _ _ _ _ _ full root.on.gone.went (short_refused _ _ _ _ full h))
     c.fill_parts.ensures.full
+
+-- few words were taken
+pub returns-in_err-set_root-clause-few : goal.returns-in_err-set_root-clause-few
+returns-in_err-set_root-clause-few c =
+    λ k told.
+    let out = out_wider (root_words k) (sum (shape k)) c.args.who.now c.set_root.new.who
+    (root_most k) (c.in_err-set_root.ensures.few k told) in
+    search rules
+
+pub returns-clause-few : goal.returns-clause-few
+returns-clause-few c =
+    λ k told.
+    let old = c.args.who.now in
+    let mid = c.set_root.new.who in
+    let new = c.fill_parts.new.who in
+    let e = c.set_root.ensures in
+    let f = c.fill_parts.ensures in
+    let most = root_most k in
+    few_then old mid new (later_went Builds old mid e.number e.went)
+    (later_went Builds mid new f.number f.went) (sum (shape k)) (parts_words k) 0
+    c.fill_parts.result
+    (few_low (root_words k + parts_words k) (0 + parts_words k) (sum (shape k)) (parts_words k) old
+    mid (omega arith) (omega arith)
+    (few_wider (root_words k) 0 (parts_words k) old mid (c.in_ok-set_root.ensures.few k told)))
+    (f.few k (told_went Builds old mid e.went c.args.rebuild k told))

@@ -3,6 +3,8 @@ use Rattle.ist_dcss.proofs.CallingLemmas.{met_change}
 use Rattle.ist_rebuild.proofs.HelpedLemmas.{helped_same, help_helped}
 use Rattle.laws_coming.proofs.FurtherLemmas.{helped_further}
 use Rattle.ist_rebuild.proofs.SlotLemmas.{not_itself, tells_replaced}
+use Rattle.ist_rows.proofs.FewStepLemmas.{none_same}
+use Rattle.ist_rebuild.proofs.FewLemmas.{none_helped}
 use Rattle.ist_rebuild.proofs.finishing.conclude.Goals as goal
 
 -- it was decided yes
@@ -38,3 +40,18 @@ pub returns-in-Another-clause-replaced : goal.returns-in-Another-clause-replaced
 returns-in-Another-clause-replaced c _ =
     tells_replaced _ c.know.ensures.sound _ c.requires.plan _ (c.requires.other _ c.in-Other.is)
     (c.in-Another.ensures.no_change refl) (c.in-Another.ensures.another refl)
+
+-- no word was taken
+pub returns-in-Yes-clause-none : goal.returns-in-Yes-clause-none
+returns-in-Yes-clause-none c = none_same c.args.who.now
+
+pub returns-in-Change-clause-none : goal.returns-in-Change-clause-none
+returns-in-Change-clause-none c =
+    none_helped c.args.who.now c.help.new.token _ c.requires.ready.caller.mine c.help.ensures.went
+
+pub returns-in-Another-clause-none : goal.returns-in-Another-clause-none
+returns-in-Another-clause-none c = none_same c.args.who.now
+
+-- it is done again only after another word
+pub returns-in-Change-clause-again : goal.returns-in-Change-clause-again
+returns-in-Change-clause-again c = λ is. (_, c.in-Other.is)

@@ -1,7 +1,13 @@
+use Rattle.std.proofs.Common.{sym, ap, ◌∙◌, subst, rules}
 use Rattle.ist_rebuild.proofs.HelpedLemmas.{refused_row}
 use Rattle.ist_rebuild.proofs.PreparedLemmas.{HasPreparedFinish, has_prepared}
 use Rattle.ist_rebuild.proofs.RefusalLemmas.{passed_on, row_refused}
 use Rattle.ist_rebuild.proofs.SiteLemmas.{plan_good}
+use Rattle.ist_core.specs.RowLayout.{change_words}
+use Rattle.ist_rows.specs.declared.callers.Caller.{Caller}
+use Rattle.ist_rows.specs.Taken.{HasTakenFew, HasTakenFewIn}
+use Rattle.ist_rebuild.specs.Needs.{wanting}
+use Rattle.ist_rebuild.proofs.FewLemmas.{few_row}
 use Rattle.ist_rebuild.proofs.finishing.prepare.Goals as goal
 
 -- a change row that was refused
@@ -37,3 +43,21 @@ returns-clause-helped c = (prepares c).helped
 
 pub returns-clause-prepared : goal.returns-clause-prepared
 returns-clause-prepared c = (prepares c).prepared
+
+-- only the words of the change were taken
+pub returns-in_err-change-clause-few : goal.returns-in_err-change-clause-few
+returns-in_err-change-clause-few c =
+    let e = c.reserve.ensures in
+    let few = few_row c.args.who.now c.reserve.new.who _ c.reserve.result c.requires.ready.caller
+    (sym (c.know.ensures.words ∙ ap (λ t. t.words) c.requires.same_table)) e.held e.reserved e.full in
+    search rules
+
+pub returns-clause-few : goal.returns-clause-few
+returns-clause-few c =
+    let e = c.reserve.ensures in
+    let few = few_row c.args.who.now c.reserve.new.who _ c.reserve.result c.requires.ready.caller
+    (sym (c.know.ensures.words ∙ ap (λ t. t.words) c.requires.same_table)) e.held e.reserved e.full in
+    subst (λ (x : Caller). HasTakenFew (wanting c.args.who.now.change change_words) 0 c.args.who.now x)
+    (sym c.fill_row.ensures.stored)
+    (subst (λ r. HasTakenFewIn r (wanting c.args.who.now.change change_words) 0 c.args.who.now
+    c.reserve.new.who) c.in_ok-change.was few)

@@ -1,5 +1,10 @@
+use Rattle.std.proofs.Common.{refl, ◌∙◌}
 use Rattle.ist_dcss.proofs.TargetLemmas.{started_rebuild}
 use Rattle.ist_rebuild.proofs.BuiltOutLemmas.{has_marked, may_mark}
+use Rattle.ist_rows.proofs.FewStepLemmas.{none_kept, none_loads, none_more}
+use Rattle.ist_mark.proofs.SubtreeLemmas.{marks_keep}
+use Rattle.ist_mark.specs.Marking.{Marks}
+use Rattle.ist_rule.proofs.GoingOnLemmas.{goes_on_who}
 use Rattle.ist_rebuild.proofs.helping.mark_target.Goals as goal
 
 -- a started rebuild is published
@@ -27,3 +32,15 @@ returns-clause-buildable c =
     _ _ c.requires.ready c.requires.started c.target_of-target.ensures.seen
     c.target_of-target.ensures.target c.mark_and_count_from.ensures.went
     c.mark_and_count_from.ensures.finished).buildable
+
+-- no word was taken
+pub returns-clause-none : goal.returns-clause-none
+returns-clause-none c =
+    let who = c.args.who.now in
+    let mid = record who { token = c.target_of-target.new.token } in
+    let new = record who { token = c.mark_and_count_from.new.token } in
+    let loads = c.target_of-target.ensures.seen in
+    let mine = c.requires.ready.caller.mine in
+    none_more who mid new (none_loads who c.target_of-target.new.token mine loads)
+    (none_kept (Marks new.token.view c.target_of-target.result) (marks_keep _ _) mid new refl
+    (goes_on_who loads ∙ mine) c.mark_and_count_from.ensures.went)

@@ -9,12 +9,19 @@ use Rattle.laws_coming.proofs.FurtherLemmas.{fewer_left, helped_further, no_less
 use Rattle.ist_rebuild.proofs.SiteLemmas.{plan_went}
 use Rattle.ist_rebuild.proofs.SlotLemmas.{tells_replaced, tells_left, closed_went}
 use Rattle.ist_rows.proofs.GoneLemmas.{still_ready}
+use Rattle.ist_rows.proofs.FewStepLemmas.{none_loads, none_more, none_same}
+use Rattle.ist_rebuild.proofs.FewLemmas.{none_helped}
+use Rattle.ist_rule.proofs.GoingOnLemmas.{goes_on_who}
 use Rattle.ist_rebuild.proofs.sites.settle.Goals as goal
 
 -- before the first turn nothing was done
 pub turns-init : goal.turns-init
-turns-init c =
-    (c.requires.same_table, helped_same c.args.who.now c.requires.ready c.know.ensures.sound)
+turns-init c = (
+  c.requires.same_table,
+  helped_same c.args.who.now c.requires.ready c.know.ensures.sound,
+  none_same c.args.who.now,
+  refl,
+)
 
 -- the plan is still a plan
 pub slot_word-word-requires-clause-plan : goal.slot_word-word-requires-clause-plan
@@ -45,6 +52,15 @@ turns-preserved c =
           (helped_more c.args.who.now c.turns.who mid c.turns.invariant.1 l)
           (help_helped mid c.help.new.token c.in-Change.change (still_ready l.on)
           c.help.ensures.went),
+      none_more c.args.who.now c.turns.who (record c.turns.who { token = c.help.new.token })
+          c.turns.invariant.2
+          (none_more c.turns.who mid (record c.turns.who { token = c.help.new.token })
+          (none_loads c.turns.who c.slot_word-word.new.token c.turns.invariant.1.on.gone.caller.mine
+          c.slot_word-word.ensures.seen)
+          (none_helped mid c.help.new.token c.in-Change.change
+          (goes_on_who c.slot_word-word.ensures.seen ∙ c.turns.invariant.1.on.gone.caller.mine)
+          c.help.ensures.went)),
+      c.turns.invariant.3,
     )
 
 -- the help resolves the change, which wasn't resolved before
@@ -91,3 +107,24 @@ returns-in-Another-clause-replaced c _ =
     (plan_went ServesRebuild _ _ l.on.gone.went c.args.plan c.requires.plan) _
     c.slot_word-word.ensures.holds
     (c.in-Another.ensures.no_change refl) (c.in-Another.ensures.another refl)
+
+-- no word was taken
+pub returns-in-Itself-clause-none : goal.returns-in-Itself-clause-none
+returns-in-Itself-clause-none c =
+    none_more c.args.who.now c.turns.who (record c.turns.who { token = c.slot_word-word.new.token })
+    c.turns.invariant.2
+    (none_loads c.turns.who c.slot_word-word.new.token c.turns.invariant.1.on.gone.caller.mine
+    c.slot_word-word.ensures.seen)
+
+pub returns-in-Another-clause-none : goal.returns-in-Another-clause-none
+returns-in-Another-clause-none c =
+    none_more c.args.who.now c.turns.who (record c.turns.who { token = c.slot_word-word.new.token })
+    c.turns.invariant.2
+    (none_loads c.turns.who c.slot_word-word.new.token c.turns.invariant.1.on.gone.caller.mine
+    c.slot_word-word.ensures.seen)
+
+pub returns-in-Itself-clause-held : goal.returns-in-Itself-clause-held
+returns-in-Itself-clause-held c = c.turns.invariant.3
+
+pub returns-in-Another-clause-held : goal.returns-in-Another-clause-held
+returns-in-Another-clause-held c = c.turns.invariant.3

@@ -1,4 +1,9 @@
+use Rattle.ist_rows.proofs.FewLemmas.{later_went, few_more}
+use Rattle.ist_build.specs.Laying.{IsReservation}
 use Rattle.ist_build.proofs.ShareLemmas.{err_map}
+use Rattle.ist_rebuild.specs.Going.{Begins}
+use Rattle.ist_rebuild.specs.Needs.{needed}
+use Rattle.ist_rebuild.proofs.FewLemmas.{few_left, few_needed}
 use Rattle.ist_rebuild.proofs.BegunLemmas.{begun_more, closed_told, reserved_begun, told_after}
 use Rattle.ist_rebuild.proofs.StartAnswerLemmas.{refused_after}
 use Rattle.ist_rebuild.proofs.starting.start.Goals as goal
@@ -22,6 +27,12 @@ returns-then-parent_is_open c =
       aims = begun.aims;
       quiet = begun.quiet;
       refused = begun.refused;
+      few = few_more c.args.who.now c.parent_is_open.new.who c.start_open.new.who
+          (later_went IsReservation c.args.who.now c.parent_is_open.new.who test.number test.went)
+          (later_went Begins c.parent_is_open.new.who c.start_open.new.who
+          c.start_open.ensures.begun.number c.start_open.ensures.begun.went)
+          (needed c.args.who.now) (needed c.parent_is_open.new.who) 0
+          (few_left c.args.who.now c.parent_is_open.new.who test.few) c.start_open.ensures.few;
       yes = told.yes;
       other = told.other;
       marked = told.marked;
@@ -50,6 +61,7 @@ returns-else-parent_is_open c =
       aims = begun.aims;
       quiet = begun.quiet;
       refused = begun.refused;
+      few = few_needed c.args.who.now c.parent_is_open.new.who c.parent_is_open.ensures.reserved.few;
       yes = told.yes;
       other = told.other;
       marked = told.marked;

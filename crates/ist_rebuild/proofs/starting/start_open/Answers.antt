@@ -1,5 +1,10 @@
 use Rattle.std.proofs.Common.{refl, Ok}
 use Rattle.ist_rebuild.proofs.BegunLemmas.{begun_more, refused_told, reserved_begun, told_after}
+use Rattle.ist_rows.proofs.FewLemmas.{later_went}
+use Rattle.ist_rows.proofs.FewStepLemmas.{few_kept}
+use Rattle.ist_build.specs.Laying.{IsReservation}
+use Rattle.ist_rebuild.proofs.FewLemmas.{few_needed}
+use Rattle.ist_rebuild.specs.Needs.{needed}
 use Rattle.ist_rebuild.proofs.starting.start_open.Goals as goal
 
 -- a row was refused
@@ -28,3 +33,16 @@ returns-clause-told c =
     told_after c.args.who.now c.prepare.new.who c.requires.caller c.requires.quiet
     c.in_ok-rows.ensures.reserved c.args.parent c.args.index c.args.target c.put_in.new.who
     (Ok c.put_in.result) c.put_in.ensures.told
+
+-- no more words were taken than the two rows need
+pub returns-in_err-rows-clause-few : goal.returns-in_err-rows-clause-few
+returns-in_err-rows-clause-few c =
+    few_needed c.args.who.now c.prepare.new.who c.in_err-rows.ensures.reserved.few
+
+pub returns-clause-few : goal.returns-clause-few
+returns-clause-few c =
+    let old = c.args.who.now in
+    let mid = c.prepare.new.who in
+    let r = c.in_ok-rows.ensures.reserved in
+    few_kept (needed old) 0 old mid c.put_in.new.who (later_went IsReservation old mid r.number r.went)
+    c.put_in.ensures.none (few_needed old mid r.few)
