@@ -1,5 +1,5 @@
 -- A pass that alone took words: a start for which there was room isn't refused. Serves the crates above.
-use Rattle.std.proofs.Common.{◌≡◌, ℕ, ◌+◌, ◌≤◌, ◌⊎◌, ◌==◌, Bool, true, false, if◌then◌else◌, List, refl, subst, inl, inr, arith}
+use Rattle.std.proofs.Common.{◌≡◌, ℕ, ◌+◌, ◌<◌, ◌≤◌, ◌⊎◌, ◌==◌, Bool, true, false, if◌then◌else◌, List, refl, ◌∙◌, subst, inl, inr, arith}
 use Rattle.ist_core.specs.declared.events.Event.{Event}
 use Rattle.ist_core.specs.declared.events.Event.TheVariants.{Reserve}
 use Rattle.ist_core.specs.declared.events.Who.TheVariants.{Caller as CallerOf}
@@ -9,11 +9,13 @@ use Rattle.ist_core.specs.Authors.{GoesOnBy, no_more, one_more, whose}
 use Rattle.ist_core.specs.Logs.{GoesOn, Log, one_event, same_log}
 use Rattle.ist_core.specs.RowLayout.{change_words, rebuild_words}
 use Rattle.ist_core.specs.Spending.{reserved_by, spent}
+use Rattle.ist_core.proofs.PrefixLemmas.{goes_on_more}
 use Rattle.ist_rows.specs.Taken.{taken_at, taken_by}
 use Rattle.ist_rule.proofs.WhoLemmas.{same_number}
 use Rattle.ist_rows.proofs.TakenLemmas.{own_takes, taken_grows, taken_later}
-use Rattle.ist_tree.specs.Faces.{PassFace}
-use Rattle.ist_tree.specs.Freezing.{IsFreezeRefused}
+use Rattle.ist_tree.specs.declared.freezing.Frozen.{Frozen}
+use Rattle.ist_tree.specs.Faces.{PassFace, TreeFace}
+use Rattle.ist_tree.specs.Freezing.{FreezesInFew, FreezesWhole, IsFreezeRefused, froze_few, ran_short, words_of_freeze}
 use Rattle.ist_tree.specs.Room.{HasMadeNone, TakesAlone}
 
 -- ---- one event
@@ -85,3 +87,41 @@ room_is_enough p q words full at since enough rows alone r =
     let next = r.had.few.next_is in
     let small = r.had.few.small in
     omega arith
+
+-- if its words were left at a step of the call, and since then only the pass took words, a freeze is
+-- whole
+pub lone_whole : (p q : PassFace) (frozen : Frozen) → FreezesInFew p q frozen → (at : Log)
+    → GoesOn p.seen at → spent p.tree.start at + words_of_freeze frozen.keys ≤ p.tree.words
+    → TakesAlone p at q.seen → FreezesWhole p q frozen
+lone_whole p q frozen (froze_few whole) at since enough alone = whole
+lone_whole p q frozen (ran_short r) at since enough alone =
+    let all = spent_alone p.tree.start p.number alone in
+    let more = spent_more p.tree.start p.number r.until in
+    let rise = taken_grows p.number since in
+    let few = r.few in
+    let small = r.small in
+    absurd (omega arith)
+
+-- what a freeze took after a look, at which the pass made no event, it took since before the look
+pub freezes_before : (p m q : PassFace) (frozen : Frozen) → m.number ≡ p.number → m.tree ≡ p.tree
+    → GoesOn p.seen m.seen → HasMadeNone p m → m.refused ≡ p.refused → FreezesInFew m q frozen
+    → FreezesInFew p q frozen
+freezes_before p m q frozen number tree seen none same (froze_few w) =
+    let n = words_of_freeze frozen.keys in
+    let taken = taken_later p.number none in
+    let few : taken_by p.number q.seen ≤ taken_by p.number m.seen + n
+    = subst (λ k. taken_by k q.seen ≤ taken_by k m.seen + n) number w.few in
+    froze_few record {
+      rebuilt = w.rebuilt;
+      unrefused = w.unrefused ∙ same;
+      few = omega arith;
+    }
+freezes_before p m q frozen number tree seen none same (ran_short r) =
+    ran_short record {
+      at = r.at;
+      since = goes_on_more seen r.since;
+      until = r.until;
+      asked = r.asked;
+      few = few_before p m number none r.at r.asked (words_of_freeze frozen.keys) r.few;
+      small = subst (λ (t : TreeFace). t.words < spent t.start r.at + r.asked) tree r.small;
+    }

@@ -13,6 +13,7 @@ use Rattle.ist_rule.specs.Learning.{now}
 use Rattle.ist_rule.proofs.LaterLemmas.{goes_on_more}
 use Rattle.ist_rule.proofs.WentOnLemmas.{later_by-goes_on, went_lawful, went_now}
 use Rattle.ist_rows.specs.declared.callers.Caller.{Caller}
+use Rattle.ist_tree.proofs.FewFreezeLemmas.{few_helped, few_still}
 use Rattle.ist_tree.specs.declared.freezing.Frozen.{Frozen}
 use Rattle.ist_tree.specs.declared.freezing.Outcome.{Outcome}
 use Rattle.ist_tree.specs.declared.freezing.Site.TheVariants.{Rebuilt, Still}
@@ -33,6 +34,7 @@ still_frozen a c words frozen m =
       done = λ unrefused. m.done;
       rebuilt = λ row e. absurd (m.is.1 row e);
       refused = tt;
+      few = few_still a c frozen.keys m.few;
     }
 
 one_inner : (a b : ℕ) → InnerAt a ≡ InnerAt b → a ≡ b
@@ -68,6 +70,7 @@ target_frozen a b c words rebuild target outcome m f =
             short = its outcome.refused f.refused;
           };
       refused = cause outcome.refused f.refused;
+      few = few_helped a b c outcome.refused outcome.frozen.keys m.on f.on m.few f.few;
     }
   where
     top : (full : Full) → IsHelpShort c.token.view rebuild words full

@@ -104,9 +104,9 @@ module _ (who began new : Caller) (token : TokenFace) (it : IsFreezeCall who beg
       }
 
   -- the call took at most the rows of a start
-  took_few : (asked : ℕ) → TakesNeeded began new → asked ≤ needed new
+  took_needed : (asked : ℕ) → TakesNeeded began new → asked ≤ needed new
       → taken_by who.number x.log + asked ≤ taken_by who.number v.log + (rebuild_words + change_words)
-  took_few asked few needs =
+  took_needed asked few needs =
       let first = taken_later who.number
       (subst (λ y. Later y v.log b.log) it.pass.caller.mine it.begun.later) in
       let work : taken_by who.number w.log + needed new ≤ taken_by who.number b.log + needed began
@@ -132,7 +132,7 @@ module _ (who began new : Caller) (token : TokenFace) (it : IsFreezeCall who beg
         asked = asked;
         lacked = lacked_then new token it.on.gone.caller (way.x_view who began new token it) q
             full.asked lacks;
-        few = took_few full.asked few needs;
+        few = took_needed full.asked few needs;
         held = held_on v.start v.words v.log b.log w.log x.log (way.v_to_b who began new token it)
             (way.w_to_x who began new token it)
             (subst (λ pairs. HeldInnerRow pairs v.words b.log w.log) l.start_is

@@ -30,6 +30,8 @@ use Rattle.ist_rule.specs.Rule.{IsSound}
 use Rattle.ist_rule.proofs.LaterLemmas.{goes_on_more}
 use Rattle.ist_rule.proofs.WentOnLemmas.{later_by-goes_on, went_grow, went_lawful}
 use Rattle.ist_rows.specs.declared.callers.Caller.{Caller}
+use Rattle.ist_rebuild.specs.Needs.{TakesNeeded}
+use Rattle.ist_tree.proofs.FewFreezeLemmas.{few_met}
 use Rattle.ist_tree.specs.declared.freezing.Frozen.{Frozen}
 use Rattle.ist_tree.specs.declared.freezing.Site.{Site}
 use Rattle.ist_tree.specs.declared.freezing.Site.TheVariants.{Rebuilt, Still}
@@ -157,13 +159,14 @@ other_reserved old new answer word is left =
 
 -- what is met after further steps is met from the beginning
 pub met_more : (a b c : Caller) (site : Site) → StaysReady Rebuilds a b → KeepsDone a b
-    → HasMet b c site
+    → TakesNeeded a b → HasMet b c site
     → HasMet a c site
-met_more a b c site on done m =
+met_more a b c site on done few m =
     record {
       on = ready_more Rebuilds a b c on m.on;
       is = here site m.is;
       done = but_more a b c (rebuild_in site) on.gone.number done m.done;
+      few = few_met a b c on m.on few m.few;
     }
   where
     lawful : Lawful b.token.view.start b.token.view.words c.token.view.log
@@ -181,7 +184,7 @@ met_more a b c site on done m =
 -- what may be met after idle steps may be met from the beginning
 pub may_have_met_more : (a b c : Caller) (o : Option Site) → GoesIdle a b → MayHaveMet b c o
     → MayHaveMet a c o
-may_have_met_more a b c (Some site) g m = met_more a b c site g.on g.done m
+may_have_met_more a b c (Some site) g m = met_more a b c site g.on g.done g.few m
 may_have_met_more a b c None g m = idle_more a b c g m
 
 -- ---- refusals

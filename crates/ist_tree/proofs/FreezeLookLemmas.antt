@@ -31,6 +31,7 @@ use Rattle.ist_rule.specs.Rule.{IsSound}
 use Rattle.ist_rule.proofs.LaterLemmas.{goes_on_more, later-goes_on}
 use Rattle.ist_rule.proofs.WentOnLemmas.{goes_on_grow, goes_on_went, later_by-goes_on}
 use Rattle.ist_rows.specs.declared.callers.Caller.{Caller}
+use Rattle.ist_rebuild.proofs.FewLemmas.{few_needed}
 use Rattle.ist_tree.specs.declared.freezing.Frozen.{Frozen}
 use Rattle.ist_tree.specs.declared.freezing.Site.TheVariants.{Rebuilt, Still}
 use Rattle.ist_tree.specs.Freezing.{HeldInnerRow, IsStill, WasFrozen, all_keys, no_key, one_key}
@@ -188,6 +189,7 @@ module _ (who : Caller) (token : TokenFace) (ready : IsReady who)
           none,
         );
         done = looked_idle.done;
+        few = few_needed who (record who { token = token }) looked_idle.few;
       }
 
 -- a leaf is no inner row
@@ -217,6 +219,7 @@ begun_met old new target rebuild top b =
         },
       );
       done = b.2;
+      few = b.3;
     }
 
 -- one that stood there
@@ -258,4 +261,5 @@ stood_met who token rebuild target s ready seen started h below top =
       );
       done = all_but who (record who { token = token }) rebuild
           (plain_done (λ event. ⊥) load_plain who token ready went);
+      few = few_needed who (record who { token = token }) (looked_idle who token ready seen).few;
     }

@@ -1,5 +1,5 @@
 -- Marking the target of a rebuild, and then helping the rebuild. Serves `freeze_target`.
-use Rattle.std.proofs.Common.{◌≡◌, ℕ, ◌⊎◌, Option, None, Result, Ok, Err, IfSome, IfErr, refl, sym, ap, ◌∙◌, subst, inl, inr}
+use Rattle.std.proofs.Common.{◌≡◌, ℕ, ◌+◌, ◌⊎◌, Option, None, Result, Ok, Err, IfSome, IfErr, refl, sym, ap, ◌∙◌, subst, inl, inr}
 use Rattle.std.specs.Result.{result_err}
 use Rattle.ist_core.specs.declared.events.Event.{Event}
 use Rattle.ist_core.specs.declared.ports.Full.{Full}
@@ -23,10 +23,17 @@ use Rattle.ist_rule.specs.Going.{WentOn}
 use Rattle.ist_rule.specs.Learning.{now}
 use Rattle.ist_rule.proofs.WentOnLemmas.{went_all, went_grow, went_more}
 use Rattle.ist_rows.specs.declared.callers.Caller.{Caller}
-use Rattle.ist_tree.specs.FreezeSteps.{FreezesTarget, IsBelowAnchor, IsHelpShort, IsRebuildOf}
+use Rattle.std.specs.List.{sum}
+use Rattle.ist_core.specs.RowLayout.{change_words}
+use Rattle.ist_core.specs.Shapes.{shape}
+use Rattle.ist_rows.specs.Taken.{HasTakenFewIn}
+use Rattle.ist_rows.proofs.FewStepLemmas.{few_call, none_kept}
+use Rattle.ist_build.specs.Calls.{IsTold}
+use Rattle.ist_tree.proofs.FewFreezeLemmas.{after_ready, few_unless, told_of}
+use Rattle.ist_tree.specs.FreezeSteps.{FreezesTarget, HasTakenFewUnless, IsHelpShort, IsRebuildOf}
 use Rattle.ist_rows.specs.Going.{IsReady, StaysReady}
 use Rattle.ist_tree.proofs.DueLemmas.{helped_either}
-use Rattle.ist_tree.proofs.FreezeGoingLemmas.{below_grows}
+use Rattle.ist_tree.proofs.FreezeGoingLemmas.{below_grows, rebuild_on}
 use Rattle.ist_tree.proofs.EventLemmas.{IsPlainHelp, serves_rebuild}
 use Rattle.ist_tree.proofs.RebuildLemmas.{plain_on}
 use Rattle.ist_tree.proofs.ShortLemmas.{short_now}
@@ -63,7 +70,7 @@ marked old token target ready went =
 
 -- the target is finished, and its rebuild was helped
 pub target_froze : (old : Caller) (token : TokenFace) (new : Caller) (words rebuild target keys : ℕ)
-    → IsReady old → IsBelowAnchor (now old.token.view) rebuild
+    → IsReady old → IsRebuildOf (now old.token.view) rebuild target
     → WentOn (Marks token.view target) old.token.view token.view
     → IsFinishedWith (now token.view) target keys
     → StaysReady Rebuilds (record old { token = token }) new
@@ -72,10 +79,12 @@ pub target_froze : (old : Caller) (token : TokenFace) (new : Caller) (words rebu
     → (answer ≡ Ok Replaced → IsReplaced (now new.token.view) rebuild)
     → (answer ≡ Ok ParentMarked → IsLeftToParent (now new.token.view) rebuild)
     → IfErr answer (λ full. IsHelpRefused token.view rebuild words full new.token.view)
+    → ((k : ℕ) → IsTold (now token.view) rebuild k
+    → HasTakenFewIn answer (sum (shape k) + change_words) 0 (record old { token = token }) new)
     → FreezesTarget old new words rebuild target
     record { frozen = record { root = layout.Inner target; keys = keys }; refused = refused }
-target_froze old token new words rebuild target keys ready below went f on serves answer refused is replaced
-    left full =
+target_froze old token new words rebuild target keys ready of went f on serves answer refused is replaced
+    left full few =
     record {
       on = ready_more Rebuilds old (record old { token = token }) new
           (marked old token target ready went) on;
@@ -91,6 +100,14 @@ target_froze old token new words rebuild target keys ready below went f on serve
       replaced = λ unrefused. alone (helped answer refl (sym is ∙ unrefused));
       refused = subst (λ o. IfSome o (IsHelpShort new.token.view rebuild words)) (sym is)
           (cause answer full);
+      few = let mid = record old { token = token } in
+          subst (λ o. HasTakenFewUnless o (sum (shape keys) + change_words) old new) (sym is)
+          (few_unless answer (sum (shape keys) + change_words) old new
+          (few_call answer (sum (shape keys) + change_words) 0 old mid new
+          (none_kept (Marks token.view target) (marks_keep token.view target) old mid refl
+          ready.caller.mine went) (after_ready mid new on)
+          (few keys (told_of (now token.view) rebuild target keys
+          (rebuild_on (Marks token.view target) old.token.view token.view went rebuild target of) f))));
     }
   where
     -- the anchor is never closed
@@ -101,7 +118,7 @@ target_froze old token new words rebuild target keys ready below went f on serve
         let b = below_grows (now token.view) (now new.token.view)
         (went_grow ServesRebuild token.view new.token.view serves) rebuild
         (below_grows (now old.token.view) (now token.view)
-        (went_grow (Marks token.view target) old.token.view token.view went) rebuild below) in
+        (went_grow (Marks token.view target) old.token.view token.view went) rebuild of.below) in
         let one = same_rebuild ((now new.token.view).pieces rebuild) l.row b.row l.published b.published
         in
         absurd (l.closed (anchor_is (ap (λ (x : RebuildRow). x.parent) one ∙ b.parent_is)))

@@ -13,15 +13,16 @@ use Rattle.ist_rows.specs.declared.callers.Caller.{Caller}
 use Rattle.ist_tree.specs.declared.freezing.Frozen.{Frozen}
 use Rattle.ist_tree.specs.declared.freezing.Outcome.{Outcome}
 use Rattle.ist_tree.specs.DueRows.{FinishesFreeze, all_done}
-use Rattle.ist_tree.specs.FreezeSteps.{Freezes, IsFreezeStopped, IsTargetShort, IsTopShort}
+use Rattle.ist_tree.specs.FreezeSteps.{Freezes, HasTakenFewUnless, IsFreezeStopped, IsTargetShort, IsTopShort}
 use Rattle.ist_tree.specs.Calls.{HasSeenMore}
 use Rattle.ist_tree.specs.Faces.{PassFace}
-use Rattle.ist_tree.specs.Freezing.{HasFrozen, HasStartedNone, IsFreezeRefused, IsFrozenFor, IsLeftShort, LeavesRebuilt}
+use Rattle.ist_tree.specs.Freezing.{FreezesInFew, words_of_freeze, HasFrozen, HasStartedNone, IsFreezeRefused, IsFrozenFor, IsLeftShort, LeavesRebuilt}
 use Rattle.ist_tree.specs.Insides.{IsPassWith, face_as, pass_face}
 use Rattle.ist_tree.specs.Refusals.{HasStartsDone, IsTopRefused, KeepsRefusal}
 use Rattle.ist_tree.proofs.FinishLemmas.{finishes, first_kept}
 use Rattle.ist_tree.proofs.FreezeCallLemmas.{IsFreezeCall}
 use Rattle.ist_tree.proofs.FreezeCallLemmas as way
+use Rattle.ist_tree.proofs.FewFreezeCallLemmas.{few_in_call, out_in_call}
 use Rattle.ist_tree.proofs.FreezeEndLemmas.{freeze_refused, frozen_for, has_frozen, has_started_none, in_last, keeps_refusal, started_since, top_refused}
 use Rattle.ist_tree.proofs.ShortLemmas.{some_is}
 
@@ -32,6 +33,7 @@ pub record FreezesAll (p q : PassFace) (frozen : Frozen) : Type 0 where
   pub still : IsFrozenFor q frozen
   pub pairs : HasFrozen p q frozen
   pub rebuilt : LeavesRebuilt p q frozen
+  pub few : FreezesInFew p q frozen
   pub calls : q.calls ≡ p.calls
   pub refused : KeepsRefusal p q
   pub finished : FinishesFreeze p q
@@ -83,6 +85,7 @@ freeze_ends who began new token it r q all words same table outcome f is old vie
                   (λ t u g. target_grows t u g k.rebuild row) k.of.target_is;
               replaced = either row k.rebuild outcome.refused k.replaced k.short;
             });
+        few = in_few outcome.refused refl f.few;
         calls = way.calls_are who began new token it;
         refused = keeps_refusal who began new token it r outcome.refused words same f.refused;
         finished =
@@ -97,6 +100,30 @@ freeze_ends who began new token it r q all words same table outcome f is old vie
       };
     })
   where
+    or_none : (o : Option Full) → option_or o None ≡ o
+    or_none None = refl
+    or_none (Some full) = refl
+
+    -- without a refusal all was rebuilt
+    in_few : (o : Option Full) → outcome.refused ≡ o
+        → HasTakenFewUnless o (words_of_freeze outcome.frozen.keys) began new
+        → FreezesInFew (pass_face who r) (face_as token new.number (option_or r o)) outcome.frozen
+    in_few None e h =
+        few_in_call who began new token it r (option_or r None) outcome.frozen
+        (λ row is.
+        let k = f.rebuilt row is in
+        record {
+          rebuild = k.rebuild;
+          started = in_last who began new token it (λ t. IsStarted t k.rebuild)
+              (λ t u g. started_grows t u g k.rebuild) k.of.started;
+          target = in_last who began new token it (λ t. HasTarget t k.rebuild row)
+              (λ t u g. target_grows t u g k.rebuild row) k.of.target_is;
+          replaced = in_last who began new token it (λ t. IsReplaced t k.rebuild)
+              (λ t u g. replaced_grows t u g k.rebuild) (k.replaced e);
+        }) (or_none r) h
+    in_few (Some full) e h =
+        out_in_call who began new token it r (option_or r (Some full)) outcome.frozen h
+
     both : (a c : Option Full) → option_or a c ≡ None → (a ≡ None) × (c ≡ None)
     both None c e = (refl, e)
     both (Some full) c e = absurd (cc)

@@ -35,11 +35,13 @@ pub mod TakenLemmas
 pub mod ClosingLemmas
 pub mod RealTimeLemmas
 pub mod FreezingLemmas
+pub mod FewFreezeLemmas
 pub mod FreezeGoingLemmas
 pub mod FreezeBelowLemmas
 pub mod FreezeLookLemmas
 pub mod FreezeCallLemmas
 pub mod FreezeEndLemmas
+pub mod FewFreezeCallLemmas
 pub mod FreezeResultLemmas
 pub mod FreezeReadLemmas
 pub mod FreezeMarkLemmas

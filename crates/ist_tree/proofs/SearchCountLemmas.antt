@@ -134,7 +134,7 @@ pub met_begun : (a b c : Caller) (site : Site) → GoesIdle (counted_as a b.toke
     → HasMet b c site → HasMet (counted_as a c.token.view.searches) c site
 met_begun a b c site g m =
     subst (λ n. HasMet (counted_as a n) c site) (none_begun b c m.on)
-    (met_more (counted_as a b.token.view.searches) b c site g.on g.done m)
+    (met_more (counted_as a b.token.view.searches) b c site g.on g.done g.few m)
 
 -- and steps that met nothing are further such steps
 pub idle_after : (a b c : Caller) → GoesIdle (counted_as a b.token.view.searches) b → GoesIdle b c

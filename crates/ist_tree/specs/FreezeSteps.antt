@@ -1,6 +1,6 @@
--- What the functions that freeze a tree promise each other: what is below the anchor, and what
--- freezing it results in.
-use Rattle.std.specs.Prelude.{◌≡◌, ◌≢◌, ℕ, ◌≤◌, ◌⊎◌, List, slice_get, Option, Some, None, IfSome}
+-- What the functions that freeze a tree promise each other: what it meets and what it results in.
+use Rattle.std.specs.Prelude.{◌≡◌, ◌≢◌, ℕ, ◌+◌, ◌≤◌, ◌⊎◌, List, slice_get, Option, Some, None, IfSome}
+use Rattle.std.specs.List.{sum}
 use Rattle.ist_core.specs.declared.ports.Full.{Full}
 use Rattle.ist_core.specs.declared.states.RebuildRow.{RebuildRow}
 use Rattle.ist_core.specs.Lawful.{state_of}
@@ -12,6 +12,7 @@ use Rattle.ist_core.specs.Pieces.{Rebuild}
 use Rattle.ist_core.specs.Rebuilding.{IsFinishedWith, IsReplaced, IsStarted}
 use Rattle.ist_core.specs.References.{InnerAt, Ref}
 use Rattle.ist_core.specs.RowLayout.{anchor, change_words, rebuild_words}
+use Rattle.ist_core.specs.Shapes.{shape}
 use Rattle.ist_core.specs.Snapshots.{Snapshot}
 use Rattle.ist_layout.specs.declared.references.Ref.TheVariants.{Inner}
 use Rattle.ist_layout.specs.Meanings.{ref_meant}
@@ -26,9 +27,10 @@ use Rattle.ist_tree.specs.declared.freezing.Frozen.{Frozen}
 use Rattle.ist_tree.specs.declared.freezing.Outcome.{Outcome}
 use Rattle.ist_tree.specs.declared.freezing.Site.{Site}
 use Rattle.ist_tree.specs.declared.freezing.Site.TheVariants.{Still, Rebuilt}
-use Rattle.ist_tree.specs.Freezing.{HeldInnerRow, WasFrozen}
+use Rattle.ist_tree.specs.Freezing.{HeldInnerRow, WasFrozen, words_of_freeze}
 use Rattle.ist_tree.specs.Working.{Rebuilds, KeepsDone}
 use Rattle.ist_rows.specs.Going.{StaysReady}
+use Rattle.ist_rows.specs.Taken.{HasRunOut, HasTakenFew}
 use Rattle.ist_tree.specs.Refusals.{LeavesTooFew}
 
 -- ---- what is below the anchor
@@ -99,6 +101,7 @@ pub record HasMet (old new : Caller) (site : Site) : Type 0 where
   pub on : StaysReady Rebuilds old new
   pub is : IsSite old.token.view new.token.view site
   pub done : KeepsDoneBut old new (rebuild_in site)
+  pub few : HasTakenFew (needed old) 0 old new
 
 -- it has met this, or nothing yet
 abbrev pub MayHaveMet : Caller → Caller → Option Site → Type 0
@@ -109,12 +112,20 @@ MayHaveMet old new None = GoesIdle old new
 abbrev pub HasStarted : Caller → Caller → ℕ → Option ℕ → Type 0
 HasStarted old new target (Some rebuild) = StaysReady Rebuilds old new
     × IsRebuildOf (now new.token.view) rebuild target × KeepsDoneBut old new (Some rebuild)
+    × HasTakenFew (needed old) 0 old new
 HasStarted old new target None = GoesIdle old new
 
 -- the caller as if it had begun this many searches
 abbrev pub counted_as : Caller → ℕ → Caller
 counted_as who n =
     record who { token = record who.token { view = record who.token.view { searches = n } } }
+
+-- ---- what it takes
+
+-- the caller took at most n words; if there is a refusal, too few were left for that
+abbrev pub HasTakenFewUnless : Option Full → ℕ → Caller → Caller → Type 0
+HasTakenFewUnless None n old new = HasTakenFew n 0 old new
+HasTakenFewUnless (Some full) n old new = HasRunOut n old new
 
 -- ---- what it results in
 
@@ -152,6 +163,7 @@ pub record FreezesTarget (old new : Caller) (words rebuild target : ℕ) (outcom
       → StartsDoneSince first (now new.token.view) old.number
   pub replaced : outcome.refused ≡ None → IsReplaced (now new.token.view) rebuild
   pub refused : IfSome outcome.refused (IsHelpShort new.token.view rebuild words)
+  pub few : HasTakenFewUnless outcome.refused (sum (shape outcome.frozen.keys) + change_words) old new
 
 -- this rebuild of the row was refused so
 pub record IsTargetShort (v w : View) (words row rebuild : ℕ) (full : Full) : Type 0 where
@@ -175,6 +187,7 @@ pub record Freezes (old new : Caller) (words : ℕ) (outcome : Outcome) : Type 0
   pub rebuilt : (row : ℕ) → ref_meant outcome.frozen.root ≡ InnerAt row
       → IsRebuiltIn old.token.view new.token.view words row outcome.refused
   pub refused : IfSome outcome.refused (IsTopShort old.token.view new.token.view words)
+  pub few : HasTakenFewUnless outcome.refused (words_of_freeze outcome.frozen.keys) old new
 
 -- ---- reading what is frozen
 

@@ -1,5 +1,6 @@
 -- A whole tree that was frozen: when it is so, which pairs it has, and why a freeze is refused.
-use Rattle.std.specs.Prelude.{◌≡◌, ℕ, ◌+◌, ◌≤◌, ◌⊎◌, List, map, length, slice_get, Some}
+use Rattle.std.specs.Prelude.{◌≡◌, ℕ, ◌+◌, ◌*◌, ◌≤◌, ◌⊎◌, List, map, length, slice_get, Some}
+use Rattle.std.specs.List.{sum}
 use Rattle.std.specs.List.Sorted.{IsStrictlyIncreasing}
 use Rattle.ist_core.specs.declared.pairs.Pair.{Pair}
 use Rattle.ist_core.specs.declared.ports.Full.{Full}
@@ -12,16 +13,18 @@ use Rattle.ist_core.specs.Marking.{HasTarget}
 use Rattle.ist_core.specs.Rebuilding.{IsFinishedWith, IsReplaced, IsStarted}
 use Rattle.ist_core.specs.References.{Ref, Empty, LeafAt, InnerAt, word_of}
 use Rattle.ist_core.specs.RowLayout.{anchor, change_words, rebuild_words}
+use Rattle.ist_core.specs.Shapes.{shape}
 use Rattle.ist_core.specs.Slots.{SlotHolds}
 use Rattle.ist_core.specs.Snapshots.{Snapshot}
 use Rattle.laws_calls.specs.Freezing.{WereThePairs}
 use Rattle.ist_layout.specs.Meanings.{ref_meant}
 use Rattle.ist_rebuild.specs.Starting.{StartsNone}
-use Rattle.ist_rows.specs.Taken.{taken_by}
+use Rattle.ist_rows.specs.Taken.{RanOut, taken_by}
 use Rattle.ist_tree.specs.declared.freezing.Frozen.{Frozen}
 use Rattle.ist_tree.specs.Faces.{PassFace}
 use Rattle.ist_tree.specs.RealTime.{StepsIn}
 use Rattle.ist_tree.specs.DueRows.{kept_refusal}
+use Rattle.ist_tree.specs.Room.{TakesAtMost}
 use Rattle.ist_tree.specs.Refusals.{HadTooFew, IsTopRefused, LackedAt}
 
 -- ---- what is frozen
@@ -32,6 +35,11 @@ pub data IsStill (t : Snapshot) : Ref → ℕ → Type 0 where
   no_key : IsStill t Empty 0
   one_key : (base : ℕ) (row : LeafRow) → t.pieces base ≡ Some (Leaf row) → IsStill t (LeafAt base) 1
   all_keys : (base keys : ℕ) → IsFinishedWith t base keys → IsStill t (InnerAt base) keys
+
+-- the words of the rows that one pass takes at most for a freeze of this many keys: the inner rows of
+-- the ideal tree of them, the row of the rebuild, and the changes of its start and its finish
+abbrev pub words_of_freeze : ℕ → ℕ
+words_of_freeze keys = sum (shape keys) + rebuild_words + 2 * change_words
 
 -- the tree is frozen in the log
 abbrev pub IsFrozenIn : List Pair → ℕ → Log → Frozen → Type 0
@@ -144,6 +152,30 @@ pub record IsRebuiltFor (p q : PassFace) (row : ℕ) : Type 0 where
 -- if the root of the frozen tree is an inner row, it was rebuilt so
 abbrev pub LeavesRebuilt : PassFace → PassFace → Frozen → Type 0
 LeavesRebuilt p q frozen = (row : ℕ) → ref_meant frozen.root ≡ InnerAt row → IsRebuiltFor p q row
+
+-- a rebuild of this row was started, and was replaced
+pub record WasRebuilt (q : PassFace) (row : ℕ) : Type 0 where
+  pub rebuild : ℕ
+  pub started : IsStarted (state_of q.tree.start q.tree.words q.seen) rebuild
+  pub target : HasTarget (state_of q.tree.start q.tree.words q.seen) rebuild row
+  pub replaced : IsReplaced (state_of q.tree.start q.tree.words q.seen) rebuild
+
+-- if the root of the frozen tree is an inner row, that was rebuilt
+abbrev pub IsAllRebuilt : PassFace → Frozen → Type 0
+IsAllRebuilt q frozen = (row : ℕ) → ref_meant frozen.root ≡ InnerAt row → WasRebuilt q row
+
+-- the tree was rebuilt, and the pass met no refusal and took at most the words of a freeze
+pub record FreezesWhole (p q : PassFace) (frozen : Frozen) : Type 0 where
+  pub rebuilt : IsAllRebuilt q frozen
+  pub unrefused : q.refused ≡ p.refused
+  pub few : TakesAtMost p q (words_of_freeze frozen.keys)
+
+-- so it was; or in the call too few words were left for rows with which the pass would have taken no
+-- more than these
+pub data FreezesInFew (p q : PassFace) (frozen : Frozen) : Type 0 where
+  froze_few : FreezesWhole p q frozen → FreezesInFew p q frozen
+  ran_short : RanOut p.number (words_of_freeze frozen.keys) p.tree.words p.tree.start p.seen q.seen
+      → FreezesInFew p q frozen
 
 -- the pass has started no rebuild in the call: each of its starts that was decided yes by the end
 -- was decided yes before

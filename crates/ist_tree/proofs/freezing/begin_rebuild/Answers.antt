@@ -27,6 +27,7 @@ returns-in-Yes-clause-begun c = (
       c.start.ensures.quiet c.start.ensures.went c.start.ensures.number,
   begun_of c.start.new.who.token.view _ _ _ (c.in_ok-rebuild.ensures.yes _ (ap Ok c.in-Yes.is)),
   λ first done. yes_leaves first _ _ _ _ c.in-Yes.is (c.in_ok-rebuild.ensures.done first done),
+  c.start.ensures.few,
 )
 
 -- another word stood there
