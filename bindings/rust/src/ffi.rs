@@ -147,7 +147,7 @@ pub(crate) fn words_for(pairs: u64) -> u64 {
     unsafe { ist_words_for(pairs) }
 }
 
-/// How many words a shot of this many pairs takes by reckoning, if one pass does all the work; 0 if there are 2^32 or more.
+/// How many words a shot of this many pairs takes at most, if its pass alone takes words; 0 if there are 2^32 or more.
 pub(crate) fn shot_words(pairs: u64) -> u64 {
     // SAFETY: it asks for nothing.
     unsafe { ist_shot_words(pairs) }

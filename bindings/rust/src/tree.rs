@@ -20,8 +20,8 @@ pub fn words_for(pairs: usize) -> Option<u32> {
     u32::try_from(words).ok().filter(|words| (1..=ffi::MOST_WORDS).contains(words))
 }
 
-/// Returns how many words a [shot](Tree::shot) of this many pairs takes by reckoning, if no other thread helps with it. No tree has
-/// 2^32 pairs or more.
+/// Returns how many words a [shot](Tree::shot) of this many pairs takes at most, if no other thread takes words meanwhile. No tree
+/// has 2^32 pairs or more.
 ///
 /// ```
 /// assert_eq!(luskadorv::shot_words(1 << 32), None);
@@ -119,7 +119,7 @@ impl Tree {
     }
 
     /// Takes a shot: the map as it was at one moment of the call, whatever others do from then on. The whole tree is rebuilt for
-    /// those who go on, which takes [`shot_words`] words by reckoning, if no other thread helps with it.
+    /// those who go on, which takes at most [`shot_words`] words, if no other thread takes words meanwhile.
     ///
     /// If fewer than `words` words are left at a moment of the call, it returns [`Error::Full`], and nothing was changed. A shot
     /// that runs out of words is taken, but later updates of the tree are [`Full`]: so ask for [`shot_words`] of its pairs, and for

@@ -14,13 +14,13 @@ use Rattle.ist_core.proofs.PrefixLemmas.{goes_on_more}
 use Rattle.ist_tree.specs.declared.freezing.Frozen.{Frozen}
 use Rattle.ist_tree.specs.Calls.{HasSeenMore}
 use Rattle.ist_tree.specs.Faces.{TreeFace, PassFace}
-use Rattle.ist_tree.specs.Freezing.{IsFreezeRefused}
+use Rattle.ist_tree.specs.Freezing.{FreezesInFew, IsFreezeRefused}
 use Rattle.ist_tree.specs.RealTime.{StepsIn}
 use Rattle.ist_tree.specs.Refusals.{HadTooFew, IsTopRefused, KeepsRefusal}
 use Rattle.ist_tree.specs.Room.{HasLeft, HasMadeNone}
-use Rattle.ist_tree.proofs.AloneLemmas.{few_before, room_is_enough}
+use Rattle.ist_tree.proofs.AloneLemmas.{few_before, freezes_before, lone_whole, room_is_enough}
 use Rattle.ist_tree.proofs.HeardLemmas.{seen_more_then, steps_from, steps_until}
-use Rattle.ist_scan.specs.Room.{HadRoom, HadNoRoom, IsShotRefused, LoneShotsAreTaken, for_start}
+use Rattle.ist_scan.specs.Room.{HadRoom, HadNoRoom, IsShotRefused, LoneShotsAreTaken, LoneShotsAreWhole, for_start}
 use Rattle.ist_scan.specs.Shots.{HasTakenShot}
 
 -- ---- the look
@@ -59,6 +59,12 @@ had_no_room p q left words full seen has step none few next asked all =
 pub lone_taken : LoneShotsAreTaken
 lone_taken p q words full room rows alone refused =
     room_is_enough p q words full room.at room.step.seen room.enough rows alone refused
+
+-- room for all words of the shot is enough for the whole
+pub lone_shot_whole : LoneShotsAreWhole
+lone_shot_whole p q shot words few room le alone =
+    let enough = room.enough in
+    lone_whole p q shot few room.at room.step.seen (omega arith) alone
 
 -- ---- the shot after it
 
@@ -148,6 +154,13 @@ module _ (p m q : PassFace) (look : HasSeenMore p m) (after : HasSeenMore m q) w
       → IfOk r (HasTakenShot p q)
   ok_both (Ok shot) h = taken_both shot h
   ok_both (Err full) h = tt
+
+  -- and took as few words
+  pub few_if_ok : HasMadeNone p m → m.refused ≡ p.refused → (r : Result Frozen Full)
+      → IfOk r (FreezesInFew m q) → IfOk r (FreezesInFew p q)
+  few_if_ok none same (Ok shot) h =
+      freezes_before p m q shot look.number look.tree look.seen none same h
+  few_if_ok none same (Err full) h = tt
 
   -- if it was taken, there was room
   pub room_if_ok : (words : ℕ) → HadRoom p m words → (r : Result Frozen Full)

@@ -1,21 +1,19 @@
 -- How many words a shot takes, and what a pass that asks for room first concludes.
-use Rattle.std.specs.Prelude.{◌≡◌, ℕ, ◌+◌, ◌*◌, ◌≤◌}
-use Rattle.std.specs.List.{sum}
+use Rattle.std.specs.Prelude.{◌≡◌, ℕ, ◌+◌, ◌≤◌}
 use Rattle.ist_core.specs.declared.ports.Full.{Full}
 use Rattle.ist_core.specs.Logs.{Log}
 use Rattle.ist_core.specs.RowLayout.{change_words, rebuild_words}
-use Rattle.ist_core.specs.Shapes.{shape}
 use Rattle.ist_core.specs.Spending.{spent}
+use Rattle.ist_tree.specs.declared.freezing.Frozen.{Frozen}
 use Rattle.ist_tree.specs.Faces.{PassFace}
-use Rattle.ist_tree.specs.Freezing.{IsFreezeRefused}
+use Rattle.ist_tree.specs.Freezing.{FreezesInFew, FreezesWhole, IsFreezeRefused, words_of_freeze}
 use Rattle.ist_tree.specs.RealTime.{StepsIn}
 use Rattle.ist_tree.specs.Refusals.{HadTooFew}
 use Rattle.ist_tree.specs.Room.{HasMadeNone, TakesAlone}
 
--- the words of the rows that one pass takes for a shot of this many keys: the inner rows of the
--- ideal tree of them, the row of the rebuild, and the changes of its start and its finish
+-- the words of the rows that one pass takes at most for a shot of this many keys: those of a freeze
 abbrev pub words_of_shot : ℕ → ℕ
-words_of_shot keys = sum (shape keys) + rebuild_words + 2 * change_words
+words_of_shot = words_of_freeze
 
 -- at a step of the pass in this call, at least this many words were left
 pub record HadRoom (p q : PassFace) (words : ℕ) : Type 0 where
@@ -46,3 +44,10 @@ LoneShotsAreTaken =
     (p q : PassFace) (words : ℕ) (full : Full) → (room : HadRoom p q words)
     → rebuild_words + change_words ≤ words → TakesAlone p room.at q.seen
     → ¬ (IsFreezeRefused p q full)
+
+-- a shot is whole if at a step of the pass in this call at least its words were left, and since then
+-- only the pass took words: it was rebuilt, no refusal was met, and the pass took at most its words
+abbrev pub LoneShotsAreWhole : Type 0
+LoneShotsAreWhole =
+    (p q : PassFace) (shot : Frozen) (words : ℕ) → FreezesInFew p q shot → (room : HadRoom p q words)
+    → words_of_shot shot.keys ≤ words → TakesAlone p room.at q.seen → FreezesWhole p q shot

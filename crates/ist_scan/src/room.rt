@@ -1,7 +1,7 @@
 //! How many words a shot takes, and a shot that is taken only if enough are left.
 ghost use Rattle.std.specs.Prelude.{◌≡◌, ◌<◌, ◌^◌, IfOk, IfErr, OnOk, OnErr};
 ghost use Rattle.ist_tree.specs.Calls.{HasSeenMore};
-ghost use Rattle.ist_tree.specs.Freezing.{IsFrozenFor, HasStartedNone};
+ghost use Rattle.ist_tree.specs.Freezing.{FreezesInFew, IsFrozenFor, HasStartedNone};
 ghost use Rattle.ist_tree.specs.Refusals.{KeepsRefusal};
 ghost use Rattle.ist_tree.specs.Room.{HasMadeNone};
 ghost use Rattle.ist_scan.specs.Room.{words_of_shot, HadRoom, HadNoRoom, IsShotRefused};
@@ -13,9 +13,10 @@ use ist_layout::{CHANGE_WORDS, LEAF_WORDS, REBUILD_WORDS};
 use ist_math::ideal_words;
 use ist_tree::{Pass, Tree};
 
-/// Returns how many words a shot of this many keys takes if one pass does all the work: the inner
-/// rows of the ideal tree of the keys, the row of the rebuild, and the changes of its
-/// start and its finish. The new tree uses the old leaves.
+/// Returns how many words a shot of this many keys takes at most if one pass does all the work: the
+/// inner rows of the ideal tree of the keys, the row of the rebuild, and the changes of its start and
+/// its finish. The new tree uses the old leaves. If these are left and only the pass takes words, the
+/// shot is whole (`laws::lone_shots_are_taken`).
 ///
 /// An empty tree and a single leaf take none. If other passes help with the rebuild at the same
 /// time, all together may take more: two may build the same part, and one of these is lost.
@@ -62,6 +63,7 @@ impl Shot {
         ensures frozen { IfOk result (IsFrozenFor pass.new) }
         ensures taken { IfOk result (HasTakenShot pass.old pass.new) }
         ensures room { OnOk result (HadRoom pass.old pass.new words) }
+        ensures few { IfOk result (FreezesInFew pass.old pass.new) }
         ensures full { IfErr result (IsShotRefused pass.old pass.new words) }
         ensures unstarted { OnErr result (HasStartedNone pass.old pass.new) }
         ensures calls { pass.new.calls ≡ pass.old.calls }

@@ -6,7 +6,7 @@ ghost use Rattle.ist_scan.specs.Walks.{IsWalkOfPass};
 ghost use Rattle.ist_core.specs.Map.{listed, pairs_between};
 ghost use Rattle.ist_tree.specs.Calls.{HasSeenMore};
 ghost use Rattle.ist_tree.specs.DueRows.{FinishesFreeze};
-ghost use Rattle.ist_tree.specs.Freezing.{IsFrozenFor, IsFreezeRefused, HasStartedNone, LeavesRebuilt};
+ghost use Rattle.ist_tree.specs.Freezing.{FreezesInFew, IsFrozenFor, IsFreezeRefused, HasStartedNone, LeavesRebuilt};
 ghost use Rattle.ist_tree.specs.Refusals.{HasStartsDone, KeepsRefusal};
 ghost use Rattle.ist_scan.specs.Cuts.{slice_of};
 ghost use Rattle.ist_scan.specs.Shots.{ArePairsOf, IsOf, HasTakenShot, HasOnlyLooked, map_seen};
@@ -96,7 +96,7 @@ fn bin_at(tree: &Tree, pass: &mut Pass, shot: Frozen, first: u64, width: u64, j:
 
 impl Shot {
     /// Takes a shot of the map: freezes the tree at one moment of the call, and rebuilds it.
-    /// `shot_words` says how many words that takes. If they run out during the rebuild, the shot is
+    /// `shot_words` says how many words that takes at most. If they run out during the rebuild, the shot is
     /// taken, but all updates are refused from then on: see `take_if_room`.
     ///
     /// Its position isn't before what the pass had seen. The calls of the pass are as before.
@@ -108,6 +108,7 @@ impl Shot {
         ensures frozen { IfOk result (IsFrozenFor pass.new) }
         ensures taken { IfOk result (HasTakenShot pass.old pass.new) }
         ensures rebuilt { IfOk result (LeavesRebuilt pass.old pass.new) }
+        ensures few { IfOk result (FreezesInFew pass.old pass.new) }
         ensures full { IfErr result (IsFreezeRefused pass.old pass.new) }
         ensures unstarted { OnErr result (HasStartedNone pass.old pass.new) }
         ensures calls { pass.new.calls ≡ pass.old.calls }
