@@ -4,11 +4,11 @@ use Rattle.ist_core.specs.References.{Ref, Empty, LeafAt, InnerAt}
 use Rattle.ist_core.specs.declared.states.InnerRow.{InnerRow}
 use Rattle.ist_core.specs.Pieces.{Pieces, Inner}
 use Rattle.ist_core.specs.Leaves.{PlacedLeaf, HasLeaves, SlotsHaveLeaves}
-use Rattle.check_builds.specs.declared.readings.Reading.{Reading}
-use Rattle.check_builds.specs.declared.readings.Reading.TheVariants.{Nothing, OneLeaf, OneRow, Other}
+use Rattle.check_builds.specs.declared.readings.SlotReading.{SlotReading}
+use Rattle.check_builds.specs.declared.readings.SlotReading.TheVariants.{Nothing, OneLeaf, OneRow, Other}
 
 -- the reading is right for the reference; `Other` is right for references without leaves
-abbrev pub IsReadingOf : Reading → Option Ref → Type 0
+abbrev pub IsReadingOf : SlotReading → Option Ref → Type 0
 IsReadingOf Nothing ref = ref ≡ Some Empty
 IsReadingOf (OneLeaf base) ref = ref ≡ Some (LeafAt base)
 IsReadingOf (OneRow base) ref = ref ≡ Some (InnerAt base)

@@ -8,7 +8,7 @@ ghost use Rattle.ist_core.specs.Leaves.{HasLeaves};
 ghost use Rattle.check_events.specs.Mirroring.{Mirrors};
 ghost use Rattle.check_builds.specs.Reading.{Gathers, GathersOn, PutsSlots};
 
-use crate::readings::{Reading, read_slot};
+use crate::readings::{SlotReading, read_slot};
 use check_events::{FoundLeaf, Replica};
 use std::alloc::{AllocError, Global};
 
@@ -56,10 +56,10 @@ fn add_of_slot(
         (reverse waiting.new.items) out.new.items) }
 {
     match read_slot(replica, word) {
-        Reading::Nothing => Ok(true),
-        Reading::OneLeaf(leaf) => add_leaf(replica, leaf, out),
-        Reading::OneRow(row) => put_slots(replica, row, waiting),
-        Reading::Other => Ok(false),
+        SlotReading::Nothing => Ok(true),
+        SlotReading::OneLeaf(leaf) => add_leaf(replica, leaf, out),
+        SlotReading::OneRow(row) => put_slots(replica, row, waiting),
+        SlotReading::Other => Ok(false),
     }
 }
 

@@ -18,5 +18,5 @@ pub use building::{can_place, can_root};
 pub use drawing::can_draw;
 pub use giving_up::can_lose;
 pub use leaves::add_leaves;
-pub use readings::{Reading, read_slot};
+pub use readings::{SlotReading, read_slot};
 pub use roots::{is_ideal, is_root};

@@ -15,7 +15,7 @@ use ist_layout::{DECIDED_YES, Ref};
 
 /// What a slot reads as, as far as leaves lie below it.
 #[derive(Clone, Copy, Debug, PartialEq, Eq, Drop)]
-pub enum Reading {
+pub enum SlotReading {
     /// No leaf.
     Nothing,
     /// The leaf at this base.
@@ -27,16 +27,16 @@ pub enum Reading {
 }
 
 /// Returns what a slot with this word reads as.
-pub fn read_slot(replica: &Replica, word: u64) -> Reading
+pub fn read_slot(replica: &Replica, word: u64) -> SlotReading
     ensures exact { (t : Snapshot) → Mirrors replica.now t
         → IsReadingOf result (slots.logical t.pieces word) }
 {
     match past_change(replica, word) {
-        Some(Ref::Empty) => Reading::Nothing,
-        Some(Ref::Leaf { base }) => Reading::OneLeaf(u64::from(base)),
-        Some(Ref::Inner { base }) => Reading::OneRow(u64::from(base)),
+        Some(Ref::Empty) => SlotReading::Nothing,
+        Some(Ref::Leaf { base }) => SlotReading::OneLeaf(u64::from(base)),
+        Some(Ref::Inner { base }) => SlotReading::OneRow(u64::from(base)),
         Some(Ref::Rebuild { base }) => target_of(replica, u64::from(base)),
-        _ => Reading::Other,
+        _ => SlotReading::Other,
     }
 }
 
@@ -74,12 +74,12 @@ fn side_of(change: &ChangeRow) -> u64
 }
 
 /// Returns what a rebuild at the base reads as.
-fn target_of(replica: &Replica, base: u64) -> Reading
+fn target_of(replica: &Replica, base: u64) -> SlotReading
     ensures exact { (t : Snapshot) → Mirrors replica.now t
         → IsReadingOf result (slots.rebuild_reads (t.pieces base)) }
 {
     match replica.rebuilds.get(&base) {
-        None => Reading::Other,
-        Some(row) => Reading::OneRow(row.target),
+        None => SlotReading::Other,
+        Some(row) => SlotReading::OneRow(row.target),
     }
 }

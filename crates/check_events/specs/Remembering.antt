@@ -24,7 +24,7 @@ use Rattle.ist_core.specs.Marking.{IsCalled}
 use Rattle.check_events.specs.declared.pasts.BuildTable.{BuildTable}
 use Rattle.check_events.specs.declared.pasts.LastUpdate.{LastUpdate}
 use Rattle.check_events.specs.declared.pasts.Slot.{Slot}
-use Rattle.check_events.specs.declared.pasts.Way.{Way}
+use Rattle.check_events.specs.declared.pasts.RowWay.{RowWay}
 use Rattle.check_fairness.specs.Answers.{FindsGreatest, Holds}
 
 -- two words as one key
@@ -95,16 +95,16 @@ pub record KnowsSlots (slots : BTreeMap ℕ Slot) (first : Snapshot) (log : Log)
 
 -- the node is linked or was; the keys that lead to it are those from low to high; and the jump is
 -- on its chain or is the anchor
-pub record IsWay (first : Snapshot) (log : Log) (node : ℕ) (way : Way) : Type 0 where
+pub record IsWay (first : Snapshot) (log : Log) (node : ℕ) (way : RowWay) : Type 0 where
   pub linked : WasLinked first log node
   pub led : (key : ℕ) → key < 2 ^ 64
       → WasLedTo first log key node ↔ ((way.low ≤ key) × (key ≤ way.high))
   pub jump : (way.jump ≡ anchor) ⊎ WasOnChain first log node way.jump
 
 -- each way in the map is right
-abbrev pub KnowsWays : BTreeMap ℕ Way → Snapshot → Log → Type 0
+abbrev pub KnowsWays : BTreeMap ℕ RowWay → Snapshot → Log → Type 0
 KnowsWays ways first log =
-    (node : ℕ) (way : Way) → tree.get nat_cmp ways node ≡ Some way → IsWay first log node way
+    (node : ℕ) (way : RowWay) → tree.get nat_cmp ways node ≡ Some way → IsWay first log node way
 
 -- ---- changes
 

@@ -32,6 +32,6 @@ pub use leaves::FoundLeaf;
 pub use marking::{can_finish, can_mark, can_pass, target_keys};
 pub use naming::{inner_of_word, leaf_of_word, names_nothing, rebuild_of_word};
 pub use nodes::{finished_keys, holds_at, is_open, slot_holds};
-pub use pasts::{BuildTable, LastUpdate, Past, Slot, Way, pair_key};
+pub use pasts::{BuildTable, LastUpdate, Past, RowWay, Slot, pair_key};
 pub use replicas::Replica;
 pub use rows::{change_of_words, holds_row, holds_rows, size_at};

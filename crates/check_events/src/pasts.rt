@@ -24,7 +24,7 @@ pub struct Slot {
 /// those from `low` to `high`. `jump` is a row on the way, or the anchor; it is chosen so that each
 /// way up takes few jumps. `depth` counts the rows of the way.
 #[derive(Clone, Copy, Debug, PartialEq, Eq, Drop)]
-pub struct Way {
+pub struct RowWay {
     pub low: u64,
     pub high: u64,
     pub jump: u64,
@@ -60,7 +60,7 @@ pub struct Past {
     /// The slot in which each node hung that was linked below the anchor.
     pub slots: BTreeMap<u64, Slot>,
     /// The ways to some of these nodes.
-    pub ways: BTreeMap<u64, Way>,
+    pub ways: BTreeMap<u64, RowWay>,
     /// The callers that had a change decided no, each with the node of the change.
     pub refused: BTreeSet<u128>,
     /// The rebuilds that were started.

@@ -7,14 +7,14 @@ use Rattle.std.specs.Ordering.{nat_cmp}
 use Rattle.std.specs.BTreeMap as tree
 use Rattle.std.specs.BTreeMap.{BTreeMap}
 use Rattle.check_fairness.specs.declared.keeping.KeptReadings.{KeptReadings}
-use Rattle.check_fairness.specs.declared.readings.Reading.{Reading}
+use Rattle.check_fairness.specs.declared.readings.SizeReading.{SizeReading}
 use Rattle.check_fairness.specs.Readings.{SomeGoes, AreReadings}
 use Rattle.check_fairness.specs.Keeping.{any_room, left_at, CanBeRead, IsKept, GoOnFrom, AreKeptIn}
 use Rattle.check_fairness.proofs.AnswerLemmas.{iff_trans, never}
 use Rattle.check_fairness.proofs.ReadingLemmas.{end_read}
 
 -- there is a reading exactly if the sizes so far can be read
-pub some_left : (lists : List (List ℕ)) (before sizes : List ℕ) (left next : List Reading)
+pub some_left : (lists : List (List ℕ)) (before sizes : List ℕ) (left next : List SizeReading)
     → ((more : List ℕ) → SomeGoes lists any_room next more
     ↔ SomeGoes lists any_room left (sizes ++ more))
     → AreReadings lists any_room before left
@@ -50,7 +50,7 @@ module _ (all : BTreeMap ℕ KeptReadings) (lists : List (List ℕ)) (caller : �
 
 module _ (lists : List (List ℕ)) where
   -- if one goes on, the sizes can be read
-  pub kept_enough : (sizes : List ℕ) (kept : KeptReadings) (rs : List Reading) (empty : Bool)
+  pub kept_enough : (sizes : List ℕ) (kept : KeptReadings) (rs : List SizeReading) (empty : Bool)
       → kept.sizes.items ≡ sizes → rs ≡ left_at kept (length sizes) → empty ≡ nat_eq (length rs) 0
       → empty ≡ false → IsKept lists kept → AreKeptIn lists sizes kept
   kept_enough sizes kept rs empty is left e not_empty k =

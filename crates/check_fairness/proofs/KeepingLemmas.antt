@@ -8,7 +8,7 @@ use Rattle.std.proofs.lemmas.List.{length-take-le, take-append-le, take_all, tak
 use Rattle.std.specs.BTreeMap.{BTreeMap}
 use Rattle.ist_core.specs.Elements.{Among}
 use Rattle.check_fairness.specs.declared.keeping.KeptReadings.{KeptReadings}
-use Rattle.check_fairness.specs.declared.readings.Reading.{Reading}
+use Rattle.check_fairness.specs.declared.readings.SizeReading.{SizeReading}
 use Rattle.check_fairness.specs.Searching.{Goes, all_spare}
 use Rattle.check_fairness.specs.Readings.{SomeGoes, AreReadings}
 use Rattle.check_fairness.specs.Builds.{BeginsWith}
@@ -31,22 +31,22 @@ up_to (suc i) (suc n) h = ⊎_elim (λ k. inl (omega arith)) (λ e. inr (omega a
     (up_to i n (omega arith))
 
 -- the readings in one of some places
-abbrev pub at : List (Vec Reading Global) → ℕ → List Reading
+abbrev pub at : List (Vec SizeReading Global) → ℕ → List SizeReading
 at all i = slice_index_or (map (λ v. v.items) all) i []
 
-at_take : (n i : ℕ) (all : List (Vec Reading Global)) → i < n → at (take n all) i ≡ at all i
+at_take : (n i : ℕ) (all : List (Vec SizeReading Global)) → i < n → at (take n all) i ≡ at all i
 at_take zero i all h = absurd (omega arith)
 at_take (suc n) i [] h = refl
 at_take (suc n) zero (v ∷ all) h = refl
 at_take (suc n) (suc i) (v ∷ all) h = at_take n i all (omega arith)
 
-at_left : (i : ℕ) (all more : List (Vec Reading Global)) → i < length all
+at_left : (i : ℕ) (all more : List (Vec SizeReading Global)) → i < length all
     → at (all ++ more) i ≡ at all i
 at_left i [] more h = absurd (omega arith)
 at_left zero (v ∷ all) more h = refl
 at_left (suc i) (v ∷ all) more h = at_left i all more (omega arith)
 
-at_end : (i : ℕ) (all : List (Vec Reading Global)) (v : Vec Reading Global) → i ≡ length all
+at_end : (i : ℕ) (all : List (Vec SizeReading Global)) (v : Vec SizeReading Global) → i ≡ length all
     → at (all ++ v ∷ []) i ≡ v.items
 at_end zero [] v h = refl
 at_end (suc i) [] v h = absurd (omega arith)
@@ -83,7 +83,7 @@ readings_stay all old new front known caller kept e = kept_stays old new kept fr
 
 module _ (lists : List (List ℕ)) where
   -- readings may go on with a size
-  pub left_on : (sizes : List ℕ) (size : ℕ) (old new : List Reading)
+  pub left_on : (sizes : List ℕ) (size : ℕ) (old new : List SizeReading)
       → ((more : List ℕ) → SomeGoes lists any_room new more
       ↔ SomeGoes lists any_room old (size ∷ more))
       → AreReadings lists any_room sizes old → AreReadings lists any_room (sizes ++ size ∷ []) new
@@ -127,7 +127,7 @@ module _ (lists : List (List ℕ)) where
             moved count (sym whole) (sym same) (k.each i (omega arith));
       }
     where
-      moved : {m : ℕ} {xs ys : List ℕ} {rs qs : List Reading} → m ≡ old.lists → xs ≡ ys → rs ≡ qs
+      moved : {m : ℕ} {xs ys : List ℕ} {rs qs : List SizeReading} → m ≡ old.lists → xs ≡ ys → rs ≡ qs
           → AreReadings (take old.lists lists) any_room xs rs → AreReadings (take m lists) any_room ys qs
       moved {m} {xs} {ys} {rs} {qs} c x r a =
           subst (λ o. AreReadings (take o lists) any_room ys qs) (sym c)
@@ -135,7 +135,7 @@ module _ (lists : List (List ℕ)) where
           (subst (λ zs. AreReadings (take old.lists lists) any_room zs rs) x a))
 
   -- of one more
-  pub kept_more : (old new : KeptReadings) (size : ℕ) (next : Vec Reading Global)
+  pub kept_more : (old new : KeptReadings) (size : ℕ) (next : Vec SizeReading Global)
       → new.lists ≡ old.lists → new.sizes.items ≡ old.sizes.items ++ size ∷ []
       → new.left.items ≡ old.left.items ++ next ∷ []
       → ((more : List ℕ) → SomeGoes (take old.lists lists) any_room next.items more

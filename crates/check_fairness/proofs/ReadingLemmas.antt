@@ -5,7 +5,7 @@ use Rattle.std.proofs.Common.{sym, ap, subst, inl, inr, ⊎_elim, true≢false, 
 use Rattle.std.proofs.lemmas.Bool.Decides.{nat_tests}
 use Rattle.std.proofs.lemmas.List.{take_more}
 use Rattle.ist_core.specs.Elements.{Among}
-use Rattle.check_fairness.specs.declared.readings.Reading.{Reading}
+use Rattle.check_fairness.specs.declared.readings.SizeReading.{SizeReading}
 use Rattle.check_fairness.specs.declared.spares.Spare.{Spare}
 use Rattle.check_fairness.specs.Searching.{IsSpare, without_spare, Goes, all_read, leaves_out}
 use Rattle.check_fairness.specs.Searching.{goes_on, begins, is_full, TakesNext, BeginsOne}
@@ -96,25 +96,25 @@ out_is P room may less rest free x xs s e = (
 -- ---- readings
 
 module _ (lists : List (List ℕ)) (room : ℕ) (sizes : List ℕ) where
-  some_left : (rs qs : List Reading) → SomeGoes lists room rs sizes
+  some_left : (rs qs : List SizeReading) → SomeGoes lists room rs sizes
       → SomeGoes lists room (rs ++ qs) sizes
   some_left [] qs h = absurd h
   some_left (r ∷ rs) qs (inl g) = inl g
   some_left (r ∷ rs) qs (inr g) = inr (some_left rs qs g)
 
-  some_right : (rs qs : List Reading) → SomeGoes lists room qs sizes
+  some_right : (rs qs : List SizeReading) → SomeGoes lists room qs sizes
       → SomeGoes lists room (rs ++ qs) sizes
   some_right [] qs h = h
   some_right (r ∷ rs) qs h = inr (some_right rs qs h)
 
-  some_apart : (rs qs : List Reading) → SomeGoes lists room (rs ++ qs) sizes
+  some_apart : (rs qs : List SizeReading) → SomeGoes lists room (rs ++ qs) sizes
       → SomeGoes lists room rs sizes ⊎ SomeGoes lists room qs sizes
   some_apart [] qs h = inr h
   some_apart (r ∷ rs) qs (inl g) = inl (inl g)
   some_apart (r ∷ rs) qs (inr g) = ⊎_elim (λ k. inl (inr k)) (λ k. inr k) (some_apart rs qs g)
 
   -- one reading more
-  pub some_pushed : (rs new : List Reading) (r : Reading) → new ≡ rs ++ r ∷ []
+  pub some_pushed : (rs new : List SizeReading) (r : SizeReading) → new ≡ rs ++ r ∷ []
       → SomeGoes lists room new sizes ↔ (SomeGoes lists room rs sizes ⊎ GoesFrom lists room r sizes)
   some_pushed rs new r e =
       subst (λ qs. SomeGoes lists room qs sizes ↔ (SomeGoes lists room rs sizes ⊎ GoesFrom lists
@@ -124,14 +124,14 @@ module _ (lists : List (List ℕ)) (room : ℕ) (sizes : List ℕ) where
       )
 
   -- the readings up to one more
-  pub some_more : (rs : List Reading) (i : ℕ) (default : Reading) → i < length rs
+  pub some_more : (rs : List SizeReading) (i : ℕ) (default : SizeReading) → i < length rs
       → SomeGoes lists room (take (i + 1) rs) sizes
       ↔ (SomeGoes lists room (take i rs) sizes ⊎ GoesFrom lists room (get_or rs i default) sizes)
   some_more rs i default h = some_pushed (take i rs) (take (i + 1) rs) (get_or rs i default)
       (take_more rs i default h)
 
   -- readings that leave the same go on in the same way
-  pub reached_goes : (rs : List Reading) (r : Reading) → IsLeftBefore lists rs r
+  pub reached_goes : (rs : List SizeReading) (r : SizeReading) → IsLeftBefore lists rs r
       → GoesFrom lists room r sizes
       → SomeGoes lists room rs sizes
   reached_goes [] r h g = absurd h
@@ -146,12 +146,12 @@ module _ (lists : List (List ℕ)) (room : ℕ) (sizes : List ℕ) where
   reached_goes (q ∷ rs) r (inr h) g = inr (reached_goes rs r h g)
 
   -- a reading that leaves the same as another adds nothing
-  pub reached_added : (rs : List Reading) (r : Reading) → IsLeftBefore lists rs r
+  pub reached_added : (rs : List SizeReading) (r : SizeReading) → IsLeftBefore lists rs r
       → SomeGoes lists room rs sizes ↔ (SomeGoes lists room rs sizes ⊎ GoesFrom lists room r sizes)
   reached_added rs r h = (inl, (λ k. ⊎_elim (λ a. a) (reached_goes rs r h) k))
 
 -- at the end of the sizes each reading will do
-pub end_read : (lists : List (List ℕ)) (room : ℕ) (rs : List Reading) (rest : List ℕ) (empty : Bool)
+pub end_read : (lists : List (List ℕ)) (room : ℕ) (rs : List SizeReading) (rest : List ℕ) (empty : Bool)
     → length rest < 1
     → empty ≡ nat_eq (length rs) 0 → IsTrue (not empty) ↔ SomeGoes lists room rs rest
 end_read lists room rs (x ∷ rest) empty n e = absurd (omega arith)
@@ -165,15 +165,15 @@ end_read lists room (r ∷ rs) [] empty n e =
 
 -- ---- readings that leave the same
 
-module _ (lists : List (List ℕ)) (r : Reading) where
+module _ (lists : List (List ℕ)) (r : SizeReading) where
   -- if the reading at some place leaves the same, one of the readings does
-  pub reached_at : (rs : List Reading) (i : ℕ) (default : Reading) → i < length rs
+  pub reached_at : (rs : List SizeReading) (i : ℕ) (default : SizeReading) → i < length rs
       → LeavesSame lists (get_or rs i default) r → IsLeftBefore lists rs r
   reached_at [] i default h s = absurd (omega arith)
   reached_at (p ∷ rs) zero default h s = inl s
   reached_at (p ∷ rs) (suc i) default h s = inr (reached_at rs i default (omega arith) s)
 
-  reached_apart : (rs : List Reading) (q : Reading) → IsLeftBefore lists (rs ++ q ∷ []) r
+  reached_apart : (rs : List SizeReading) (q : SizeReading) → IsLeftBefore lists (rs ++ q ∷ []) r
       → IsLeftBefore lists rs r ⊎ LeavesSame lists q r
   reached_apart [] q (inl s) = inr s
   reached_apart [] q (inr n) = absurd n
@@ -182,7 +182,7 @@ module _ (lists : List (List ℕ)) (r : Reading) where
 
   -- if none of the first i readings leaves the same and the next doesn't, none of the first i + 1
   -- does
-  pub reached_more : (rs : List Reading) (i : ℕ) (default : Reading) → i < length rs
+  pub reached_more : (rs : List SizeReading) (i : ℕ) (default : SizeReading) → i < length rs
       → ¬ (IsLeftBefore lists (take i rs) r) → ¬ (LeavesSame lists (get_or rs i default) r)
       → ¬ (IsLeftBefore lists (take (i + 1) rs) r)
   reached_more rs i default h none other k =

@@ -7,7 +7,7 @@ use Rattle.std.specs.BTreeMap as tree
 use Rattle.std.specs.BTreeMap.{BTreeMap}
 use Rattle.ist_core.specs.Elements.{Among}
 use Rattle.check_fairness.specs.declared.keeping.KeptReadings.{KeptReadings}
-use Rattle.check_fairness.specs.declared.readings.Reading.{Reading}
+use Rattle.check_fairness.specs.declared.readings.SizeReading.{SizeReading}
 use Rattle.check_fairness.specs.Searching.{Goes, all_spare}
 use Rattle.check_fairness.specs.Readings.{AreReadings}
 
@@ -20,7 +20,7 @@ abbrev pub CanBeRead : List (List ℕ) → List ℕ → Type 0
 CanBeRead lists sizes = Goes (λ l. Among l lists) any_room all_spare [] true sizes
 
 -- what is left after the first n sizes, or nothing if fewer are kept
-abbrev pub left_at : KeptReadings → ℕ → List Reading
+abbrev pub left_at : KeptReadings → ℕ → List SizeReading
 left_at kept n = slice_index_or (map (λ v. v.items) kept.left.items) n []
 
 -- what is kept after the first n sizes is what their readings leave, for each n, with the first of

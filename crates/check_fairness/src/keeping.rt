@@ -10,7 +10,7 @@ ghost use Rattle.check_fairness.specs.Keeping.{IsKept, KnowsReadings, GoOnFrom, 
 ghost use Rattle.check_fairness.specs.Knowing.{KnowsLists, KeepsSizes};
 
 use crate::lists::BuildingLists;
-use crate::readings::{Reading, first_readings, read_further, read_on};
+use crate::readings::{SizeReading, first_readings, read_further, read_on};
 use crate::spares::are_all_spare;
 use std::alloc::{AllocError, Global};
 use std::collections::BTreeMap;
@@ -23,7 +23,7 @@ pub struct KeptReadings {
     /// The sizes.
     pub sizes: Vec<u64>,
     /// What is left before each of them, and after the last.
-    pub left: Vec<Vec<Reading>>,
+    pub left: Vec<Vec<SizeReading>>,
 }
 
 /// Returns how many sizes at the front both lists share.
@@ -43,7 +43,7 @@ fn common_len(xs: &[u64], ys: &[u64]) -> usize
 }
 
 /// Returns what is left after the first `n` sizes, or nothing if fewer are kept.
-fn left_at(left: &[Vec<Reading>], n: usize) -> &[Reading]
+fn left_at(left: &[Vec<SizeReading>], n: usize) -> &[SizeReading]
     ensures value { result.now ≡ slice_index_or (map (λ v. v.items) left.now) n [] }
 {
     match left.get(n) {

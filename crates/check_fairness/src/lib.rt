@@ -16,7 +16,7 @@ mod spares;
 pub use fairness::is_fair_for;
 pub use keeping::{KeptReadings, keep_readings};
 pub use lists::{BuildingLists, add_keys, no_lists};
-pub use readings::Reading;
+pub use readings::SizeReading;
 pub use shapes::is_listed;
 pub use shares::{degree_of, part_len_of};
 pub use spares::Spare;

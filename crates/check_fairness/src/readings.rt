@@ -16,7 +16,7 @@ use std::alloc::{AllocError, Global};
 /// list that was begun, with the place of its first size still to come; and whether another list
 /// may be begun.
 #[derive(Clone, Copy, Drop)]
-pub struct Reading {
+pub struct SizeReading {
     pub may: Spare,
     pub list: usize,
     pub at: usize,
@@ -24,12 +24,15 @@ pub struct Reading {
 }
 
 /// Returns what is left before any size is read.
-pub(crate) fn first_readings(alloc: Global, lists: &[Vec<u64>]) -> Result<Vec<Reading>, AllocError>
+pub(crate) fn first_readings(
+    alloc: Global,
+    lists: &[Vec<u64>],
+) -> Result<Vec<SizeReading>, AllocError>
     ensures first { IfOk result (λ readings. (room : ℕ)
         → AreReadings (map (λ v. v.items) lists.now) room [] readings.items) }
 {
     let mut readings = Vec::new(alloc);
-    readings.push(Reading {
+    readings.push(SizeReading {
         may: ALL_SPARE,
         list: lists.len(),
         at: 0,
@@ -43,9 +46,9 @@ pub(crate) fn read_further(
     alloc: Global,
     lists: &[Vec<u64>],
     room: u64,
-    before: &[Reading],
+    before: &[SizeReading],
     sizes: &[u64],
-) -> Result<Vec<Reading>, AllocError>
+) -> Result<Vec<SizeReading>, AllocError>
     ensures exact { let all = map (λ v. v.items) lists.now in
         IfOk result (λ readings. (more : List ℕ)
         → (SomeGoes all room readings.items more ↔ SomeGoes all room before.now (sizes.now ++ more))) }
@@ -62,9 +65,9 @@ pub(crate) fn read_on(
     alloc: Global,
     lists: &[Vec<u64>],
     room: u64,
-    readings: &[Reading],
+    readings: &[SizeReading],
     size: u64,
-) -> Result<Vec<Reading>, AllocError>
+) -> Result<Vec<SizeReading>, AllocError>
     ensures exact { let all = map (λ v. v.items) lists.now in
         IfOk result (λ next. (sizes : List ℕ)
         → (SomeGoes all room next.items sizes ↔ SomeGoes all room readings.now (size ∷ sizes))) }
@@ -80,9 +83,9 @@ pub(crate) fn read_on(
 fn add_after(
     lists: &[Vec<u64>],
     room: u64,
-    reading: Reading,
+    reading: SizeReading,
     size: u64,
-    next: &mut Vec<Reading>,
+    next: &mut Vec<SizeReading>,
 ) -> Result<(), AllocError>
     ensures added { let all = map (λ v. v.items) lists.now in
         OnOk result (AddsReadings all room next.old.items next.new.items
@@ -108,9 +111,9 @@ fn add_after(
 fn add_left_out(
     lists: &[Vec<u64>],
     room: u64,
-    reading: Reading,
+    reading: SizeReading,
     size: u64,
-    next: &mut Vec<Reading>,
+    next: &mut Vec<SizeReading>,
 ) -> Result<(), AllocError>
     ensures added { let all = map (λ v. v.items) lists.now in
         OnOk result (AddsReadings all room next.old.items next.new.items
@@ -120,7 +123,7 @@ fn add_left_out(
     if !is_spare(reading.may, size) {
         return Ok(());
     }
-    let left = Reading {
+    let left = SizeReading {
         may: without(reading.may, size),
         list: reading.list,
         at: reading.at,
@@ -137,7 +140,7 @@ fn add_on(
     list: usize,
     at: usize,
     size: u64,
-    next: &mut Vec<Reading>,
+    next: &mut Vec<SizeReading>,
 ) -> Result<(), AllocError>
     ensures added { let all = map (λ v. v.items) lists.now in
         OnOk result (AddsReadings all room next.old.items next.new.items
@@ -150,7 +153,7 @@ fn add_on(
             if *first != size {
                 return Ok(());
             }
-            let reading = Reading {
+            let reading = SizeReading {
                 may,
                 list,
                 at: at + 1,
@@ -167,7 +170,7 @@ fn add_begun(
     room: u64,
     may: Spare,
     size: u64,
-    next: &mut Vec<Reading>,
+    next: &mut Vec<SizeReading>,
 ) -> Result<(), AllocError>
     ensures added { let all = map (λ v. v.items) lists.now in
         OnOk result (AddsReadings all room next.old.items next.new.items
@@ -183,8 +186,8 @@ fn add_begun(
 fn add_reading(
     lists: &[Vec<u64>],
     room: u64,
-    reading: Reading,
-    readings: &mut Vec<Reading>,
+    reading: SizeReading,
+    readings: &mut Vec<SizeReading>,
 ) -> Result<(), AllocError>
     ensures added { let all = map (λ v. v.items) lists.now in
         OnOk result (AddsReadings all room readings.old.items readings.new.items (GoesFrom all room reading)) }
@@ -197,7 +200,7 @@ fn add_reading(
 }
 
 /// Returns whether one of the readings leaves the same as this one.
-fn is_reached(lists: &[Vec<u64>], readings: &[Reading], reading: Reading) -> bool
+fn is_reached(lists: &[Vec<u64>], readings: &[SizeReading], reading: SizeReading) -> bool
     ensures exact { IsTrue result
         ↔ IsLeftBefore (map (λ v. v.items) lists.now) readings.now reading }
 {
@@ -210,7 +213,7 @@ fn is_reached(lists: &[Vec<u64>], readings: &[Reading], reading: Reading) -> boo
 }
 
 /// Returns whether two readings leave the same.
-fn leave_same(lists: &[Vec<u64>], a: Reading, b: Reading) -> bool
+fn leave_same(lists: &[Vec<u64>], a: SizeReading, b: SizeReading) -> bool
     ensures exact { IsTrue result ↔ LeavesSame (map (λ v. v.items) lists.now) a b }
 {
     if a.free != b.free || !are_equal(a.may, b.may) {

@@ -12,8 +12,8 @@ use Rattle.ist_core.specs.Leaves.{HasLeaves, row_here, no_slot}
 use Rattle.ist_core.proofs.SlotLemmas.{no_row, slot_once}
 use Rattle.ist_core.proofs.OptionLemmas.{same_inner}
 use Rattle.check_builds.specs.Reading.{IsReadingOf}
-use Rattle.check_builds.specs.declared.readings.Reading.{Reading}
-use Rattle.check_builds.specs.declared.readings.Reading.TheVariants.{Nothing, OneLeaf, OneRow, Other}
+use Rattle.check_builds.specs.declared.readings.SlotReading.{SlotReading}
+use Rattle.check_builds.specs.declared.readings.SlotReading.TheVariants.{Nothing, OneLeaf, OneRow, Other}
 use Rattle.check_state.specs.Hanging.{Hangs, hangs_here, hangs_below}
 use Rattle.check_events.proofs.KindLemmas.{one_target}
 
@@ -124,7 +124,7 @@ other_reading o child none e =
     all = λ base. Some (Inner empty)
 
 -- a reading that is no inner row
-pub no_row_read : (read : Reading) (o : Option Ref) (child : ℕ) → ((base : ℕ) → read ≢ OneRow base)
+pub no_row_read : (read : SlotReading) (o : Option Ref) (child : ℕ) → ((base : ℕ) → read ≢ OneRow base)
     → IsReadingOf read o
     → o ≢ Some (InnerAt child)
 no_row_read Nothing o child other is e = let k = sym is ∙ e in cc

@@ -16,7 +16,7 @@ use Rattle.ist_core.specs.Links.{Linked, Leads, WasLinked, WasLedTo}
 use Rattle.ist_core.proofs.RisingLemmas.{child_count_tells}
 use Rattle.ist_math.proofs.ChildLemmas.{child_count_is}
 use Rattle.check_events.specs.declared.pasts.Slot.{Slot}
-use Rattle.check_events.specs.declared.pasts.Way.{Way}
+use Rattle.check_events.specs.declared.pasts.RowWay.{RowWay}
 use Rattle.check_events.specs.Remembering.{KnowsSlots, KnowsWays, IsWay}
 use Rattle.check_events.specs.Ways.{KeysStay}
 use Rattle.check_events.proofs.WayUpLemmas.{ever_at, at_ever, linked_leads, climbs_is}
@@ -36,7 +36,7 @@ module _ (first : Snapshot) (log : Log) (event : Event) (slots : BTreeMap ℕ Sl
       (linked_leads first (event ∷ log) slots k stay was.0 (inr was.1) key node was.2 climbs)
 
   -- the ways stay
-  pub ways_stay : (ways : BTreeMap ℕ Way) → KnowsWays ways first log
+  pub ways_stay : (ways : BTreeMap ℕ RowWay) → KnowsWays ways first log
       → KnowsWays ways first (event ∷ log)
   ways_stay ways h node way e =
       let it = h node way e in
@@ -54,18 +54,18 @@ pub same_or_not : (a b : ℕ) → (a ≡ b) ⊎ (a ≢ b)
 same_or_not a b = grind arith
 
 -- an empty table has no way
-pub no_ways : (first : Snapshot) (log : Log) (empty : BTreeMap ℕ Way) → tree.IsEmpty empty
+pub no_ways : (first : Snapshot) (log : Log) (empty : BTreeMap ℕ RowWay) → tree.IsEmpty empty
     → KnowsWays empty first log
 no_ways first log empty none node way e = absurd (clash (empty_map empty none node) e)
   where
-    clash : {o : Option Way} → o ≡ None → o ≡ Some way → ⊥
+    clash : {o : Option RowWay} → o ≡ None → o ≡ Some way → ⊥
     clash a b = cc
 
-    empty_map : (m : BTreeMap ℕ Way) → tree.IsEmpty m → (n : ℕ) → tree.get nat_cmp m n ≡ None
+    empty_map : (m : BTreeMap ℕ RowWay) → tree.IsEmpty m → (n : ℕ) → tree.get nat_cmp m n ≡ None
     empty_map m h n = grind (arith, common_steps)
 
 -- one more way in the table
-pub way_added : (first : Snapshot) (log : Log) (old new : BTreeMap ℕ Way) (row : ℕ) (way : Way)
+pub way_added : (first : Snapshot) (log : Log) (old new : BTreeMap ℕ RowWay) (row : ℕ) (way : RowWay)
     → tree.Updates nat_cmp old new row (Some way) → IsWay first log row way
     → KnowsWays old first log → KnowsWays new first log
 way_added first log old new row way u is h node found e =

@@ -19,7 +19,7 @@ use Rattle.ist_core.proofs.KeyLemmas.{keys_rising}
 use Rattle.ist_core.proofs.LeafOrderLemmas.{next_from_rising}
 use Rattle.ist_core.proofs.OptionLemmas.{same_inner}
 use Rattle.check_events.specs.declared.pasts.Slot.{Slot}
-use Rattle.check_events.specs.declared.pasts.Way.{Way}
+use Rattle.check_events.specs.declared.pasts.RowWay.{RowWay}
 use Rattle.check_events.specs.Remembering.{KnowsSlots, IsWay}
 use Rattle.check_events.specs.Ways.{Climbs, at_top, up, here, higher, KeysStay}
 use Rattle.check_events.proofs.WayUpLemmas.{linked_in, linked_out, climbs_is, comes_is}
@@ -106,7 +106,7 @@ module _ (first : Snapshot) (log : Log) (slots : BTreeMap ℕ Slot) (k : KnowsSl
       let low = r.0 in let high = r.1 in omega arith
 
   -- the way to a row in the anchor's slot
-  pub top_is : KeysStay first log → (index row : ℕ) (way : Way) → index ≡ 0
+  pub top_is : KeysStay first log → (index row : ℕ) (way : RowWay) → index ≡ 0
       → HasSlot slots anchor index row
       → way.low ≡ 0 → way.high ≡ 2 ^ 64 - 1 → way.jump ≡ anchor → IsWay first log row way
   top_is stay index row way is e low high jump =
@@ -123,7 +123,7 @@ module _ (first : Snapshot) (log : Log) (slots : BTreeMap ℕ Slot) (k : KnowsSl
       }
 
   -- the way to a row in a slot of an inner row
-  pub below_is : KeysStay first log → (node index row : ℕ) (above way : Way) (r : InnerRow)
+  pub below_is : KeysStay first log → (node index row : ℕ) (above way : RowWay) (r : InnerRow)
       → node ≢ anchor → HasSlot slots node index row → IsWay first log node above
       → (state first log).pieces node ≡ Some (Inner r)
       → ((key : ℕ) → key < 2 ^ 64

@@ -8,7 +8,7 @@ use Rattle.ist_core.specs.Snapshots.{Snapshot}
 use Rattle.ist_core.specs.Logs.{Log}
 use Rattle.ist_core.specs.Links.{WasOnChain}
 use Rattle.check_events.specs.declared.pasts.Slot.{Slot}
-use Rattle.check_events.specs.declared.pasts.Way.{Way}
+use Rattle.check_events.specs.declared.pasts.RowWay.{RowWay}
 use Rattle.check_events.specs.Remembering.{KnowsSlots, IsWay}
 use Rattle.check_state.specs.Hanging.{HasSlot}
 
@@ -20,7 +20,7 @@ IsSpanOf keys index low high =
     → (index ≡ child_count keys key) ↔ ((low ≤ key) × (key ≤ high))
 
 -- this is the way to each row that hangs in the slot of the node
-abbrev pub IsWayBy : Snapshot → Log → ℕ → ℕ → Way → Type 0
+abbrev pub IsWayBy : Snapshot → Log → ℕ → ℕ → RowWay → Type 0
 IsWayBy first log node index way =
     (slots : BTreeMap ℕ Slot) (row : ℕ) → KnowsSlots slots first log → HasSlot slots node index row
     → IsWay first log row way

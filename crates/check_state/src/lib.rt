@@ -33,5 +33,5 @@ pub use reserving::remember_sizes;
 pub use starting::{remember_refusal, remember_start};
 pub use targeting::{remember_lists, remember_target};
 pub use updating::remember_update;
-pub use ways::{Span, remember_ways, ways_of_start};
+pub use ways::{KeySpan, remember_ways, ways_of_start};
 pub use writes::{count_at, decide, draw, set_root, set_row_slot, set_slot, set_status};

@@ -15,7 +15,7 @@ ghost use Rattle.check_events.specs.Remembering.{KnowsSlots};
 ghost use Rattle.check_state.specs.Hanging.{AddsSlots, Brings, Hangs};
 ghost use Rattle.check_state.specs.Hanging.{BringsInPlace, HangsOnce, PutsLink, PutsLinks};
 
-use check_builds::{Reading, read_slot};
+use check_builds::{SlotReading, read_slot};
 use check_events::{Replica, Slot, inner_of_word};
 use ist_core::Event;
 use ist_layout::ANCHOR;
@@ -108,7 +108,7 @@ fn note_slot(
         → SlotHolds t node index word → AddsSlots slots.old slots.new (Hangs t node index)) }
 {
     match read_slot(replica, word) {
-        Reading::OneRow(child) => note_row(alloc, replica, slots, node, index, child),
+        SlotReading::OneRow(child) => note_row(alloc, replica, slots, node, index, child),
         _ => Ok(()),
     }
 }
@@ -173,7 +173,7 @@ fn put_link(
         → PutsLink t node index word waiting.old.items waiting.new.items) }
 {
     match read_slot(replica, word) {
-        Reading::OneRow(child) => {
+        SlotReading::OneRow(child) => {
             waiting.push(Link { node, index, child })?;
             Ok(())
         }

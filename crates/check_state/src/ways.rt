@@ -13,7 +13,7 @@ ghost use Rattle.check_events.specs.Remembering.{KnowsSlots, KnowsWays, IsWay};
 ghost use Rattle.check_events.specs.Ways.{KeysStay};
 ghost use Rattle.check_state.specs.Leading.{IsSpanOf, IsWayBy, JumpsFrom};
 
-use check_events::{Replica, Slot, Way, inner_of_word};
+use check_events::{Replica, RowWay, Slot, inner_of_word};
 use ist_core::Event;
 use ist_layout::ANCHOR;
 use std::alloc::{AllocError, Global};
@@ -21,7 +21,7 @@ use std::collections::BTreeMap;
 
 /// The keys from `low` to `high`.
 #[derive(Clone, Copy, Debug, PartialEq, Eq, Drop)]
-pub struct Span {
+pub struct KeySpan {
     pub low: u64,
     pub high: u64,
 }
@@ -32,7 +32,7 @@ pub fn ways_of_start(
     alloc: Global,
     replica: &Replica,
     slots: &BTreeMap<u64, Slot>,
-) -> Result<BTreeMap<u64, Way>, AllocError>
+) -> Result<BTreeMap<u64, RowWay>, AllocError>
     ensures exact { IfOk result (λ ways. (pairs : List APair) → (words : ℕ) → CanOpen pairs words
         → Mirrors replica.now (start pairs words) → KnowsSlots slots.now (start pairs words) []
         → KnowsWays ways (start pairs words) []) }
@@ -48,7 +48,7 @@ pub fn remember_ways(
     alloc: Global,
     replica: &Replica,
     slots: &BTreeMap<u64, Slot>,
-    ways: &mut BTreeMap<u64, Way>,
+    ways: &mut BTreeMap<u64, RowWay>,
     event: &Event,
 ) -> Result<(), AllocError>
     ensures exact { OnOk result ((pairs : List APair) → (words : ℕ) → (log : Log)
@@ -77,7 +77,7 @@ fn add_ways(
     alloc: Global,
     replica: &Replica,
     slots: &BTreeMap<u64, Slot>,
-    ways: &mut BTreeMap<u64, Way>,
+    ways: &mut BTreeMap<u64, RowWay>,
     word: u64,
 ) -> Result<(), AllocError>
     ensures exact { OnOk result ((pairs : List APair) → (words : ℕ) → (log : Log)
@@ -116,7 +116,7 @@ fn put_slots(replica: &Replica, row: u64, waiting: &mut Vec<u64>) -> Result<(), 
 fn add_way(
     replica: &Replica,
     slots: &BTreeMap<u64, Slot>,
-    ways: &mut BTreeMap<u64, Way>,
+    ways: &mut BTreeMap<u64, RowWay>,
     row: u64,
 ) -> Result<(), AllocError>
     ensures exact { OnOk result ((pairs : List APair) → (words : ℕ) → (log : Log)
@@ -138,7 +138,7 @@ fn add_way(
 }
 
 /// Returns the way to a row in slot `index` of the node, if the way to the node is known.
-fn way_by(replica: &Replica, ways: &BTreeMap<u64, Way>, node: u64, index: u64) -> Option<Way>
+fn way_by(replica: &Replica, ways: &BTreeMap<u64, RowWay>, node: u64, index: u64) -> Option<RowWay>
     ensures exact { IfSome result (λ way. (pairs : List APair) → (words : ℕ) → (log : Log)
         → Lawful pairs words log → Mirrors replica.now (state_of pairs words log)
         → KnowsWays ways.now (start pairs words) log
@@ -153,7 +153,7 @@ fn way_by(replica: &Replica, ways: &BTreeMap<u64, Way>, node: u64, index: u64) -
             None => None,
             Some(row) => match span_of(row.keys.as_slice(), index) {
                 None => None,
-                Some(span) => Some(Way {
+                Some(span) => Some(RowWay {
                     low: above.low.max(span.low),
                     high: above.high.min(span.high),
                     jump: jump_from(ways, node, above),
@@ -165,14 +165,14 @@ fn way_by(replica: &Replica, ways: &BTreeMap<u64, Way>, node: u64, index: u64) -
 }
 
 /// Returns the way to a row in the anchor's slot.
-fn top_way(index: u64) -> Option<Way>
+fn top_way(index: u64) -> Option<RowWay>
     ensures exact { IfSome result (λ way. (first : Snapshot) → (log : Log) → KeysStay first log
         → IsWayBy first log anchor index way) }
 {
     if index != 0 {
         return None;
     }
-    Some(Way {
+    Some(RowWay {
         low: 0,
         high: u64::MAX,
         jump: u64::from(ANCHOR),
@@ -181,7 +181,7 @@ fn top_way(index: u64) -> Option<Way>
 }
 
 /// Returns the interval of the keys whose child, in a row with these keys, is child `index`.
-fn span_of(keys: &[u64], index: u64) -> Option<Span>
+fn span_of(keys: &[u64], index: u64) -> Option<KeySpan>
     ensures exact { IfSome result (λ span. IsSpanOf keys.now index span.low span.high) }
 {
     let count = keys.len() as u64;
@@ -194,7 +194,7 @@ fn span_of(keys: &[u64], index: u64) -> Option<Span>
         keys[(index - 1) as usize]
     };
     if index == count {
-        return Some(Span {
+        return Some(KeySpan {
             low,
             high: u64::MAX,
         });
@@ -203,7 +203,7 @@ fn span_of(keys: &[u64], index: u64) -> Option<Span>
     if next == 0 {
         return None;
     }
-    Some(Span {
+    Some(KeySpan {
         low,
         high: next - 1,
     })
@@ -211,7 +211,7 @@ fn span_of(keys: &[u64], index: u64) -> Option<Span>
 
 /// Returns where the way to a row in a slot of the node jumps to: as far as two jumps from the
 /// node, if these have the same length, and otherwise to the node.
-fn jump_from(ways: &BTreeMap<u64, Way>, node: u64, above: &Way) -> u64
+fn jump_from(ways: &BTreeMap<u64, RowWay>, node: u64, above: &RowWay) -> u64
     ensures exact { (first : Snapshot) → (log : Log) → KnowsWays ways.now first log
         → tree.get nat_cmp ways.now node ≡ Some above.now → JumpsFrom first log node result }
 {
@@ -226,7 +226,7 @@ fn jump_from(ways: &BTreeMap<u64, Way>, node: u64, above: &Way) -> u64
 }
 
 /// Returns the number of rows on the way, and 0 for the anchor.
-fn depth_of(ways: &BTreeMap<u64, Way>, node: u64) -> u64 {
+fn depth_of(ways: &BTreeMap<u64, RowWay>, node: u64) -> u64 {
     match ways.get(&node) {
         None => 0,
         Some(way) => way.depth,

@@ -7,8 +7,8 @@ use Rattle.ist_core.specs.References.{Ref, Empty, LeafAt, InnerAt}
 use Rattle.ist_rule.specs.declared.view.View.{View}
 use Rattle.ist_rule.specs.Rule.{IsSound}
 use Rattle.ist_rule.specs.Learning.{now, GoesOnTo}
-use Rattle.ist_build.specs.declared.below.Below.{Below}
-use Rattle.ist_build.specs.declared.below.Below.TheVariants.{Nothing, Leaf, Row}
+use Rattle.ist_build.specs.declared.below.FinishedChild.{FinishedChild}
+use Rattle.ist_build.specs.declared.below.FinishedChild.TheVariants.{Nothing, Leaf, Row}
 use Rattle.ist_build.specs.Calls.{HasKeys}
 use Rattle.ist_build.specs.Reading.{HasSlots, HasRead, HasReadOne, IsReading, IsUnder, SlotReads, before_one, after_one}
 use Rattle.ist_build.proofs.ReadLemmas.{read_is, read_left_out, one_left_out, one_taken}
@@ -30,7 +30,7 @@ few_loads v s node degree i loads more h less few two =
 
 -- in a row and what is below it
 pub few_below : (v w : View) → IsSound v → (node degree i loads more base keys below : ℕ)
-    → HasSlots v node degree → i < degree → loads ≤ 4 * i + 1 → more ≤ 4 → (it : Below)
+    → HasSlots v node degree → i < degree → loads ≤ 4 * i + 1 → more ≤ 4 → (it : FinishedChild)
     → it ≡ Row base keys → IsUnder w node i it → below ≤ (place_limit - base) * 2 ^ 31 → loads + more + below ≤ (place_limit - node) * 2 ^ 31
 few_below v w s node degree i loads more base keys below h less few two what is there rest =
     let under : IsUnder w node i (Row base keys) = subst (IsUnder w node i) is there in
@@ -55,22 +55,22 @@ not_after leaves i skip enough h =
     omega arith
 
 -- what is left to skip after what hangs below a slot
-abbrev pub LeavesToSkip : ℕ → Below → ℕ → Type 0
+abbrev pub LeavesToSkip : ℕ → FinishedChild → ℕ → Type 0
 LeavesToSkip skip Nothing to = to ≡ skip
 LeavesToSkip skip (Leaf base) to = (0 < skip) × (to ≡ skip - 1)
 LeavesToSkip skip (Row base keys) to = (keys ≤ skip) × (to ≡ skip - keys)
 
 -- an empty slot leaves the number to skip as it is
-pub past_nothing : {skip to : ℕ} {below : Below} → below ≡ Nothing → to ≡ skip → LeavesToSkip skip below to
+pub past_nothing : {skip to : ℕ} {below : FinishedChild} → below ≡ Nothing → to ≡ skip → LeavesToSkip skip below to
 past_nothing {skip} {to} is e = subst (λ b. LeavesToSkip skip b to) (sym is) e
 
 -- a leaf that is skipped takes one from the number to skip
-pub past_leaf : {skip to : ℕ} {below : Below} (base : ℕ) → below ≡ Leaf base → 0 < skip
+pub past_leaf : {skip to : ℕ} {below : FinishedChild} (base : ℕ) → below ≡ Leaf base → 0 < skip
     → to ≡ skip - 1 → LeavesToSkip skip below to
 past_leaf {skip} {to} base is some e = subst (λ b. LeavesToSkip skip b to) (sym is) (some, e)
 
 -- a row that is skipped takes its keys from the number to skip
-pub past_row : {skip to : ℕ} {below : Below} (base keys : ℕ) → below ≡ Row base keys → keys ≤ skip
+pub past_row : {skip to : ℕ} {below : FinishedChild} (base keys : ℕ) → below ≡ Row base keys → keys ≤ skip
     → to ≡ skip - keys → LeavesToSkip skip below to
 past_row {skip} {to} base keys is out e = subst (λ b. LeavesToSkip skip b to) (sym is) (out, e)
 
@@ -78,7 +78,7 @@ module _ (leaves : List PlacedLeaf) (v w : View) (node degree j : ℕ) (s : IsSo
     (g : GoesOnTo v w) (h : HasSlots v node degree) (less : j < degree) (i skip : ℕ)
     (r : IsReading leaves (0 ∷ []) (before_one i) v node j (0 ∷ []) (before_one skip)) where
   -- it is this leaf
-  pub at_leaf : (below : Below) (base : ℕ) → below ≡ Leaf base → IsUnder w node j below → skip ≡ 0
+  pub at_leaf : (below : FinishedChild) (base : ℕ) → below ≡ Leaf base → IsUnder w node j below → skip ≡ 0
       → HasReadOne i leaves base
   at_leaf below base is found none =
       let under = subst (IsUnder w node j) is found in
@@ -92,7 +92,7 @@ module _ (leaves : List PlacedLeaf) (v w : View) (node degree j : ℕ) (s : IsSo
       refl
 
   -- it is below this row
-  pub below_row : (below : Below) (base keys found : ℕ) → below ≡ Row base keys
+  pub below_row : (below : FinishedChild) (base keys found : ℕ) → below ≡ Row base keys
       → IsUnder w node j below
       → ((here : List PlacedLeaf) → HasLeaves (now w).pieces (Some (InnerAt base)) here
       → HasReadOne skip here found)
@@ -107,7 +107,7 @@ module _ (leaves : List PlacedLeaf) (v w : View) (node degree j : ℕ) (s : IsSo
       refl
 
   -- what hangs below the slot is left out
-  pub past : (less_to_skip : ℕ) (below : Below) → IsUnder w node j below → LeavesToSkip skip below less_to_skip
+  pub past : (less_to_skip : ℕ) (below : FinishedChild) → IsUnder w node j below → LeavesToSkip skip below less_to_skip
       → IsReading leaves (0 ∷ []) (before_one i) w node (j + 1) (0 ∷ []) (before_one less_to_skip)
   past to below under out =
       reading_more leaves (0 ∷ []) (before_one i) v w node degree j (0 ∷ []) (before_one skip)
@@ -115,7 +115,7 @@ module _ (leaves : List PlacedLeaf) (v w : View) (node degree j : ℕ) (s : IsSo
       (λ word here slot has. one_slot below out under
       (λ ref reads. under_leaves v w s g node degree j h less ref reads word here slot has))
     where
-      one_slot : (below : Below) → LeavesToSkip skip below to → IsUnder w node j below
+      one_slot : (below : FinishedChild) → LeavesToSkip skip below to → IsUnder w node j below
           → {here : List PlacedLeaf}
           → ((ref : Ref) → SlotReads (now w) node j ref → HasLeaves (now w).pieces (Some ref) here)
           → HasRead (0 ∷ []) (before_one skip) here (0 ∷ []) (before_one to)

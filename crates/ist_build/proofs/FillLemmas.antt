@@ -38,7 +38,7 @@ use Rattle.laws_coming.proofs.AddingLemmas.{draw_comes}
 use Rattle.ist_rule.proofs.WentOnLemmas.{later_by-goes_on}
 use Rattle.ist_build.specs.Naming.{drawing}
 use Rattle.ist_build.specs.Calls.{IsBuiltOut}
-use Rattle.ist_build.specs.declared.shared.Shared.{Shared}
+use Rattle.ist_build.specs.declared.shared.SharedRoot.{SharedRoot}
 use Rattle.ist_build.specs.Putting.{PutOn, IsShared, IsSlotSet}
 use Rattle.ist_build.specs.Back.{IsFreeToBuild, IsBack, IsSharedAs, IsFilling}
 use Rattle.ist_build.proofs.RisingListLemmas.{keeps_all}
@@ -109,7 +109,7 @@ pub record MayDraw (old : Caller) (token : TokenFace) (place word d : ℕ) : Typ
       → IsBack old (record old { token = last })
 
 module _ (old : Caller) (token : TokenFace) (r : IsFreeToBuild old) (s : IsSound old.token.view)
-    (shared : Shared) (sh : IsSharedAs (now old.token.view) shared) (place word : ℕ)
+    (shared : SharedRoot) (sh : IsSharedAs (now old.token.view) shared) (place word : ℕ)
     (place_is : place ≡ shared.rebuild + rebuild_draw_offset)
     (l : Looked old.token.view place word token.view) where
   gone : GoesOnTo old.token.view token.view
@@ -217,13 +217,13 @@ set_on v w b node j h =
     }
 
 -- at first no slot is filled
-pub filling_begun : (who : Caller) (s : Shared) → IsFreeToBuild who → IsSound who.token.view
+pub filling_begun : (who : Caller) (s : SharedRoot) → IsFreeToBuild who → IsSound who.token.view
     → IsSharedAs (now who.token.view) s → IsFilling who s 0 who
 filling_begun who s r sound sh =
     record { back = back_same who r sound; shared = sh; filled = λ j less. absurd (omega arith) }
 
 -- once slot i is set, one more slot is filled
-pub filling_more : (old who new : Caller) (s : Shared) (i : ℕ) → IsFilling old s i who
+pub filling_more : (old who new : Caller) (s : SharedRoot) (i : ℕ) → IsFilling old s i who
     → IsBack who new → IsSlotSet (now new.token.view) s.root i → IsFilling old s (i + 1) new
 filling_more old who new s i f b set =
     record {
@@ -237,7 +237,7 @@ filling_more old who new s i f b set =
     }
 
 -- once all are set, the rebuild is built out
-pub filling_done : (old who : Caller) (s : Shared) (i : ℕ) → IsFilling old s i who → s.degree ≤ i
+pub filling_done : (old who : Caller) (s : SharedRoot) (i : ℕ) → IsFilling old s i who → s.degree ≤ i
     → IsBuiltOut (now who.token.view) s.rebuild
 filling_done old who s i f all =
     many_filled who.token.view f.back.put.sound s.rebuild s.target s.root s.keys f.shared.is

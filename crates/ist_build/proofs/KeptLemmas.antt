@@ -6,7 +6,7 @@ use Rattle.ist_core.specs.Snapshots.{Snapshot}
 use Rattle.ist_rule.specs.declared.view.View.{View}
 use Rattle.ist_rule.specs.Learning.{now}
 use Rattle.ist_rows.specs.declared.callers.Caller.{Caller}
-use Rattle.ist_build.specs.declared.shared.Shared.{Shared}
+use Rattle.ist_build.specs.declared.shared.SharedRoot.{SharedRoot}
 use Rattle.ist_build.specs.Calls.{IsTold, IsBuildable, IsRooted}
 use Rattle.ist_build.specs.Putting.{IsStopped}
 use Rattle.ist_build.specs.Back.{IsBack, IsSharedAs}
@@ -16,7 +16,7 @@ use Rattle.ist_build.proofs.PutOnLemmas.{put_grow}
 use Rattle.ist_build.proofs.RootReadyLemmas.{told_on}
 
 -- a shared root stays one
-pub shared_back : (old new : Caller) (s : Shared) → IsBack old new
+pub shared_back : (old new : Caller) (s : SharedRoot) → IsBack old new
     → IsSharedAs (now old.token.view) s → IsSharedAs (now new.token.view) s
 shared_back old new s b h =
     record {
@@ -46,7 +46,7 @@ rooted_back old new rebuild b h =
     rebuild h
 
 -- the target of a shared root is finished
-pub shared_told : (t : Snapshot) (s : Shared) → IsSharedAs t s → IsTold t s.rebuild s.keys
+pub shared_told : (t : Snapshot) (s : SharedRoot) → IsSharedAs t s → IsTold t s.rebuild s.keys
 shared_told t s h =
     record {
       row = h.is.row;
@@ -65,7 +65,7 @@ stopped_back old mid rebuild words h b full w stopped =
     err_stopped_on old.token.view mid.token.view w rebuild words h.k h.told b.put full stopped
 
 -- the same, of a shared root
-pub shared_stopped : (old mid : Caller) (s : Shared) (words : ℕ)
+pub shared_stopped : (old mid : Caller) (s : SharedRoot) (words : ℕ)
     → IsSharedAs (now old.token.view) s → IsBack old mid → (full : Full) (w : View)
     → IsStopped mid.token.view s.rebuild words full w
     → IsStopped old.token.view s.rebuild words full w

@@ -28,7 +28,7 @@ use Rattle.ist_rows.specs.declared.callers.Caller.{Caller}
 use Rattle.ist_rows.specs.Taken.{HasRunOut, HasTakenFew, HasTakenFewIn, TakesNoWords}
 use Rattle.ist_rows.proofs.FewLemmas.{few_low, few_more, few_out_more, few_wider, out_wider}
 use Rattle.ist_rows.proofs.FewStepLemmas.{few_none}
-use Rattle.ist_build.specs.declared.shared.Shared.{Shared}
+use Rattle.ist_build.specs.declared.shared.SharedRoot.{SharedRoot}
 use Rattle.ist_build.specs.Back.{IsBack, IsSharedAs}
 use Rattle.ist_build.specs.Calls.{parts_words, root_words}
 use Rattle.ist_build.specs.Left.{left_for, left_in, slot_is_set, word_is_set, words_left}
@@ -167,7 +167,7 @@ shut_set t node i is = at (t.pieces node) refl is
 
 -- ---- a shared root
 
-module _ (v w : View) (b : PutOn v w) (shared : Shared) (row : InnerRow)
+module _ (v w : View) (b : PutOn v w) (shared : SharedRoot) (row : InnerRow)
     (there : (now w).pieces shared.root ≡ Some (Inner row)) where
   -- what is set stays set
   stays : (i : ℕ) → slot_is_set ((now v).pieces shared.root) i ≡ true
@@ -192,7 +192,7 @@ module _ (v w : View) (b : PutOn v w) (shared : Shared) (row : InnerRow)
       (set_shut w b.sound shared.root i row there set) (degree shared.keys) low
 
 -- at most all that isn't the root's
-pub left_most : (t : Snapshot) (shared : Shared) → share_from ≤ shared.keys
+pub left_most : (t : Snapshot) (shared : SharedRoot) → share_from ≤ shared.keys
     → left_in t shared ≤ parts_words shared.keys
 left_most t shared many =
     let k = shared.keys in
@@ -219,7 +219,7 @@ slot_open v w node d i place word h less at l is =
 
 -- ---- a caller that fills it
 
-module _ (old new : Caller) (s : Shared) (b : IsBack old new)
+module _ (old new : Caller) (s : SharedRoot) (b : IsBack old new)
     (sh : IsSharedAs (now new.token.view) s) where
   -- one that took no word
   pub fills_none : TakesNoWords old new → HasTakenFew (left_for old s) (left_for new s) old new
@@ -253,7 +253,7 @@ module _ (old new : Caller) (s : Shared) (b : IsBack old new)
         (left_has (slot_is_set ((now old.token.view).pieces s.root)) s.keys i vacant (degree s.keys) here)
         r
 
-module _ (old mid new : Caller) (s : Shared) (a : IsBack old mid) (b : IsBack mid new)
+module _ (old mid new : Caller) (s : SharedRoot) (a : IsBack old mid) (b : IsBack mid new)
     (f : HasTakenFew (left_for old s) (left_for mid s) old mid) where
   -- one fill after another
   pub fills_more : HasTakenFew (left_for mid s) (left_for new s) mid new

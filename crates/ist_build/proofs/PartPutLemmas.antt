@@ -30,7 +30,7 @@ use Rattle.laws_coming.proofs.PartLemmas.{part_comes_or_loses}
 use Rattle.laws_coming.proofs.PlacedLemmas.{part_sizes}
 use Rattle.ist_build.specs.Laying.{IsLaid, IsShort}
 use Rattle.ist_build.specs.Naming.{placing, losing, held_rows_from}
-use Rattle.ist_build.specs.declared.shared.Shared.{Shared}
+use Rattle.ist_build.specs.declared.shared.SharedRoot.{SharedRoot}
 use Rattle.ist_build.specs.Putting.{IsRowOfDegree, IsShared, IsStopped}
 use Rattle.ist_build.specs.Back.{IsBack, HasBuilt, IsSharedAs, IsPartMade, IsFilledAt}
 use Rattle.ist_build.proofs.BackLemmas.{back_logged, back_lost, back_refused}
@@ -53,7 +53,7 @@ use Rattle.ist_build.proofs.PartSlotLemmas.{degree_low, part_lost, part_put, par
 -- ---- what was built
 
 -- the exchange may be made, and what is known after it
-pub record MayPut (old mid : Caller) (s : Shared) (i place word : ℕ) : Type 0 where
+pub record MayPut (old mid : Caller) (s : SharedRoot) (i place word : ℕ) : Type 0 where
   pub allowed : CanExchangeOrLose mid.token.view place unset_word word
       (placing mid.token.view s.rebuild i word) (losing mid.token.view word)
   -- after the exchange, whatever word it found, the slot is set
@@ -63,7 +63,7 @@ pub record MayPut (old mid : Caller) (s : Shared) (i place word : ℕ) : Type 0 
       → IsFilledAt old (record mid { token = token }) s.root i
   pub low : place < mid.token.view.words
 
-module _ (old mid : Caller) (s : Shared) (i word : ℕ) (m : IsPartMade old mid s i word) where
+module _ (old mid : Caller) (s : SharedRoot) (i word : ℕ) (m : IsPartMade old mid s i word) where
   abbrev a : HasBuilt old mid
   a = m.has_built
 
@@ -244,13 +244,13 @@ shared_now v w g rebuild target root k h =
 -- ---- what a build of a part gives
 
 -- the part was made, or the build was refused, and the caller is back
-pub record SlotBuilt (old new : Caller) (s : Shared) (i words : ℕ) (answer : Result ℕ Full) : Type 0 where
+pub record SlotBuilt (old new : Caller) (s : SharedRoot) (i words : ℕ) (answer : Result ℕ Full) : Type 0 where
   pub made : IfOk answer (λ word. IsPartMade old new s i word)
   pub back : IfErr answer (λ full. IsBack old new)
   pub full : IfErr answer (λ full. IsStopped old.token.view s.rebuild words full new.token.view)
 
 -- a build over the share of a slot that was Unset
-pub slot_built : (old new : Caller) (s : Shared) (i len start words : ℕ) → HasBuilt old new
+pub slot_built : (old new : Caller) (s : SharedRoot) (i len start words : ℕ) → HasBuilt old new
     → IsCaller new → IsSharedAs (now old.token.view) s → i < s.degree
     → WasUnset old.token.view old.number (slot_place s.root s.degree i)
     → start ≡ part_start s.keys i → len ≡ part_len s.keys i → len < s.keys

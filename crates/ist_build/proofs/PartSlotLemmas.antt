@@ -47,7 +47,7 @@ use Rattle.laws_coming.specs.Builds.{WasUnset}
 use Rattle.laws_coming.proofs.KnownLemmas.{IsFast, fast_known, in_piece}
 use Rattle.laws_coming.proofs.SeenLemmas.{unset_seen}
 use Rattle.ist_build.specs.Calls.{MayBuild, share_part}
-use Rattle.ist_build.specs.declared.shared.Shared.{Shared}
+use Rattle.ist_build.specs.declared.shared.SharedRoot.{SharedRoot}
 use Rattle.ist_build.specs.Putting.{IsRowOfDegree, IsSlotSet, IsShared}
 use Rattle.ist_build.specs.Back.{IsSharedAs}
 use Rattle.ist_build.proofs.BuiltLemmas.{built_grow, loads_built}
@@ -171,7 +171,7 @@ shared_on t u g rebuild target root k h =
     }
 
 -- its root has a slot for each part
-pub shared_slots : (t : Snapshot) (s : Shared) → IsSharedAs t s → IsRowOfDegree t s.root s.degree
+pub shared_slots : (t : Snapshot) (s : SharedRoot) → IsSharedAs t s → IsRowOfDegree t s.root s.degree
 shared_slots t s h = subst (IsRowOfDegree t s.root) (sym h.degree_is) h.is.node
 
 -- each part may be built

@@ -8,7 +8,7 @@ use Rattle.ist_rule.specs.declared.view.View.{View}
 use Rattle.ist_rule.specs.Rule.{IsSound}
 use Rattle.ist_rule.specs.Learning.{now, GoesOnTo}
 use Rattle.ist_mark.proofs.BelowLemmas.{row_below, target_below}
-use Rattle.ist_build.specs.declared.below.Below.TheVariants.{Nothing, Leaf}
+use Rattle.ist_build.specs.declared.below.FinishedChild.TheVariants.{Nothing, Leaf}
 use Rattle.ist_rule.proofs.WentOnLemmas.{goes_on_grow}
 use Rattle.ist_build.specs.Reading.{IsUnder, SlotReads}
 use Rattle.ist_build.proofs.SlotLemmas.{frozen_slot_reads}

@@ -13,7 +13,7 @@ use Rattle.ist_rows.specs.declared.callers.Caller.{Caller}
 use Rattle.ist_rows.specs.Rows.{IsCaller, spares_of}
 use Rattle.ist_rows.specs.Building.{IsInBuild, HasRefused, sizes_built}
 use Rattle.laws_coming.specs.Builds.{WasUnset}
-use Rattle.ist_build.specs.declared.shared.Shared.{Shared}
+use Rattle.ist_build.specs.declared.shared.SharedRoot.{SharedRoot}
 use Rattle.ist_build.specs.Calls.{IsTold}
 use Rattle.ist_build.specs.Laying.{BuiltOn, IsLaid, IsRootLaid}
 use Rattle.ist_build.specs.Putting.{PutOn, HasRoot, IsShared, IsSlotSet}
@@ -73,13 +73,13 @@ EndsRoot mid rebuild word new found =
 -- ---- parts of a shared root
 
 -- the root is shared, and has this many slots
-pub record IsSharedAs (t : Snapshot) (s : Shared) : Type 0 where
+pub record IsSharedAs (t : Snapshot) (s : SharedRoot) : Type 0 where
   pub is : IsShared t s.rebuild s.target s.root s.keys
   pub degree_is : s.degree ≡ degree s.keys
 
 -- the word is part i of the shared root, for a slot that was Unset, and was built since the earlier
 -- state
-pub record IsPartMade (old new : Caller) (s : Shared) (i word : ℕ) : Type 0 where
+pub record IsPartMade (old new : Caller) (s : SharedRoot) (i word : ℕ) : Type 0 where
   pub has_built : HasBuilt old new
   pub shared : IsSharedAs (now old.token.view) s
   pub within : i < s.degree
@@ -91,7 +91,7 @@ pub record IsPartMade (old new : Caller) (s : Shared) (i word : ℕ) : Type 0 wh
   pub unset : WasUnset old.token.view old.number (slot_place s.root s.degree i)
 
 -- it was built since some earlier state
-pub record PartWasMade (new : Caller) (s : Shared) (i word : ℕ) : Type 0 where
+pub record PartWasMade (new : Caller) (s : SharedRoot) (i word : ℕ) : Type 0 where
   pub old : Caller
   pub made : IsPartMade old new s i word
 
@@ -101,12 +101,12 @@ pub record IsFilledAt (old new : Caller) (root i : ℕ) : Type 0 where
   pub set : IsSlotSet (now new.token.view) root i
 
 -- whenever the word was built, the caller is back, and the slot is set
-abbrev pub EndsPart : Caller → Shared → ℕ → ℕ → Caller → Type 0
+abbrev pub EndsPart : Caller → SharedRoot → ℕ → ℕ → Caller → Type 0
 EndsPart mid s i word new =
     (old : Caller) → IsPartMade old mid s i word → IsFilledAt old new s.root i
 
 -- the caller is filling the slots of a shared root: the first i are set
-pub record IsFilling (old : Caller) (s : Shared) (i : ℕ) (who : Caller) : Type 0 where
+pub record IsFilling (old : Caller) (s : SharedRoot) (i : ℕ) (who : Caller) : Type 0 where
   pub back : IsBack old who
   pub shared : IsSharedAs (now who.token.view) s
   pub filled : (j : ℕ) → j < i → IsSlotSet (now who.token.view) s.root j

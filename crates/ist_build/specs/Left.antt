@@ -8,7 +8,7 @@ use Rattle.ist_core.specs.Shapes.{shape}
 use Rattle.ist_core.specs.Snapshots.{Snapshot}
 use Rattle.ist_rule.specs.Learning.{now}
 use Rattle.ist_rows.specs.declared.callers.Caller.{Caller}
-use Rattle.ist_build.specs.declared.shared.Shared.{Shared}
+use Rattle.ist_build.specs.declared.shared.SharedRoot.{SharedRoot}
 
 -- is there a word, and isn't it Unset?
 abbrev pub word_is_set : Option ℕ → Bool
@@ -27,9 +27,9 @@ words_left set k (suc j) =
     words_left set k j + (if set j then 0 else sum (shape (part_len k j)))
 
 -- the words of the rows of all parts of the shared root whose slots aren't set in the state
-abbrev pub left_in : Snapshot → Shared → ℕ
+abbrev pub left_in : Snapshot → SharedRoot → ℕ
 left_in t s = words_left (slot_is_set (t.pieces s.root)) s.keys (degree s.keys)
 
 -- the same, in what the caller has seen
-abbrev pub left_for : Caller → Shared → ℕ
+abbrev pub left_for : Caller → SharedRoot → ℕ
 left_for who s = left_in (now who.token.view) s

@@ -7,7 +7,7 @@ ghost use Rattle.ist_rule.specs.Learning.{now, GoesOnTo};
 ghost use Rattle.ist_build.specs.Calls.{HasKeys};
 ghost use Rattle.ist_build.specs.Reading.{HasReadOne};
 
-use crate::below::Below;
+use crate::below::FinishedChild;
 use crate::reading::{degree_of, look_below};
 use ist_rule::{TreeTable, TreeToken, know};
 
@@ -39,14 +39,14 @@ fn go_down(table: &TreeTable, token: &mut TreeToken, node: u32, i: u64) -> Reach
         let below = look_below(table, token, node, degree, index);
         loads += below.1;
         match below.0 {
-            Below::Nothing => {}
-            Below::Leaf { base } => {
+            FinishedChild::Nothing => {}
+            FinishedChild::Leaf { base } => {
                 if skip == 0 {
                     return Reached { base, loads };
                 }
                 skip -= 1;
             }
-            Below::Row { base, keys } => {
+            FinishedChild::Row { base, keys } => {
                 if skip < keys {
                     let reached = go_down(table, token, base, skip);
                     return Reached {

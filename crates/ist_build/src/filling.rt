@@ -18,7 +18,7 @@ ghost use Rattle.ist_build.specs.Putting.{IsSlotSet, IsStopped};
 ghost use Rattle.ist_build.specs.Back.{IsFreeToBuild, IsBack, IsSharedAs, IsPartMade, PartWasMade, EndsPart};
 
 use crate::parts::build_share;
-use crate::shared::Shared;
+use crate::shared::SharedRoot;
 use crate::targets::{Target, find_target};
 use ist_core::Full;
 use ist_layout::{REBUILD_DRAW_OFFSET, REBUILD_ROOT_OFFSET, Ref, slot_place};
@@ -27,7 +27,7 @@ use ist_rows::Caller;
 use ist_rule::{TreeTable, TreeToken, add, exchange_or_lose, know, load};
 
 // Returns the word in a slot of a shared root.
-fn slot_of(table: &TreeTable, who: &mut Caller, shared: Shared, i: u64) -> u64
+fn slot_of(table: &TreeTable, who: &mut Caller, shared: SharedRoot, i: u64) -> u64
     requires same_table { who.old.token.table ≡ table.now.table }
     requires ready { IsFreeToBuild who.old }
     requires shared { IsSharedAs (now who.old.token.view) shared }
@@ -72,7 +72,7 @@ fn put_part(
 }
 
 // Puts part `i` of a shared root, which was built, into its slot if that is still Unset.
-fn put_slot(table: &TreeTable, who: &mut Caller, shared: Shared, i: u64, word: u64)
+fn put_slot(table: &TreeTable, who: &mut Caller, shared: SharedRoot, i: u64, word: u64)
     requires same_table { who.old.token.table ≡ table.now.table }
     requires made { PartWasMade who.old shared i word }
     ensures same_table { who.new.token.table ≡ table.now.table }
@@ -85,7 +85,7 @@ fn put_slot(table: &TreeTable, who: &mut Caller, shared: Shared, i: u64, word: u
 }
 
 // Builds part `i` of a shared root, whose slot was Unset, and returns its word.
-fn build_slot(table: &TreeTable, who: &mut Caller, shared: Shared, i: u64) -> Result<u64, Full>
+fn build_slot(table: &TreeTable, who: &mut Caller, shared: SharedRoot, i: u64) -> Result<u64, Full>
     requires same_table { who.old.token.table ≡ table.now.table }
     requires ready { IsFreeToBuild who.old }
     requires shared { IsSharedAs (now who.old.token.view) shared }
@@ -106,7 +106,7 @@ fn build_slot(table: &TreeTable, who: &mut Caller, shared: Shared, i: u64) -> Re
 }
 
 // Builds part `i` of a shared root and puts it in place, if its slot is Unset.
-fn fill_slot(table: &TreeTable, who: &mut Caller, shared: Shared, i: u64) -> Result<(), Full>
+fn fill_slot(table: &TreeTable, who: &mut Caller, shared: SharedRoot, i: u64) -> Result<(), Full>
     requires same_table { who.old.token.table ≡ table.now.table }
     requires ready { IsFreeToBuild who.old }
     requires shared { IsSharedAs (now who.old.token.view) shared }
@@ -130,7 +130,7 @@ fn fill_slot(table: &TreeTable, who: &mut Caller, shared: Shared, i: u64) -> Res
 // Draws the next part of a shared root, and returns its number: none is left if that isn't below the
 // number of slots. It loads the draw word before each draw, so that a draw past the last part is the
 // caller's last.
-fn draw(table: &TreeTable, who: &mut Caller, shared: Shared) -> u64
+fn draw(table: &TreeTable, who: &mut Caller, shared: SharedRoot) -> u64
     requires same_table { who.old.token.table ≡ table.now.table }
     requires ready { IsFreeToBuild who.old }
     requires shared { IsSharedAs (now who.old.token.view) shared }
@@ -149,7 +149,7 @@ fn draw(table: &TreeTable, who: &mut Caller, shared: Shared) -> u64
 }
 
 // Draws parts and fills them, as long as there are parts to draw.
-fn fill_drawn(table: &TreeTable, who: &mut Caller, shared: Shared) -> Result<(), Full>
+fn fill_drawn(table: &TreeTable, who: &mut Caller, shared: SharedRoot) -> Result<(), Full>
     requires same_table { who.old.token.table ≡ table.now.table }
     requires ready { IsFreeToBuild who.old }
     requires shared { IsSharedAs (now who.old.token.view) shared }
@@ -172,7 +172,7 @@ fn fill_drawn(table: &TreeTable, who: &mut Caller, shared: Shared) -> Result<(),
 }
 
 // Fills each slot that is still Unset.
-fn fill_unset(table: &TreeTable, who: &mut Caller, shared: Shared) -> Result<(), Full>
+fn fill_unset(table: &TreeTable, who: &mut Caller, shared: SharedRoot) -> Result<(), Full>
     requires same_table { who.old.token.table ≡ table.now.table }
     requires ready { IsFreeToBuild who.old }
     requires shared { IsSharedAs (now who.old.token.view) shared }
@@ -192,7 +192,7 @@ fn fill_unset(table: &TreeTable, who: &mut Caller, shared: Shared) -> Result<(),
 }
 
 // Fills a shared root: first the parts that it draws, and then what is left.
-fn fill_shared(table: &TreeTable, who: &mut Caller, shared: Shared) -> Result<(), Full>
+fn fill_shared(table: &TreeTable, who: &mut Caller, shared: SharedRoot) -> Result<(), Full>
     requires same_table { who.old.token.table ≡ table.now.table }
     requires ready { IsFreeToBuild who.old }
     requires shared { IsSharedAs (now who.old.token.view) shared }
@@ -209,7 +209,7 @@ fn fill_shared(table: &TreeTable, who: &mut Caller, shared: Shared) -> Result<()
 }
 
 // Returns the shared root of a rebuild.
-fn shared_root(table: &TreeTable, who: &mut Caller, rebuild: u32, target: Target) -> Shared
+fn shared_root(table: &TreeTable, who: &mut Caller, rebuild: u32, target: Target) -> SharedRoot
     requires same_table { who.old.token.table ≡ table.now.table }
     requires ready { IsFreeToBuild who.old }
     requires told { IsTold (now who.old.token.view) rebuild target.keys }
@@ -230,7 +230,7 @@ fn shared_root(table: &TreeTable, who: &mut Caller, rebuild: u32, target: Target
         &mut who.token,
         u64::from(rebuild) + REBUILD_ROOT_OFFSET,
     ) / 8;
-    Shared {
+    SharedRoot {
         rebuild,
         target: target.base,
         root: root as u32,

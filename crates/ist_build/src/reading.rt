@@ -9,7 +9,7 @@ ghost use Rattle.laws_links.specs.Linking.{IsFinished};
 ghost use Rattle.ist_rule.specs.Learning.{now, GoesOnTo};
 ghost use Rattle.ist_build.specs.Reading.{HasSlots, IsUnder, HasRead};
 
-use crate::below::Below;
+use crate::below::FinishedChild;
 use ist_dcss::{change_in, target_of};
 use ist_layout::{CHANGE_FROM_OFFSET, INNER_DEGREE_OFFSET, INNER_STATUS_OFFSET, Ref, slot_place};
 use ist_rule::{TreeTable, TreeToken, know, load};
@@ -75,7 +75,7 @@ pub(crate) fn look_below(
     node: u32,
     degree: u64,
     index: u64,
-) -> (Below, u64)
+) -> (FinishedChild, u64)
     requires same_table { token.old.table ≡ table.now.table }
     requires slots { HasSlots token.old.view node degree }
     requires within { index < degree }
@@ -88,16 +88,16 @@ pub(crate) fn look_below(
     let passed = passed_word(table, token, node, degree, index);
     know(token);
     match Ref::from_word(passed.0) {
-        Some(Ref::Empty) => (Below::Nothing, passed.1),
-        Some(Ref::Leaf { base }) => (Below::Leaf { base }, passed.1),
+        Some(Ref::Empty) => (FinishedChild::Nothing, passed.1),
+        Some(Ref::Leaf { base }) => (FinishedChild::Leaf { base }, passed.1),
         Some(Ref::Inner { base }) => {
             let keys = keys_of(table, token, base);
-            (Below::Row { base, keys }, passed.1 + 1)
+            (FinishedChild::Row { base, keys }, passed.1 + 1)
         }
         Some(Ref::Rebuild { base }) => {
             let target = target_of(table, token, base);
             let keys = keys_of(table, token, target);
-            (Below::Row { base: target, keys }, passed.1 + 2)
+            (FinishedChild::Row { base: target, keys }, passed.1 + 2)
         }
         Some(Ref::Unset) => unreachable!(),
         Some(Ref::Change { base: _ }) => unreachable!(),
@@ -166,9 +166,9 @@ fn read_slot(
 {
     know(token);
     match look_below(table, token, node, degree, index).0 {
-        Below::Nothing => at,
-        Below::Leaf { base } => take_leaf(base, into, at),
-        Below::Row { base, keys } => {
+        FinishedChild::Nothing => at,
+        FinishedChild::Leaf { base } => take_leaf(base, into, at),
+        FinishedChild::Row { base, keys } => {
             if at.skip >= keys {
                 return Cursor {
                     skip: at.skip - keys,

@@ -2,7 +2,7 @@
 
 // The root of a rebuild over many keys: it has a slot for each part, and any caller may fill it.
 #[derive(Clone, Copy, Drop)]
-pub(crate) struct Shared {
+pub(crate) struct SharedRoot {
     pub(crate) rebuild: u32,
     pub(crate) target: u32,
     pub(crate) root: u32,

@@ -14,7 +14,7 @@ use Rattle.check_events.specs.Remembering.{KnowsSlots, KnowsWays}
 use Rattle.ist_core.specs.Logs.{Log}
 use Rattle.check_events.specs.declared.pasts.Past.{Past}
 use Rattle.check_events.specs.declared.pasts.Slot.{Slot}
-use Rattle.check_events.specs.declared.pasts.Way.{Way}
+use Rattle.check_events.specs.declared.pasts.RowWay.{RowWay}
 use Rattle.ist_check.specs.declared.conditions.Condition.{Condition}
 use Rattle.ist_check.specs.Conditions.{says_of}
 use Rattle.ist_check.specs.Failing.{TellsCondition}
@@ -69,7 +69,7 @@ module _ (events : List Event) (at : ℕ) (event : Event) (below : at < length e
       }
 
 -- what the other tables hold doesn't depend on the slots and the ways
-slots_apart : (past : Past) (slots : BTreeMap ℕ Slot) (ways : BTreeMap ℕ Way) (pairs : List Pair) (words : ℕ) (log : Log)
+slots_apart : (past : Past) (slots : BTreeMap ℕ Slot) (ways : BTreeMap ℕ RowWay) (pairs : List Pair) (words : ℕ) (log : Log)
     → Remembers past pairs words log → Remembers (record past { slots = slots; ways = ways }) pairs words log
 slots_apart past slots ways pairs words log it =
     record {
@@ -96,7 +96,7 @@ module _ (replica : Replica) (past : Past) (pairs : List Pair) (words : ℕ) (lo
   -- the checker knows what it should after the event, if the replica, the slots and the other
   -- tables are brought forward
   pub known_more : (following : Replica) (after_it : Past) (slots : BTreeMap ℕ Slot)
-      (ways : BTreeMap ℕ Way)
+      (ways : BTreeMap ℕ RowWay)
       → Mirrors following (state_of pairs words (event ∷ log))
       → KnowsSlots slots (start pairs words) (event ∷ log)
       → KnowsWays ways (start pairs words) (event ∷ log)

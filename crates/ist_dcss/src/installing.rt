@@ -26,13 +26,13 @@ fn own_word(table: &TreeTable, token: &mut TreeToken, base: u32, offset: u64) ->
 
 // The place of a change's slot, and the word that the change expects there.
 #[derive(Clone, Copy, Drop)]
-struct Aim {
+struct InstallAim {
     place: u64,
     from: u64,
 }
 
 // Reads from the filled row of a change what its install aims at.
-fn aim_of(table: &TreeTable, token: &mut TreeToken, change: u32) -> Aim
+fn aim_of(table: &TreeTable, token: &mut TreeToken, change: u32) -> InstallAim
     ghost filling: { Filling }
     requires same_table { token.old.table ≡ table.now.table }
     requires may_install { IsInstallable token.old.view change filling }
@@ -43,7 +43,7 @@ fn aim_of(table: &TreeTable, token: &mut TreeToken, change: u32) -> Aim
     let index = own_word(table, token, change, CHANGE_INDEX_OFFSET);
     let from = own_word(table, token, change, CHANGE_FROM_OFFSET);
     let place = slot_at(table, token, node, index);
-    Aim { place, from }
+    InstallAim { place, from }
 }
 
 /// Installs a change whose row is filled, if its slot holds the word that it expects.
@@ -61,7 +61,7 @@ pub fn install(table: &TreeTable, token: &mut TreeToken, change: u32) -> Install
         → IsOther token.old.view change filling word token.new.view }
 {
     know(token);
-    let Aim { place, from } = aim_of(table, token, change);
+    let InstallAim { place, from } = aim_of(table, token, change);
     know(token);
     let word = Ref::Change { base: change }.to_word();
     // Install. Meets another caller's in the slot, and what a helper left there.

@@ -62,7 +62,7 @@ pub struct Span {
 
 /// Two keys and all keys between them.
 #[derive(Clone, Copy, Debug, PartialEq, Eq, Drop)]
-pub(crate) struct Ends {
+pub(crate) struct KeyRange {
     /// The least of these keys.
     pub first: u64,
     /// The greatest of them.
@@ -71,11 +71,11 @@ pub(crate) struct Ends {
 
 /// What a look at a slot found, for all keys of that slot.
 #[derive(Clone, Copy, Debug, PartialEq, Eq, Drop)]
-pub(crate) struct Shared {
+pub(crate) struct SharedSlot {
     /// The number of the slot.
     pub index: u64,
     /// What the slot read as.
     pub reference: Ref,
     /// The keys for which it is the child.
-    pub ends: Ends,
+    pub ends: KeyRange,
 }

@@ -16,7 +16,7 @@ ghost use Rattle.ist_find.specs.Reads.{IsEnd, TellsValue};
 ghost use Rattle.ist_find.specs.Looks.{LooksForAll};
 ghost use Rattle.ist_find.specs.Spans.{pair_value, IsPairOf, AllCome, EndAtEdges, HasFewSpanLoads};
 
-use crate::answers::{Ends, Shared, Span};
+use crate::answers::{KeyRange, SharedSlot, Span};
 use crate::children::read_child;
 use crate::keys::{key_at, key_count};
 use crate::reading::leaf_in;
@@ -92,8 +92,8 @@ fn row_ends(
     node: u32,
     index: u64,
     key: u64,
-    ends: Ends,
-) -> Ends
+    ends: KeyRange,
+) -> KeyRange
     requires same_table { token.old.table ≡ table.now.table }
     requires row { IsRow token.old.view node }
     requires child { index ≡ child_count (keys_at token.old.view node) key }
@@ -117,7 +117,7 @@ fn row_ends(
     let count = key_count(table, token, node);
     let first = first_of(table, token, node, index, ends.first);
     let last = last_of(table, token, node, count, index, key, ends.last);
-    Ends { first, last }
+    KeyRange { first, last }
 }
 
 // The same, also for the anchor, which has one child for all keys.
@@ -127,8 +127,8 @@ fn shared_ends(
     node: u32,
     index: u64,
     key: u64,
-    ends: Ends,
-) -> Ends
+    ends: KeyRange,
+) -> KeyRange
     requires same_table { token.old.table ≡ table.now.table }
     requires node { IsNode (now token.old.view) node }
     requires child { IsChildFor (now token.old.view) node key index }
@@ -158,7 +158,13 @@ fn shared_ends(
 
 // Looks at the key's slot of a node that the search for each key between these ends has reached. By
 // the same loads, the search for each key with this child has looked there.
-fn look_for_all(table: &TreeTable, token: &mut TreeToken, node: u32, key: u64, ends: Ends) -> Shared
+fn look_for_all(
+    table: &TreeTable,
+    token: &mut TreeToken,
+    node: u32,
+    key: u64,
+    ends: KeyRange,
+) -> SharedSlot
     requires same_table { token.old.table ≡ table.now.table }
     requires come { AllCome token.old.view ends.first ends.last node }
     requires top { node ≡ anchor → MayWalk token.old.view }
@@ -173,7 +179,7 @@ fn look_for_all(table: &TreeTable, token: &mut TreeToken, node: u32, key: u64, e
     let look = read_child(table, token, node, key);
     let index = look.value.index;
     let shared = shared_ends(table, token, node, index, key, ends);
-    Shared {
+    SharedSlot {
         index,
         reference: look.value.reference,
         ends: shared,
@@ -218,7 +224,7 @@ pub(crate) fn end_pair(table: &TreeTable, token: &mut TreeToken, reference: Ref)
 }
 
 // The pair, if its key lies between the ends.
-pub(crate) fn pair_within(pair: Option<Pair>, ends: Ends) -> Option<Pair>
+pub(crate) fn pair_within(pair: Option<Pair>, ends: KeyRange) -> Option<Pair>
     ensures within { IfSome result (λ p. (ends.first ≤ p.key) × (p.key ≤ ends.last)) }
     ensures value { (k : ℕ) → ends.first ≤ k → k ≤ ends.last
         → pair_value result k ≡ pair_value pair k }
@@ -259,7 +265,7 @@ pub fn find_span(table: &TreeTable, token: &mut TreeToken, key: u64) -> Span
 {
     know(token);
     let mut node = ANCHOR;
-    let all = Ends {
+    let all = KeyRange {
         first: 0,
         last: u64::MAX,
     };

@@ -11,7 +11,7 @@ ghost use Rattle.ist_find.specs.Reads.{IsFoundAs, IsEnd};
 ghost use Rattle.ist_find.specs.Sweeps.{WereLed, HasSwept, SweptBetween, LookedSince, starting, one_of};
 ghost use Rattle.ist_find.specs.Turns.{IsSlotForKey, SlotEnds, HasReadSlot, LeadsBelow, HasReadEnd, HasSweptSlot};
 
-use crate::answers::{Ends, Place};
+use crate::answers::{KeyRange, Place};
 use crate::children::{place_in_row, slot_of_row};
 use crate::reading::{past_change, past_rebuild};
 use crate::spans::{end_pair, last_of, pair_within};
@@ -163,7 +163,7 @@ fn sweep_end(
         (ref_meant read.reference) found.old.items found.new.items) }
 {
     let pair = end_pair(table, token, read.reference);
-    let ends = Ends {
+    let ends = KeyRange {
         first: from,
         last: read.to,
     };

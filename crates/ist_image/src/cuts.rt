@@ -9,7 +9,7 @@ use ist_math::degree;
 /// How the pairs of a row are cut: into as many parts as the row has children, the longer ones
 /// first.
 #[derive(Clone, Copy, Drop)]
-pub(crate) struct Cut {
+pub(crate) struct RowCut {
     pub(crate) count: u64,
     pub(crate) children: u64,
     share: u64,
@@ -21,20 +21,20 @@ pub(crate) struct Cut {
     ghost shares: { (share ≡ count / children) × (left_over ≡ count % children) },
 }
 
-impl Cut {
+impl RowCut {
     ghost use Rattle.std.specs.Prelude.{◌≡◌, ◌+◌, ◌≤◌, ◌<◌, ◌^◌, length};
     ghost use Rattle.ist_core.specs.Arithmetic.{part_len, part_start};
     ghost use Rattle.ist_core.specs.Shapes.{ideal_words};
     ghost use Rattle.ist_image.specs.Placing.{IsPartOfPairs, part_base};
 
     /// Says how `count` pairs are cut.
-    pub(crate) fn of(count: u64) -> Cut
+    pub(crate) fn of(count: u64) -> RowCut
         requires several { 2 ≤ count }
         requires fits { count < 2 ^ 32 }
         ensures count { result.count ≡ count }
     {
         let children = degree(count);
-        Cut {
+        RowCut {
             count,
             children,
             share: count / children,

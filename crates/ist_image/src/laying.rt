@@ -5,7 +5,7 @@ ghost use Rattle.ist_core.specs.Shapes.{ideal_words};
 ghost use Rattle.ist_image.specs.Placing.{FitsAt, part_base, slot_base, slots_after};
 ghost use Rattle.ist_image.specs.Placing.{rows_after, row_words, tree_words};
 
-use crate::cuts::Cut;
+use crate::cuts::RowCut;
 use crate::rows::{put_head, put_slot};
 use ist_core::Pair;
 
@@ -39,7 +39,7 @@ pub(crate) fn put_tree(words: &mut [u64], base: u64, pairs: &[Pair]) -> u64
     if pairs.len() < 2 {
         return put_few(words, base, pairs);
     }
-    let cut = Cut::of(pairs.len() as u64);
+    let cut = RowCut::of(pairs.len() as u64);
     put_head(words, base, pairs, &cut);
     put_parts(words, base, pairs, &cut)
 }
@@ -47,7 +47,7 @@ pub(crate) fn put_tree(words: &mut [u64], base: u64, pairs: &[Pair]) -> u64
 /// Writes the slots of an inner row at the base, and the trees of the parts, which follow it.
 /// Returns where they end.
 #[cycle(laying)]
-fn put_parts(words: &mut [u64], base: u64, pairs: &[Pair], cut: &Cut) -> u64
+fn put_parts(words: &mut [u64], base: u64, pairs: &[Pair], cut: &RowCut) -> u64
     requires cut { cut.now.count ≡ length pairs.now }
     requires few { length pairs.now < 2 ^ 28 }
     requires fits { FitsAt base (length pairs.now) }

@@ -11,7 +11,7 @@ ghost use Rattle.ist_core.specs.Shapes.{ideal_words};
 ghost use Rattle.ist_core.specs.StartLayout.{tree_at};
 ghost use Rattle.ist_image.specs.Placing.{row_head};
 
-use crate::cuts::Cut;
+use crate::cuts::RowCut;
 use ist_core::Pair;
 use ist_layout::Ref;
 
@@ -20,7 +20,7 @@ const OPEN_WORD: u64 = 0;
 
 /// Writes the fields and the keys of the first row of the tree of at least two pairs, but not its
 /// slots.
-pub(crate) fn put_head(words: &mut [u64], base: u64, pairs: &[Pair], cut: &Cut)
+pub(crate) fn put_head(words: &mut [u64], base: u64, pairs: &[Pair], cut: &RowCut)
     requires cut { cut.now.count ≡ length pairs.now }
     requires few { length pairs.now < 2 ^ 28 }
     requires room { base + ideal_words (length pairs.now) ≤ length words.old }
@@ -35,7 +35,7 @@ pub(crate) fn put_head(words: &mut [u64], base: u64, pairs: &[Pair], cut: &Cut)
 }
 
 /// Writes the first key of each part but the first.
-fn put_keys(words: &mut [u64], place: usize, pairs: &[Pair], cut: &Cut)
+fn put_keys(words: &mut [u64], place: usize, pairs: &[Pair], cut: &RowCut)
     requires cut { cut.now.count ≡ length pairs.now }
     requires few { length pairs.now < 2 ^ 28 }
     requires room { place + degree (length pairs.now) ≤ length words.old + 1 }
@@ -52,7 +52,7 @@ fn put_keys(words: &mut [u64], place: usize, pairs: &[Pair], cut: &Cut)
 
 /// Writes the slot of part `j` of an inner row at the base: the word for its tree of `count` pairs, which
 /// begins at `at`.
-pub(crate) fn put_slot(words: &mut [u64], base: u64, cut: &Cut, j: u64, at: u64, count: u64)
+pub(crate) fn put_slot(words: &mut [u64], base: u64, cut: &RowCut, j: u64, at: u64, count: u64)
     requires within { j < cut.now.children }
     requires row { base + inner_words cut.now.children ≤ length words.old }
     requires few { base + inner_words cut.now.children ≤ at }

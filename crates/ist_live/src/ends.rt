@@ -4,7 +4,7 @@ ghost use Rattle.ist_find.specs.Sweeps.{one_of};
 ghost use Rattle.ist_live.specs.Reading.{HasOnlyRead, ReadsUp, ReadsDown};
 ghost use Rattle.ist_live.specs.Ends.{IsNextUp, IsNextDown, end_up, end_down};
 
-use crate::parts::{Part, read_down, read_up};
+use crate::parts::{PartRead, read_down, read_up};
 use ist_core::Pair;
 use ist_tree::{Pass, Tree};
 
@@ -22,7 +22,7 @@ pub fn at_least(tree: &Tree, pass: &mut Pass, key: u64) -> Option<Pair>
 {
     let mut from = key;
     'spans: loop {
-        let Part { pair, to } = read_up(tree, pass, from, u64::MAX);
+        let PartRead { pair, to } = read_up(tree, pass, from, u64::MAX);
         match pair {
             Some(pair) => return Some(pair),
             None => {
@@ -45,7 +45,7 @@ pub fn at_most(tree: &Tree, pass: &mut Pass, key: u64) -> Option<Pair>
 {
     let mut from = key;
     'spans: loop {
-        let Part { pair, to } = read_down(tree, pass, from);
+        let PartRead { pair, to } = read_down(tree, pass, from);
         match pair {
             Some(pair) => return Some(pair),
             None => {

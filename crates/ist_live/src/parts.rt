@@ -9,7 +9,7 @@ use ist_tree::{Pass, Tree};
 
 /// What one search read: the pair among its keys, if there is one, and the last of its keys.
 #[derive(Clone, Copy, Drop)]
-pub(crate) struct Part {
+pub(crate) struct PartRead {
     /// The pair, if there is one.
     pub pair: Option<Pair>,
     /// The key farthest from where the search began.
@@ -44,7 +44,7 @@ fn lesser(one: u64, other: u64) -> u64
 }
 
 /// Reads the keys from `from` up to the end of its span, and none beyond `last`.
-pub(crate) fn read_up(tree: &Tree, pass: &mut Pass, from: u64, last: u64) -> Part
+pub(crate) fn read_up(tree: &Tree, pass: &mut Pass, from: u64, last: u64) -> PartRead
     requires same_tree { pass.old.tree ≡ tree.now }
     requires some { from ≤ last }
     ensures span { HasReadSpan pass.old pass.new from from (result.to + 1) result.pair }
@@ -53,20 +53,20 @@ pub(crate) fn read_up(tree: &Tree, pass: &mut Pass, from: u64, last: u64) -> Par
 {
     let span = tree.span(pass, from);
     let to = lesser(span.last, last);
-    Part {
+    PartRead {
         pair: pair_between(span.pair, from, to),
         to,
     }
 }
 
 /// Reads the keys from `from` down to the beginning of its span.
-pub(crate) fn read_down(tree: &Tree, pass: &mut Pass, from: u64) -> Part
+pub(crate) fn read_down(tree: &Tree, pass: &mut Pass, from: u64) -> PartRead
     requires same_tree { pass.old.tree ≡ tree.now }
     ensures span { HasReadSpan pass.old pass.new from result.to (from + 1) result.pair }
     ensures edge { 0 < result.to → IsEdge (state_seen pass.new) result.to }
 {
     let span = tree.span(pass, from);
-    Part {
+    PartRead {
         pair: pair_between(span.pair, span.first, from),
         to: span.first,
     }

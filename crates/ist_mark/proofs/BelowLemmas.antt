@@ -12,7 +12,7 @@ use Rattle.ist_rule.specs.Learning.{now}
 use Rattle.ist_rule.specs.Going.{WentOn}
 use Rattle.ist_layout.specs.declared.references.Ref as layout
 use Rattle.ist_layout.specs.Meanings.{ref_meant}
-use Rattle.ist_mark.specs.declared.below.Below.TheVariants.{Keys, Node}
+use Rattle.ist_mark.specs.declared.below.PassedChild.TheVariants.{Keys, Node}
 use Rattle.ist_mark.specs.Marking.{to_row, to_target}
 use Rattle.ist_mark.specs.Passing.{HangsBelow, PassedWith}
 use Rattle.ist_mark.proofs.KeepingLemmas.{happened_went}

@@ -11,7 +11,7 @@ use Rattle.ist_rule.specs.Rule.{IsSound}
 use Rattle.ist_rule.specs.Learning.{now}
 use Rattle.ist_rule.specs.Going.{WentOn}
 use Rattle.ist_rule.proofs.WentOnLemmas.{went_who}
-use Rattle.ist_mark.specs.declared.below.Below.TheVariants.{Node}
+use Rattle.ist_mark.specs.declared.below.PassedChild.TheVariants.{Node}
 use Rattle.ist_mark.specs.Marking.{MayMark, LeadsTo, to_row, to_target, LiesUnder, the_node, one_lower, Marks}
 use Rattle.ist_mark.specs.Passing.{MayPass, MayGoOn, PassedWith, IsSlotCounted, AreCounted, one_slot_more, MayFinish}
 use Rattle.ist_mark.proofs.CountLemmas.{count_few, counted_few}

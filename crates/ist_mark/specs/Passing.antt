@@ -13,8 +13,8 @@ use Rattle.ist_rule.specs.Faces.{TokenFace}
 use Rattle.ist_rule.specs.Going.{WentOn, KeepsSearch}
 use Rattle.ist_rule.specs.Learning.{now}
 use Rattle.ist_dcss.specs.Helping.{MayHelp}
-use Rattle.ist_mark.specs.declared.below.Below.{Below}
-use Rattle.ist_mark.specs.declared.below.Below.TheVariants.{Keys, Node}
+use Rattle.ist_mark.specs.declared.below.PassedChild.{PassedChild}
+use Rattle.ist_mark.specs.declared.below.PassedChild.TheVariants.{Keys, Node}
 use Rattle.ist_mark.specs.Marking.{MayMark, LeadsTo, LiesUnder, Marks}
 
 -- the node is an inner row that isn't open
@@ -54,7 +54,7 @@ pub record HangsBelow (v : View) (node word child : ℕ) : Type 0 where
   pub leads : LeadsTo (now v) word child
 
 -- what hangs below the node by the word: a number of keys without an inner row, or an inner row
-abbrev pub IsBelow : View → ℕ → ℕ → Below → Type 0
+abbrev pub IsBelow : View → ℕ → ℕ → PassedChild → Type 0
 IsBelow v node word (Keys keys) = CountsFor (now v) (ref_of word) keys
 IsBelow v node word (Node child) = HangsBelow v node word child
 
@@ -65,7 +65,7 @@ pub record MayGoOn (v : View) (node child : ℕ) : Type 0 where
   pub under : LiesUnder (now v) v.log node child
 
 -- slot i of the node was passed, and what hangs below it is this
-pub record PassedWith (v : View) (node i : ℕ) (below : Below) : Type 0 where
+pub record PassedWith (v : View) (node i : ℕ) (below : PassedChild) : Type 0 where
   pub word : ℕ
   pub frozen : IsFrozen v.log node i word
   pub is : IsBelow v node word below

@@ -2,7 +2,7 @@
 
 /// What hangs below a slot that was passed.
 #[derive(Clone, Copy, Debug, PartialEq, Eq, Drop)]
-pub(crate) enum Below {
+pub(crate) enum PassedChild {
     /// This many keys, and no inner row.
     Keys(u64),
     /// An inner row.

@@ -6,7 +6,7 @@ ghost use Rattle.ist_rule.specs.Going.{WentOn, KeepsSearch};
 ghost use Rattle.ist_mark.specs.Marking.{MayMark, Marks};
 ghost use Rattle.ist_mark.specs.Passing.{MayPass, HasMarked, IsSlotCounted};
 
-use crate::below::Below;
+use crate::below::PassedChild;
 use crate::passing::pass_slot;
 use crate::statuses::{degree_of, finish, mark};
 use ist_rule::{TreeTable, TreeToken, know};
@@ -21,8 +21,8 @@ fn count_slot(table: &TreeTable, token: &mut TreeToken, node: u32, degree: u64, 
     ensures counted { IsSlotCounted token.new.view node index result }
 {
     match pass_slot(table, token, node, degree, index) {
-        Below::Keys(keys) => keys,
-        Below::Node(child) => mark_and_count(table, token, child),
+        PassedChild::Keys(keys) => keys,
+        PassedChild::Node(child) => mark_and_count(table, token, child),
     }
 }
 

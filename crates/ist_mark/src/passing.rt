@@ -5,7 +5,7 @@ ghost use Rattle.ist_core.specs.Marking.{IsFrozen};
 ghost use Rattle.ist_dcss.specs.Reading.{IsNoChange};
 ghost use Rattle.ist_mark.specs.Passing.{HasMarked, MayPass, IsMetAt, PassedWith};
 
-use crate::below::Below;
+use crate::below::PassedChild;
 use ist_dcss::{change_in, help, target_of};
 use ist_layout::{Ref, slot_place};
 use ist_rule::{TreeTable, TreeToken, know, load_pass};
@@ -54,7 +54,7 @@ pub(crate) fn pass_slot(
     node: u32,
     degree: u64,
     index: u64,
-) -> Below
+) -> PassedChild
     requires same_table { token.old.table ≡ table.now.table }
     requires may_pass { MayPass token.old.view node degree }
     requires within { index < degree }
@@ -64,10 +64,10 @@ pub(crate) fn pass_slot(
     let word = pass(table, token, node, degree, index);
     know(token);
     match Ref::from_word(word) {
-        Some(Ref::Inner { base }) => Below::Node(base),
-        Some(Ref::Rebuild { base }) => Below::Node(target_of(table, token, base)),
-        Some(Ref::Leaf { base: _ }) => Below::Keys(1),
-        Some(Ref::Empty) => Below::Keys(0),
+        Some(Ref::Inner { base }) => PassedChild::Node(base),
+        Some(Ref::Rebuild { base }) => PassedChild::Node(target_of(table, token, base)),
+        Some(Ref::Leaf { base: _ }) => PassedChild::Keys(1),
+        Some(Ref::Empty) => PassedChild::Keys(0),
         Some(Ref::Unset) => unreachable!(),
         Some(Ref::Change { base: _ }) => unreachable!(),
         None => unreachable!(),

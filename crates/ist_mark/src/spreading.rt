@@ -6,7 +6,7 @@ ghost use Rattle.ist_rule.specs.Going.{WentOn, KeepsSearch};
 ghost use Rattle.ist_mark.specs.Marking.{MayMark, Marks};
 ghost use Rattle.ist_mark.specs.Passing.{MayPass, MayGoOn, HasMarked};
 
-use crate::below::Below;
+use crate::below::PassedChild;
 use crate::counting::mark_and_count;
 use crate::passing::pass_slot;
 use crate::statuses::{degree_of, mark, own_word};
@@ -52,8 +52,8 @@ fn open_below(
     ensures below { IfSome result (λ child. MayGoOn token.new.view node child) }
 {
     match pass_slot(table, token, node, degree, index) {
-        Below::Keys(_) => None,
-        Below::Node(child) => {
+        PassedChild::Keys(_) => None,
+        PassedChild::Node(child) => {
             let status = own_word(table, token, child, INNER_STATUS_OFFSET);
             if status == Status::Clear.to_word() {
                 return Some(child);

@@ -22,7 +22,7 @@ ghost use Rattle.ist_rebuild.specs.Helping.{IsLeftToParent, IsHelpRefused, HasHe
 ghost use Rattle.laws_coming.specs.Further.{CameFurther};
 
 use crate::answers::Helped;
-use crate::sites::{Met, PlannedFinish, meet, settle};
+use crate::sites::{PlannedFinish, SiteWord, meet, settle};
 use ist_build::{fill_parts, set_root};
 use ist_core::Full;
 use ist_dcss::{Decision, Installed, help, install, is_open};
@@ -165,13 +165,13 @@ fn conclude(
         Tried::Yes => Some(Helped::Replaced),
         Tried::No => Some(settle(table, who, plan)),
         Tried::Other(word) => match meet(word, plan.rebuild) {
-            Met::Change(change) => {
+            SiteWord::Change(change) => {
                 // Okay, Decide and Resolve. Meets any helper of the change.
                 help(table, &mut who.token, change);
                 None
             }
-            Met::Itself => unreachable!(),
-            Met::Another => Some(Helped::Replaced),
+            SiteWord::Itself => unreachable!(),
+            SiteWord::Another => Some(Helped::Replaced),
         },
     }
 }

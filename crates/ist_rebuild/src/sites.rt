@@ -7,7 +7,7 @@ ghost use Rattle.ist_core.specs.Slots.{SlotHolds, IsOpen};
 ghost use Rattle.ist_rule.specs.Learning.{now, GoesOnTo};
 ghost use Rattle.ist_build.specs.Calls.{IsBuiltOut};
 ghost use Rattle.ist_rebuild.specs.declared.answers.Helped.TheVariants.{Replaced, ParentMarked};
-ghost use Rattle.ist_rebuild.specs.declared.sites.Met.TheVariants.{Change, Itself, Another};
+ghost use Rattle.ist_rebuild.specs.declared.sites.SiteWord.TheVariants.{Change, Itself, Another};
 ghost use Rattle.ist_dcss.specs.Reading.{IsRebuildRow};
 ghost use Rattle.ist_rebuild.specs.Finishing.{IsWordOf, IsPlan};
 ghost use Rattle.ist_rows.specs.Going.{IsReady};
@@ -31,7 +31,7 @@ pub(crate) struct PlannedFinish {
 
 /// What a word in the slot of a rebuild means for it.
 #[derive(Clone, Copy, Drop)]
-pub(crate) enum Met {
+pub(crate) enum SiteWord {
     /// The word of a change.
     Change(u32),
     /// The word of the rebuild itself.
@@ -78,26 +78,26 @@ pub(crate) fn plan_of(table: &TreeTable, token: &mut TreeToken, rebuild: u32) ->
 }
 
 /// Returns what a word in the slot of the rebuild means for it.
-pub(crate) fn meet(word: u64, rebuild: u32) -> Met
+pub(crate) fn meet(word: u64, rebuild: u32) -> SiteWord
     ensures change { (change : ℕ) → result ≡ Change change → ref_of word ≡ Some (ChangeAt change) }
     ensures itself { result ≡ Itself → ref_of word ≡ Some (RebuildAt rebuild) }
     ensures no_change { result ≡ Another → (change : ℕ) → ref_of word ≢ Some (ChangeAt change) }
     ensures another { result ≡ Another → ref_of word ≢ Some (RebuildAt rebuild) }
 {
     match Ref::from_word(word) {
-        Some(Ref::Change { base }) => Met::Change(base),
+        Some(Ref::Change { base }) => SiteWord::Change(base),
         Some(Ref::Rebuild { base }) => {
             if base == rebuild {
-                Met::Itself
+                SiteWord::Itself
             } else {
-                Met::Another
+                SiteWord::Another
             }
         }
-        Some(Ref::Empty) => Met::Another,
-        Some(Ref::Unset) => Met::Another,
-        Some(Ref::Leaf { base: _ }) => Met::Another,
-        Some(Ref::Inner { base: _ }) => Met::Another,
-        None => Met::Another,
+        Some(Ref::Empty) => SiteWord::Another,
+        Some(Ref::Unset) => SiteWord::Another,
+        Some(Ref::Leaf { base: _ }) => SiteWord::Another,
+        Some(Ref::Inner { base: _ }) => SiteWord::Another,
+        None => SiteWord::Another,
     }
 }
 
@@ -137,9 +137,9 @@ pub(crate) fn settle(table: &TreeTable, who: &mut Caller, plan: PlannedFinish) -
         know(&who.token);
         match meet(word, plan.rebuild) {
             // Okay, Decide and Resolve. Meets any helper of the change.
-            Met::Change(change) => help(table, &mut who.token, change),
-            Met::Itself => return Helped::ParentMarked,
-            Met::Another => return Helped::Replaced,
+            SiteWord::Change(change) => help(table, &mut who.token, change),
+            SiteWord::Itself => return Helped::ParentMarked,
+            SiteWord::Another => return Helped::Replaced,
         };
     }
 }

@@ -15,7 +15,7 @@ use Rattle.ist_rule.proofs.WentOnLemmas.{later_by-goes_on, went_lawful, went_now
 use Rattle.ist_rows.specs.declared.callers.Caller.{Caller}
 use Rattle.ist_tree.proofs.FewFreezeLemmas.{few_helped, few_still}
 use Rattle.ist_tree.specs.declared.freezing.Frozen.{Frozen}
-use Rattle.ist_tree.specs.declared.freezing.Outcome.{Outcome}
+use Rattle.ist_tree.specs.declared.freezing.FreezeOutcome.{FreezeOutcome}
 use Rattle.ist_tree.specs.declared.freezing.Site.TheVariants.{Rebuilt, Still}
 use Rattle.ist_tree.specs.FreezeSteps.{Freezes, FreezesTarget, HasMet, IsHelpShort, IsRebuiltIn, IsTargetShort, IsTopShort}
 use Rattle.ist_tree.specs.Working.{Rebuilds}
@@ -41,7 +41,7 @@ one_inner : (a b : ℕ) → InnerAt a ≡ InnerAt b → a ≡ b
 one_inner a b e = cc
 
 -- the target of a rebuild that was met, and finished
-pub target_frozen : (a b c : Caller) (words rebuild target : ℕ) (outcome : Outcome)
+pub target_frozen : (a b c : Caller) (words rebuild target : ℕ) (outcome : FreezeOutcome)
     → HasMet a b (Rebuilt rebuild target) → FreezesTarget b c words rebuild target outcome
     → Freezes a c words outcome
 target_frozen a b c words rebuild target outcome m f =

@@ -11,7 +11,7 @@ use Rattle.ist_rule.specs.Faces.{TokenFace}
 use Rattle.ist_rule.specs.Learning.{now}
 use Rattle.ist_rows.specs.declared.callers.Caller.{Caller}
 use Rattle.ist_tree.specs.declared.freezing.Frozen.{Frozen}
-use Rattle.ist_tree.specs.declared.freezing.Outcome.{Outcome}
+use Rattle.ist_tree.specs.declared.freezing.FreezeOutcome.{FreezeOutcome}
 use Rattle.ist_tree.specs.DueRows.{FinishesFreeze, all_done}
 use Rattle.ist_tree.specs.FreezeSteps.{Freezes, HasTakenFewUnless, IsFreezeStopped, IsTargetShort, IsTopShort}
 use Rattle.ist_tree.specs.Calls.{HasSeenMore}
@@ -59,7 +59,7 @@ pub record FreezeEnds (old : PassFace) (new : Caller) (token : TokenFace) (q : O
 -- a freeze that succeeds ends so
 pub freeze_ends : (who began new : Caller) (token : TokenFace) (it : IsFreezeCall who began new token)
     (r q : Option Full) → IsPassWith who r → (words : ℕ) → words ≡ who.token.view.words
-    → token.table ≡ who.token.table → (outcome : Outcome) → Freezes began new words outcome
+    → token.table ≡ who.token.table → (outcome : FreezeOutcome) → Freezes began new words outcome
     → q ≡ option_or r outcome.refused → (old : PassFace) → pass_face who r ≡ old
     → FreezeEnds old new token q outcome.frozen
 freeze_ends who began new token it r q all words same table outcome f is old view =

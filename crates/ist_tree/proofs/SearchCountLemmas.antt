@@ -19,7 +19,7 @@ use Rattle.laws_coming.specs.Further.{CameFurther}
 use Rattle.laws_stability.specs.Progress.{progress}
 use Rattle.laws_stability.proofs.ProgressLemmas.{never_falls}
 use Rattle.ist_updates.specs.Further.{HasWalkedFew}
-use Rattle.ist_tree.specs.declared.freezing.Outcome.{Outcome}
+use Rattle.ist_tree.specs.declared.freezing.FreezeOutcome.{FreezeOutcome}
 use Rattle.ist_tree.specs.declared.freezing.Site.{Site}
 use Rattle.ist_tree.specs.FreezeSteps.{Freezes, GoesIdle, HasMet, IsFreezeStopped, counted_as}
 use Rattle.ist_tree.specs.Working.{Rebuilds}
@@ -144,7 +144,7 @@ idle_after a b c g h =
     (idle_more (counted_as a b.token.view.searches) b c g h)
 
 -- so is a tree that was frozen
-pub froze_begun : (a b c : Caller) (words : ℕ) (outcome : Outcome) → StaysReady Rebuilds b c
+pub froze_begun : (a b c : Caller) (words : ℕ) (outcome : FreezeOutcome) → StaysReady Rebuilds b c
     → Freezes (counted_as a b.token.view.searches) c words outcome
     → Freezes (counted_as a c.token.view.searches) c words outcome
 froze_begun a b c words outcome on f =

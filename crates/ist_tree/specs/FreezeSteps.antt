@@ -24,7 +24,7 @@ use Rattle.ist_rebuild.specs.Lacking.{LacksNow}
 use Rattle.ist_rebuild.specs.Starting.{MayStart, StartsDoneBut, StartsDoneSince, StartsNone}
 use Rattle.ist_rebuild.specs.Needs.{TakesNeeded, needed}
 use Rattle.ist_tree.specs.declared.freezing.Frozen.{Frozen}
-use Rattle.ist_tree.specs.declared.freezing.Outcome.{Outcome}
+use Rattle.ist_tree.specs.declared.freezing.FreezeOutcome.{FreezeOutcome}
 use Rattle.ist_tree.specs.declared.freezing.Site.{Site}
 use Rattle.ist_tree.specs.declared.freezing.Site.TheVariants.{Still, Rebuilt}
 use Rattle.ist_tree.specs.Freezing.{HeldInnerRow, WasFrozen, words_of_freeze}
@@ -153,7 +153,7 @@ pub record IsTopShort (v w : View) (words : ℕ) (full : Full) : Type 0 where
   pub help : IsHelpShort w rebuild words full
 
 -- the caller has finished the target; if it wasn't refused, the rebuild is done too
-pub record FreezesTarget (old new : Caller) (words rebuild target : ℕ) (outcome : Outcome)
+pub record FreezesTarget (old new : Caller) (words rebuild target : ℕ) (outcome : FreezeOutcome)
     : Type 0 where
   pub on : StaysReady Rebuilds old new
   pub root_is : outcome.frozen.root ≡ Inner target
@@ -179,7 +179,7 @@ pub record IsRebuiltIn (v w : View) (words row : ℕ) (refused : Option Full) : 
   pub short : IfSome refused (IsTargetShort v w words row rebuild)
 
 -- the caller has frozen the tree; if it wasn't refused, all that it started is done
-pub record Freezes (old new : Caller) (words : ℕ) (outcome : Outcome) : Type 0 where
+pub record Freezes (old new : Caller) (words : ℕ) (outcome : FreezeOutcome) : Type 0 where
   pub on : StaysReady Rebuilds old new
   pub frozen : let v = old.token.view in
       WasFrozen v.start v.words v.log new.token.view.log outcome.frozen

@@ -11,7 +11,7 @@ use Rattle.ist_rows.specs.Going.{HasGone}
 use Rattle.ist_rows.proofs.GoneLemmas.{loads_gone, gone_all, gone_more}
 use Rattle.ist_updates.specs.declared.plans.Aim.{Aim}
 use Rattle.ist_updates.specs.declared.plans.PlannedChange.{PlannedChange}
-use Rattle.ist_updates.specs.declared.plans.Way.{Way}
+use Rattle.ist_updates.specs.declared.plans.SlotPlan.{SlotPlan}
 use Rattle.ist_updates.specs.Answering.{HasCarried, HasChanged}
 use Rattle.ist_updates.specs.Asking.{IsAsked}
 use Rattle.ist_updates.specs.Changing.{Prepares, MayReplace, IsWayRefused, command_by}
@@ -40,7 +40,7 @@ lost_took e = cc
 
 -- ---- what came of it
 
-module _ (old : Caller) (aim : Aim) (x : Way) (a : IsAsked old (command_by aim.key x)) where
+module _ (old : Caller) (aim : Aim) (x : SlotPlan) (a : IsAsked old (command_by aim.key x)) where
   -- a caller that only reserved rows, or gave them up, is asked still
   pub still_asked : (new : Caller) → HasGone Prepares old new → IsAsked new (command_by aim.key x)
   still_asked new gone = asked_gone Prepares old new (command_by aim.key x) a gone prepares_none

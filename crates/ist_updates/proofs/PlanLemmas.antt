@@ -27,7 +27,7 @@ use Rattle.laws_histories.proofs.PositionLemmas.{node_met}
 use Rattle.laws_calls.proofs.WalkLemmas.{meeting_comes}
 use Rattle.ist_updates.specs.declared.plans.Aim.{Aim}
 use Rattle.ist_updates.specs.declared.plans.Fresh.TheVariants.{Nothing, Leaf, Pair}
-use Rattle.ist_updates.specs.declared.plans.Way.TheVariants as way
+use Rattle.ist_updates.specs.declared.plans.SlotPlan.TheVariants as way
 use Rattle.ist_updates.specs.Changing.{WasAtSlot, IsPlanned, row_for}
 
 module _ (v : View) (aim : Aim) (at : WasAtSlot v aim) where

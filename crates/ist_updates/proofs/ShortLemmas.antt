@@ -7,7 +7,7 @@ use Rattle.ist_rule.specs.declared.view.View.{View}
 use Rattle.ist_rule.specs.Going.{WentOn}
 use Rattle.ist_rule.proofs.WentOnLemmas.{went_all, went_more}
 use Rattle.ist_rows.specs.Rows.{RanShort}
-use Rattle.ist_updates.specs.declared.plans.Way.{Way}
+use Rattle.ist_updates.specs.declared.plans.SlotPlan.{SlotPlan}
 use Rattle.ist_updates.specs.Changing.{Prepares, MayAskFor, IsRowShort, IsWayRefused}
 use Rattle.ist_rows.proofs.ShortLemmas.{short_from}
 
@@ -35,21 +35,21 @@ asked_later u v words full w a s =
     }
 
 -- so a change of the slot is refused
-pub way_short : {size : ℕ} (v : View) (words : ℕ) (full : Full) (w : View) (x : Way)
+pub way_short : {size : ℕ} (v : View) (words : ℕ) (full : Full) (w : View) (x : SlotPlan)
     → IsRowShort v size words full w → (full.asked ≡ size → MayAskFor x full.asked)
     → IsWayRefused v x words full w
 way_short v words full w x s may =
     record { short = s.short; asked = may s.asked; lacks = s.lacks }
 
 -- the same after other steps
-pub way_refused : {size : ℕ} (u v : View) (words : ℕ) (full : Full) (w : View) (x : Way)
+pub way_refused : {size : ℕ} (u v : View) (words : ℕ) (full : Full) (w : View) (x : SlotPlan)
     → WentOn Prepares u v → IsRowShort v size words full w
     → (full.asked ≡ size → MayAskFor x full.asked) → IsWayRefused u x words full w
 way_refused u v words full w x a s may =
     way_short u words full w x (asked_later u v words full w a s) may
 
 -- a change that was refused since a later view was refused since the earlier view
-pub refused_after : (u v : View) (x : Way) (words : ℕ) (full : Full) (w : View)
+pub refused_after : (u v : View) (x : SlotPlan) (words : ℕ) (full : Full) (w : View)
     → WentOn Prepares u v → IsWayRefused v x words full w → IsWayRefused u x words full w
 refused_after u v x words full w a r =
     record {
@@ -59,7 +59,7 @@ refused_after u v x words full w a r =
     }
 
 -- and so for any result after such steps
-pub err_refused : {A : Type 0} (u v : View) (x : Way) (words : ℕ) (w : View) (r : Result A Full)
+pub err_refused : {A : Type 0} (u v : View) (x : SlotPlan) (words : ℕ) (w : View) (r : Result A Full)
     → WentOn Prepares u v → IfErr r (λ full. IsWayRefused v x words full w)
     → IfErr r (λ full. IsWayRefused u x words full w)
 err_refused u v x words w (Ok a) g h = tt

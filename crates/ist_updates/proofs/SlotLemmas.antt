@@ -40,7 +40,7 @@ use Rattle.ist_updates.specs.declared.plans.Aim.{Aim}
 use Rattle.ist_updates.specs.declared.plans.Fresh.{Fresh}
 use Rattle.ist_updates.specs.declared.plans.Fresh.TheVariants.{Nothing, Leaf, Pair}
 use Rattle.ist_updates.specs.declared.plans.PlannedChange.{PlannedChange}
-use Rattle.ist_updates.specs.declared.plans.Way.{Way}
+use Rattle.ist_updates.specs.declared.plans.SlotPlan.{SlotPlan}
 use Rattle.ist_updates.specs.Asking.{IsAsked}
 use Rattle.ist_updates.specs.Changing.{WasAtSlot, Prepares, HasRows, IsPlanFor, IsPlanned, MayReplace, command_by, filling_of, fresh_rows}
 use Rattle.ist_rows.specs.Going.{HasGone}
@@ -120,7 +120,7 @@ rows_held who c base row (Pair pair leaf other other_key) h = (
   ),
 )
 
-module _ (old mid new : Caller) (aim : Aim) (x : Way) (plan : PlannedChange)
+module _ (old mid new : Caller) (aim : Aim) (x : SlotPlan) (plan : PlannedChange)
     (a : IsAsked old (command_by aim.key x)) (at : WasAtSlot old.token.view aim)
     (h : HasGone Prepares old mid) (planned : IsPlanned mid aim x plan)
     (f : HasGone Prepares mid new) (same : new ≡ with_own mid new.token.view.own)
@@ -189,7 +189,7 @@ module _ (old mid new : Caller) (aim : Aim) (x : Way) (plan : PlannedChange)
 -- ---- both together
 
 -- the caller has prepared the plan: it may be installed
-pub record HasPreparedPlan (old new : Caller) (aim : Aim) (x : Way) (plan : PlannedChange) : Type 0 where
+pub record HasPreparedPlan (old new : Caller) (aim : Aim) (x : SlotPlan) (plan : PlannedChange) : Type 0 where
   pub gone : HasGone Prepares old new
   pub asked : IsAsked new (command_by aim.key x)
   pub rows : HasRows new plan
@@ -197,7 +197,7 @@ pub record HasPreparedPlan (old new : Caller) (aim : Aim) (x : Way) (plan : Plan
   pub is_for : IsPlanFor new.number aim x plan
 
 -- a planned change whose rows are stored is prepared
-pub prepared : (old mid new : Caller) (aim : Aim) (x : Way) (plan : PlannedChange)
+pub prepared : (old mid new : Caller) (aim : Aim) (x : SlotPlan) (plan : PlannedChange)
     → IsAsked old (command_by aim.key x) → WasAtSlot old.token.view aim
     → IsUnrefused (now old.token.view) old.number aim.node → HasGone Prepares old mid
     → IsPlanned mid aim x plan → IsCaller new → IsSound new.token.view
@@ -217,7 +217,7 @@ prepared old mid new aim x plan a at unrefused h planned c s same stored =
     }
 
 -- if it took effect since the rows were prepared, it took effect since the first view
-pub prepared_taken : (old new : Caller) (aim : Aim) (x : Way) (plan : PlannedChange)
+pub prepared_taken : (old new : Caller) (aim : Aim) (x : SlotPlan) (plan : PlannedChange)
     → IsAsked old (command_by aim.key x) → HasPreparedPlan old new aim x plan
     → MayReplace old.token.view aim.key aim.word x → (w : View)
     → HasTakenEffect new.token.view w new.number (command_by aim.key x) plan.row.node
@@ -235,7 +235,7 @@ prepared_taken old new aim x plan a p room w t =
     p.is_for.node t)
 
 -- if it took effect since a load, it took effect since the view before the load
-pub loads_taken : (old : Caller) (token : TokenFace) (key word : ℕ) (x : Way)
+pub loads_taken : (old : Caller) (token : TokenFace) (key word : ℕ) (x : SlotPlan)
     → GoesOnTo old.token.view token.view → IsAsked old (command_by key x)
     → MayReplace old.token.view key word x → (w : View) (node : ℕ)
     → HasTakenEffect token.view w old.number (command_by key x) node

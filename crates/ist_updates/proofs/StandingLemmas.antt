@@ -17,8 +17,8 @@ use Rattle.ist_core.proofs.GrowingLemmas.{leaf_there}
 use Rattle.ist_rule.specs.declared.view.View.{View}
 use Rattle.ist_rule.specs.Learning.{now}
 use Rattle.ist_updates.specs.declared.plans.Fresh.TheVariants.{Leaf}
-use Rattle.ist_updates.specs.declared.plans.Way.{Way}
-use Rattle.ist_updates.specs.declared.plans.Way.TheVariants as way
+use Rattle.ist_updates.specs.declared.plans.SlotPlan.{SlotPlan}
+use Rattle.ist_updates.specs.declared.plans.SlotPlan.TheVariants as way
 use Rattle.ist_updates.specs.Changing.{MayReplace}
 use Rattle.laws_links.proofs.FormLemmas.{leaf_of_grows, room_grows}
 
@@ -75,7 +75,7 @@ reply_stays t u g key word (leaf_there_is leaf row e there) =
 -- ---- what the slot holds
 
 -- what leaves room leaves it still
-pub way_on : (v w : View) → AllGrow (now v).pieces (now w).pieces → (key word : ℕ) (x : Way)
+pub way_on : (v w : View) → AllGrow (now v).pieces (now w).pieces → (key word : ℕ) (x : SlotPlan)
     → MayReplace v key word x → MayReplace w key word x
 way_on v w g key word (way.Leaf value) h = room_grows (now v) (now w) g key word h
 way_on v w g key word (way.Pair value other other_key) h = (
@@ -86,14 +86,14 @@ way_on v w g key word (way.Pair value other other_key) h = (
 way_on v w g key word way.Clear h = (h.0, h.1, leaf_of_grows (now v) (now w) g h.0 key h.2)
 
 -- the slot holds nothing or a leaf
-pub way_stands : (v : View) (key word : ℕ) (x : Way) → MayReplace v key word x → StandsInSlot (now v) word
+pub way_stands : (v : View) (key word : ℕ) (x : SlotPlan) → MayReplace v key word x → StandsInSlot (now v) word
 way_stands v key word (way.Leaf value) h = room_stands (now v) key word h
 way_stands v key word (way.Pair value other other_key) h =
     leaf_there_is other h.1.row h.0 h.1.published
 way_stands v key word way.Clear h = leaf_there_is h.0 h.2.row h.1 h.2.published
 
 -- the reply to the change is what the word of the slot gives the key
-pub planned_reply : (v w : View) → AllGrow (now v).pieces (now w).pieces → (key word : ℕ) (x : Way)
+pub planned_reply : (v w : View) → AllGrow (now v).pieces (now w).pieces → (key word : ℕ) (x : SlotPlan)
     → MayReplace v key word x → (row : ChangeRow) → row.from ≡ word → row.key ≡ key
     → value_at (now v).pieces (ref_of word) key ≡ reply_of (now w).pieces row
 planned_reply v w g key word x h row from key_is =

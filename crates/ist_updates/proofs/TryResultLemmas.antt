@@ -15,8 +15,8 @@ use Rattle.ist_rows.specs.declared.callers.Caller.{Caller}
 use Rattle.ist_rows.specs.Going.{HasGone, StaysReady}
 use Rattle.ist_rows.proofs.GoneLemmas.{loads_gone, gone_more, ready_same}
 use Rattle.ist_updates.specs.declared.plans.Aim.{Aim}
-use Rattle.ist_updates.specs.declared.plans.Way.{Way}
-use Rattle.ist_updates.specs.declared.plans.Way.TheVariants as way
+use Rattle.ist_updates.specs.declared.plans.SlotPlan.{SlotPlan}
+use Rattle.ist_updates.specs.declared.plans.SlotPlan.TheVariants as way
 use Rattle.ist_updates.specs.declared.updates.Outcome.{Outcome}
 use Rattle.ist_updates.specs.declared.updates.Outcome.TheVariants.{Nothing, Unmet}
 use Rattle.ist_updates.specs.Answering.{HasChanged, HasTried, IsTryRefused, just_took}
@@ -107,7 +107,7 @@ module _ (old new : Caller) (aim : Aim) (value : Option ℕ) (words : ℕ) where
 
 -- ---- a try by a change of the slot
 
-module _ {old new : Caller} {aim : Aim} {x : Way} {words : ℕ} where
+module _ {old new : Caller} {aim : Aim} {x : SlotPlan} {words : ℕ} where
   -- the change was carried out or lost
   pub changed_tried : (value : Option ℕ) {taken : Bool} (tried : Option Outcome) (reply : Option ℕ)
       → command_by aim.key x ≡ command_for aim.key value → HasChanged old aim x words (Ok taken) new

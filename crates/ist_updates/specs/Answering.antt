@@ -11,7 +11,7 @@ use Rattle.ist_rows.specs.Going.{StaysReady}
 use Rattle.laws_coming.specs.Further.{CameFurther}
 use Rattle.ist_updates.specs.declared.plans.Aim.{Aim}
 use Rattle.ist_updates.specs.declared.plans.PlannedChange.{PlannedChange}
-use Rattle.ist_updates.specs.declared.plans.Way.{Way}
+use Rattle.ist_updates.specs.declared.plans.SlotPlan.{SlotPlan}
 use Rattle.ist_updates.specs.declared.updates.Outcome.{Outcome}
 use Rattle.ist_updates.specs.declared.updates.Outcome.TheVariants.{Took, Nothing, Unmet}
 use Rattle.ist_updates.specs.Asking.{command_for, IsAsked}
@@ -36,7 +36,7 @@ pub record HasCarried (old : Caller) (plan : PlannedChange) (taken : Bool) (new 
 
 -- what each result of a change of the slot means: it took effect, or it was lost and the table came
 -- further, or the table had too few words for a row of it
-pub record HasChanged (old : Caller) (aim : Aim) (w : Way) (words : ℕ) (result : Result Bool Full)
+pub record HasChanged (old : Caller) (aim : Aim) (w : SlotPlan) (words : ℕ) (result : Result Bool Full)
     (new : Caller) : Type 0 where
   pub on : StaysReady Tries old new
   pub took : result ≡ Ok true → let v = old.token.view in

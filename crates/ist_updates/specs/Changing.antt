@@ -32,8 +32,8 @@ use Rattle.ist_updates.specs.declared.plans.Aim.{Aim}
 use Rattle.ist_updates.specs.declared.plans.Fresh.{Fresh}
 use Rattle.ist_updates.specs.declared.plans.Fresh.TheVariants.{Nothing, Leaf, Pair}
 use Rattle.ist_updates.specs.declared.plans.PlannedChange.{PlannedChange}
-use Rattle.ist_updates.specs.declared.plans.Way.{Way}
-use Rattle.ist_updates.specs.declared.plans.Way.TheVariants as way
+use Rattle.ist_updates.specs.declared.plans.SlotPlan.{SlotPlan}
+use Rattle.ist_updates.specs.declared.plans.SlotPlan.TheVariants as way
 
 -- ---- at the slot
 
@@ -55,13 +55,13 @@ Prepares _ = ⊥
 -- ---- what is put into the slot
 
 -- the command that this change of the slot carries out
-abbrev pub command_by : ℕ → Way → Command
+abbrev pub command_by : ℕ → SlotPlan → Command
 command_by key (way.Leaf value) = Put key value
 command_by key (way.Pair value other other_key) = Put key value
 command_by key way.Clear = Remove key
 
 -- the slot holds what such a change may replace
-abbrev pub MayReplace : View → ℕ → ℕ → Way → Type 0
+abbrev pub MayReplace : View → ℕ → ℕ → SlotPlan → Type 0
 MayReplace v key word (way.Leaf value) = HasRoomFor (now v) key word
 MayReplace v key word (way.Pair value other other_key) =
     (ref_of word ≡ Some (LeafAt other)) × IsLeafOf (now v) other other_key × (other_key ≢ key)
@@ -69,7 +69,7 @@ MayReplace v key word way.Clear =
     (leaf : ℕ) × (ref_of word ≡ Some (LeafAt leaf)) × IsLeafOf (now v) leaf key
 
 -- such a change may ask for this number of words
-abbrev pub MayAskFor : Way → ℕ → Type 0
+abbrev pub MayAskFor : SlotPlan → ℕ → Type 0
 MayAskFor way.Clear asked = asked ≡ change_words
 MayAskFor (way.Leaf value) asked = (asked ≡ leaf_words) ⊎ (asked ≡ change_words)
 MayAskFor (way.Pair value other other_key) asked =
@@ -82,7 +82,7 @@ pub record IsRowShort (v : View) (size words : ℕ) (full : Full) (x : View) : T
   pub lacks : LacksNow x full.asked
 
 -- the table had too few words for one of the rows, which the caller lacks
-pub record IsWayRefused (v : View) (w : Way) (words : ℕ) (full : Full) (x : View) : Type 0 where
+pub record IsWayRefused (v : View) (w : SlotPlan) (words : ℕ) (full : Full) (x : View) : Type 0 where
   pub short : RanShort (WentOn Prepares) v words full x
   pub asked : MayAskFor w full.asked
   pub lacks : LacksNow x full.asked
@@ -133,7 +133,7 @@ AreGood (Pair base leaf other other_key) = IsGoodBase leaf × IsGoodBase other
 AreGood _ = Unit {0}
 
 -- the plan is for this slot, and its change carries out this command for the caller of this number
-pub record IsPlanFor (number : ℕ) (aim : Aim) (w : Way) (plan : PlannedChange) : Type 0 where
+pub record IsPlanFor (number : ℕ) (aim : Aim) (w : SlotPlan) (plan : PlannedChange) : Type 0 where
   pub node : plan.row.node ≡ aim.node
   pub index : plan.row.index ≡ aim.index
   pub from : plan.row.from ≡ aim.word
@@ -144,7 +144,7 @@ pub record IsPlanFor (number : ℕ) (aim : Aim) (w : Way) (plan : PlannedChange)
   pub command : command_of plan.row ≡ Some (command_by aim.key w)
 
 -- the caller holds the rows of such a plan, and the change fits its kind in its log
-pub record IsPlanned (who : Caller) (aim : Aim) (w : Way) (plan : PlannedChange) : Type 0 where
+pub record IsPlanned (who : Caller) (aim : Aim) (w : SlotPlan) (plan : PlannedChange) : Type 0 where
   pub rows : HasRows who plan
   pub good : AreGood plan.fresh
   pub is_for : IsPlanFor who.number aim w plan

@@ -22,11 +22,11 @@ ghost use Rattle.ist_updates.specs.Asking.{IsAsked};
 ghost use Rattle.ist_updates.specs.Changing.{WasAtSlot, Prepares, HasRows};
 ghost use Rattle.ist_updates.specs.Changing.{MayReplace, IsRowShort, IsWayRefused, IsPlanned, row_for};
 ghost use Rattle.ist_updates.specs.Changing.{command_by, filling_of, kinds_of};
-ghost use Rattle.ist_updates.specs.declared.plans.Way.TheVariants as way;
+ghost use Rattle.ist_updates.specs.declared.plans.SlotPlan.TheVariants as way;
 ghost use Rattle.ist_updates.specs.Trying.{Tries, HasTakenEffect};
 
 use crate::filling::fill_rows;
-use crate::plans::{Aim, Fresh, PlannedChange, Way};
+use crate::plans::{Aim, Fresh, PlannedChange, SlotPlan};
 use ist_core::{ChangeRow, Full};
 use ist_dcss::{Decision, Installed, help, install, is_open};
 use ist_layout::{EMPTY_WORD, PUT_KIND, REMOVE_KIND, Ref, UNDECIDED};
@@ -215,7 +215,12 @@ fn plan_clear(table: &TreeTable, who: &mut Caller, aim: Aim) -> Result<PlannedCh
 }
 
 // Reserves the rows that the change needs, and plans how they will be filled.
-fn plan_for(table: &TreeTable, who: &mut Caller, aim: Aim, way: Way) -> Result<PlannedChange, Full>
+fn plan_for(
+    table: &TreeTable,
+    who: &mut Caller,
+    aim: Aim,
+    way: SlotPlan,
+) -> Result<PlannedChange, Full>
     requires same_table { who.old.token.table ≡ table.now.table }
     requires caller { IsCaller who.old }
     requires refused { HasRefused who.old }
@@ -228,13 +233,13 @@ fn plan_for(table: &TreeTable, who: &mut Caller, aim: Aim, way: Way) -> Result<P
         (word_count_of table.now) full who.new.token.view) }
 {
     match way {
-        Way::Leaf { value } => plan_leaf(table, who, aim, value),
-        Way::Pair {
+        SlotPlan::Leaf { value } => plan_leaf(table, who, aim, value),
+        SlotPlan::Pair {
             value,
             other,
             other_key,
         } => plan_pair(table, who, aim, value, other, other_key),
-        Way::Clear => plan_clear(table, who, aim),
+        SlotPlan::Clear => plan_clear(table, who, aim),
     }
 }
 
@@ -321,7 +326,7 @@ pub(crate) fn change_slot(
     table: &TreeTable,
     who: &mut Caller,
     aim: Aim,
-    way: Way,
+    way: SlotPlan,
 ) -> Result<bool, Full>
     requires same_table { who.old.token.table ≡ table.now.table }
     requires asked { IsAsked who.old (command_by aim.key way) }
@@ -339,7 +344,7 @@ pub(crate) fn change_slot(
 }
 
 // The same if its node was open, and no change of the caller there was decided no.
-fn change_open(table: &TreeTable, who: &mut Caller, aim: Aim, way: Way) -> Result<bool, Full>
+fn change_open(table: &TreeTable, who: &mut Caller, aim: Aim, way: SlotPlan) -> Result<bool, Full>
     requires same_table { who.old.token.table ≡ table.now.table }
     requires asked { IsAsked who.old (command_by aim.key way) }
     requires at_slot { WasAtSlot who.old.token.view aim }

@@ -12,7 +12,7 @@ pub(crate) struct Aim {
 
 /// What an update puts into its slot.
 #[derive(Clone, Copy, Drop)]
-pub(crate) enum Way {
+pub(crate) enum SlotPlan {
     /// A fresh leaf with this value, if the slot is empty or holds a leaf of the key.
     Leaf {
         value: u64,

@@ -16,7 +16,7 @@ ghost use Rattle.ist_updates.specs.Meeting.{IsMetBy, IsMissedBy, RepliesWith, Is
 ghost use Rattle.ist_updates.specs.Trying.{IsAtSlot};
 
 use crate::changing::change_slot;
-use crate::plans::{Aim, Way};
+use crate::plans::{Aim, SlotPlan};
 use crate::updates::{Applied, Outcome, Update, When};
 use ist_core::{Full, LeafRow, Reply};
 use ist_dcss::help;
@@ -101,7 +101,7 @@ fn try_empty(
     }
     match update.value {
         Some(value) => {
-            let taken = change_slot(table, who, aim, Way::Leaf { value })?;
+            let taken = change_slot(table, who, aim, SlotPlan::Leaf { value })?;
             Ok(answer(taken, None))
         }
         None => Ok(Some(Outcome::Nothing)),
@@ -127,10 +127,10 @@ fn put_at(
     ensures had { IfOk result (RepliesWith (value_in (Some (Leaf leaf)) aim.key)) }
 {
     if leaf.key == aim.key {
-        let taken = change_slot(table, who, aim, Way::Leaf { value })?;
+        let taken = change_slot(table, who, aim, SlotPlan::Leaf { value })?;
         return Ok(answer(taken, Some(leaf.value)));
     }
-    let way = Way::Pair {
+    let way = SlotPlan::Pair {
         value,
         other: base,
         other_key: leaf.key,
@@ -160,7 +160,7 @@ fn remove_at(
     if leaf.key != aim.key {
         return Ok(Some(Outcome::Nothing));
     }
-    let removed = change_slot(table, who, aim, Way::Clear)?;
+    let removed = change_slot(table, who, aim, SlotPlan::Clear)?;
     Ok(answer(removed, Some(leaf.value)))
 }
 

@@ -5,7 +5,7 @@ ghost use Rattle.ist_rest.specs.WordRows.{word_at};
 ghost use Rattle.tele_io.specs.Bytes.{HaveRisen, Appends, AppendsPart};
 ghost use Rattle.tele_audit.specs.Dumps.{dump_of, AreLawfulWords};
 
-use crate::pieces::{Piece, make_room};
+use crate::pieces::{Chunk, make_room};
 use ist_layout::NEXT_PLACE;
 use ist_rest::laws::standing_words_hold_the_map;
 use ist_rest::{Closed, WordList};
@@ -54,7 +54,7 @@ pub(crate) fn write_dump<W: WordList, O: Sink>(
         (AppendsPart (O.written out.old) (O.written out.new) (dump_of (W.list words.now))) }
     ensures counted { O.faults out.old ≤ O.faults out.new }
 {
-    let mut piece = Piece::new();
+    let mut piece = Chunk::new();
     piece.push(b"CISTDUMP");
     piece.push_number(count);
     let used = words.word(NEXT_PLACE);

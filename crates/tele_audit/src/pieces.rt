@@ -14,11 +14,11 @@ pub(crate) const ROOM: usize = 4096;
 
 /// Bytes that will be written together.
 #[derive(Drop)]
-pub(crate) struct Piece {
+pub(crate) struct Chunk {
     bytes: ArrayVec<u8, ROOM>,
 }
 
-impl Model for Piece {
+impl Model for Chunk {
     ghost use Rattle.std.specs.Prelude.{ℕ, List};
 
     ghost Value = { List ℕ };
@@ -26,12 +26,12 @@ impl Model for Piece {
     ghost view = { λ p. p.bytes.items };
 }
 
-impl Piece {
+impl Chunk {
     /// Makes a piece with no byte.
     pub(crate) fn new() -> Self
         ensures empty { result ≡ [] }
     {
-        Piece {
+        Chunk {
             bytes: ArrayVec::new(),
         }
     }
@@ -72,7 +72,7 @@ impl Piece {
 }
 
 /// Makes room for a number: if there is none, the bytes are written out.
-pub(crate) fn make_room<O: Sink>(piece: &mut Piece, out: &mut O) -> Result<(), SinkFault>
+pub(crate) fn make_room<O: Sink>(piece: &mut Chunk, out: &mut O) -> Result<(), SinkFault>
     ensures room { OnOk result (length piece.new + 8 ≤ ROOM) }
     ensures moved { OnOk result
         (MovesOut (O.written out.old) (O.written out.new) piece.old piece.new) }
@@ -85,6 +85,6 @@ pub(crate) fn make_room<O: Sink>(piece: &mut Piece, out: &mut O) -> Result<(), S
         return Ok(());
     }
     write_whole(out, piece.as_slice())?;
-    *piece = Piece::new();
+    *piece = Chunk::new();
     Ok(())
 }

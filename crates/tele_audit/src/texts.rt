@@ -6,15 +6,15 @@ ghost use Rattle.tele_audit.specs.Runs.{counts_text, said, flaw_word, flaw_text}
 use crate::audits::Audited;
 use crate::flaws::Flaw;
 use crate::jobs::Question;
-use crate::pieces::Piece;
+use crate::pieces::Chunk;
 use tele_io::{Sink, SinkFault, write_whole};
 use tele_lines::{Version, print_pairs};
 
 /// Returns the line with the numbers of keys, used words and words.
-fn counts_line(told: &Audited) -> Piece
+fn counts_line(told: &Audited) -> Chunk
     ensures value { result ≡ counts_text told.now }
 {
-    let mut line = Piece::new();
+    let mut line = Chunk::new();
     line.push(b"keys ");
     line.push_decimal(told.keys());
     line.push(b" used ");
@@ -26,11 +26,11 @@ fn counts_line(told: &Audited) -> Piece
 }
 
 /// Returns the word for a flaw; for a row its place follows.
-fn flaw_words(flaw: Flaw) -> Piece
+fn flaw_words(flaw: Flaw) -> Chunk
     ensures value { result ≡ flaw_word flaw }
     ensures short { length result ≤ 24 }
 {
-    let mut words = Piece::new();
+    let mut words = Chunk::new();
     match flaw {
         Flaw::Magic => words.push(b"magic"),
         Flaw::Short => words.push(b"short"),
@@ -47,10 +47,10 @@ fn flaw_words(flaw: Flaw) -> Piece
 }
 
 /// Returns the line that names a flaw.
-fn flaw_line(flaw: Flaw) -> Piece
+fn flaw_line(flaw: Flaw) -> Chunk
     ensures value { result ≡ flaw_text flaw }
 {
-    let mut line = Piece::new();
+    let mut line = Chunk::new();
     line.push(b"! dump ");
     line.push(flaw_words(flaw).as_slice());
     line.push(b"\n");

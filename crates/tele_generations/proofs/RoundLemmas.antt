@@ -20,7 +20,7 @@ use Rattle.tele_generations.specs.Tables.{EndedWith, RanOnTable, HasPairs}
 use Rattle.tele_generations.specs.Shelves.{IsShelved}
 use Rattle.tele_generations.specs.Rounds.{RanInGenerations, EndsTheRound}
 use Rattle.tele_generations.specs.declared.rests.Turn.{Turn}
-use Rattle.tele_generations.specs.declared.ways.Way.{Way}
+use Rattle.tele_generations.specs.declared.ways.RoundState.{RoundState}
 use Rattle.tele_generations.specs.Ways.{Rests, HasTables, IsOnItsWay, GoesOnAfter}
 use Rattle.tele_generations.proofs.LeadLemmas.{tables_more, tables_end}
 use Rattle.tele_generations.proofs.TableLemmas.{asks_more, table_map, turn, puts_few, rest_some}
@@ -141,7 +141,7 @@ module _ {workers first words : ℕ} {pairs now : List Pair} {tasks left : List 
 -- ---- in the words of the code
 
 -- the round goes on, and less is left
-pub way_goes_on : {workers : ℕ} {pairs : List Pair} {tasks : List Task} {way next : Way}
+pub way_goes_on : {workers : ℕ} {pairs : List Pair} {tasks : List Task} {way next : RoundState}
     {made : Turn} {full : Full} {table : List ℕ} {ended : Option Full}
     → GoesOnAfter way made full next
     → IsOnItsWay workers pairs tasks way.fulls.items way.answers.items way.pairs.items
@@ -168,7 +168,7 @@ way_goes_on {workers = workers} {pairs = pairs} {tasks = tasks} {way = way} {nex
 
 -- the shelf has one more table
 pub tables_go_on : {workers first : ℕ} {pairs : List Pair} {tasks : List Task}
-    {before middle after : Option (List (List ℕ))} {way next : Way} {made : Turn} {full : Full}
+    {before middle after : Option (List (List ℕ))} {way next : RoundState} {made : Turn} {full : Full}
     (table : List ℕ) {ended : Option Full}
     → GoesOnAfter way made full next
     → HasTables workers first pairs tasks before middle way.fulls.items way.pairs.items

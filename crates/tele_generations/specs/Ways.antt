@@ -13,7 +13,7 @@ use Rattle.tele_generations.specs.Turns.{IsUnderWay, plain_answer}
 use Rattle.tele_generations.specs.Suffixes.{LeavesSuffixes}
 use Rattle.plain_map.specs.Rising.{IsRising}
 use Rattle.tele_generations.specs.declared.rests.Turn.{Turn}
-use Rattle.tele_generations.specs.declared.ways.Way.{Way}
+use Rattle.tele_generations.specs.declared.ways.RoundState.{RoundState}
 use Rattle.tele_generations.specs.Sizes.{least_words, next_words}
 use Rattle.tele_generations.specs.Generations.{MayAsk, IsLarger, IsGenerations}
 use Rattle.tele_generations.specs.Shelves.{IsShelved}
@@ -75,7 +75,7 @@ pub record IsOnItsWay (workers : ℕ) (pairs : List Pair) (tasks : List Task) (f
   pub asked : All (λ full. MayAsk (length pairs + length tasks) full.asked) fulls
 
 -- the way goes on after a table that ran full: with a turn at rest and a next table
-pub record GoesOnAfter (way : Way) (turn : Turn) (full : Full) (next : Way) : Type 0 where
+pub record GoesOnAfter (way : RoundState) (turn : Turn) (full : Full) (next : RoundState) : Type 0 where
   pub more : List Answer
   pub rested : Rests turn.answers.items turn.left.items turn.pairs.items more next.left.items
       next.pairs.items

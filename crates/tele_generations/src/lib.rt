@@ -25,4 +25,4 @@ pub use rounds::{Fulls, Round, finish};
 pub use shelves::{NoShelf, Shelf};
 pub use sizes::{first_words, next_words};
 pub use tables::Generation;
-pub use ways::{Way, begin, go_on};
+pub use ways::{RoundState, begin, go_on};

@@ -2,7 +2,7 @@
 ghost use Rattle.std.specs.Prelude.{◌≡◌, ◌++◌, IfOk};
 ghost use Rattle.std.specs.List.Sorted.{IsPermutation, IsNonDecreasingBy};
 
-use crate::ways::Way;
+use crate::ways::RoundState;
 use ist_core::Full;
 use ist_rest::Closed;
 use std::alloc::AllocError;
@@ -52,14 +52,14 @@ pub struct Round {
 }
 
 /// Ends the round with a table that answered all that was left. Fails only if memory runs out.
-pub fn finish(way: Way, answers: &[Answer], closed: Closed) -> Result<Round, AllocError>
+pub fn finish(way: RoundState, answers: &[Answer], closed: Closed) -> Result<Round, AllocError>
     ensures answers_same { IfOk result (λ r.
         IsPermutation (way.answers.items ++ answers.now) r.answers.list) }
     ensures answers_rise { IfOk result (λ r. IsNonDecreasingBy (λ a. a.line) r.answers.list) }
     ensures closed { IfOk result (λ r. r.closed ≡ closed) }
     ensures fulls { IfOk result (λ r. r.fulls ≡ way.fulls.items) }
 {
-    let Way {
+    let RoundState {
         answers: mut all,
         fulls,
         ..

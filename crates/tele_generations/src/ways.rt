@@ -12,7 +12,7 @@ use tele_lanes::{Answer, Task};
 
 /// The state of a round between two tables.
 #[derive(Drop)]
-pub struct Way {
+pub struct RoundState {
     /// What was answered so far, table by table.
     pub answers: Vec<Answer>,
     /// What is left, by increasing line.
@@ -32,7 +32,7 @@ pub fn begin(
     tasks: &[Task],
     workers: u32,
     most: u32,
-) -> Result<Way, AllocError>
+) -> Result<RoundState, AllocError>
     requires few { length pairs.now + length tasks.now ≤ 2 ^ 24 }
     requires at_most { workers ≤ 64 }
     requires within { most ≤ 2 ^ 28 }
@@ -45,7 +45,7 @@ pub fn begin(
     ensures fits { IfOk result (λ w. w.words ≤ 2 ^ 28) }
     ensures holds { IfOk result (λ w. least_words (length pairs.now) ≤ w.words) }
 {
-    Ok(Way {
+    Ok(RoundState {
         answers: Vec::new(alloc),
         left: Vec::from_slice(alloc, tasks)?,
         pairs: Vec::from_slice(alloc, pairs)?,
@@ -56,14 +56,14 @@ pub fn begin(
 
 /// Goes on after a table that ran full with these numbers, with what it answered and left. If it
 /// answered nothing, one thread answers the first task that it left. Fails only if memory runs out.
-pub fn go_on(way: Way, turn: Turn, full: Full) -> Result<Way, AllocError>
+pub fn go_on(way: RoundState, turn: Turn, full: Full) -> Result<RoundState, AllocError>
     requires some_left { 0 < length turn.left.items }
     requires rising { IsRising turn.pairs.items }
     requires few { length turn.pairs.items + length turn.left.items ≤ 2 ^ 24 }
     requires within { way.words ≤ 2 ^ 28 }
     ensures on { IfOk result (λ w. GoesOnAfter way turn full w) }
 {
-    let Way {
+    let RoundState {
         mut answers,
         mut fulls,
         words,
@@ -73,7 +73,7 @@ pub fn go_on(way: Way, turn: Turn, full: Full) -> Result<Way, AllocError>
     answers.extend_from_slice(&turn.answers)?;
     fulls.push(full)?;
     let words = next_words(words, turn.pairs.len() as u64);
-    Ok(Way {
+    Ok(RoundState {
         answers,
         left: turn.left,
         pairs: turn.pairs,

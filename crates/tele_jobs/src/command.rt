@@ -4,7 +4,7 @@ ghost use Rattle.clap.specs.Words.{app_of, first_value, found_of, rule_of, rows_
 ghost use Rattle.tele_jobs.specs.CommandLine.{sized, tele, number_option, number_said, options_at};
 ghost use Rattle.tele_jobs.specs.Numbers.{IsNumber, AreNumbers};
 
-use crate::options::{Options, Refusal};
+use crate::options::{Options, OptionsRefusal};
 use clap::builder::ValueParser;
 use clap::error::ErrorKind;
 use clap::{Arg, ArgAction, ArgMatches, Command, Error};
@@ -42,23 +42,23 @@ fn command<'a>(alloc: Global) -> Result<Command<'a>, AllocError>
 }
 
 /// Returns what the command makes of the arguments.
-fn matches_of<'a, S: AsStr>(alloc: Global, words: &'a [S]) -> Result<ArgMatches<'a>, Refusal>
+fn matches_of<'a, S: AsStr>(alloc: Global, words: &'a [S]) -> Result<ArgMatches<'a>, OptionsRefusal>
     ensures rows { IfOk result (λ m.
         rows_of (found_of m) ≡ matches_of tele (map S.text words.entry.now)) }
     ensures numbers { IfOk result (λ m. AreNumbers (found_of m)) }
     ensures taken { IsOk result → fault_of tele (map S.text words.entry.now) ≡ [] }
-    ensures usage { result ≡ Err Refusal.Usage →
+    ensures usage { result ≡ Err OptionsRefusal.Usage →
         ¬ (fault_of tele (map S.text words.entry.now) ≡ []) }
 {
     let command = match command(alloc) {
         Ok(command) => command,
-        Err(AllocError) => return Err(Refusal::Memory),
+        Err(AllocError) => return Err(OptionsRefusal::Memory),
     };
     match command.try_get_matches_from(words) {
         Ok(matches) => Ok(matches),
         Err(error) => match error.kind() {
-            ErrorKind::OutOfMemory => Err(Refusal::Memory),
-            _ => Err(Refusal::Usage),
+            ErrorKind::OutOfMemory => Err(OptionsRefusal::Memory),
+            _ => Err(OptionsRefusal::Usage),
         },
     }
 }
@@ -93,11 +93,11 @@ fn options_at(matches: &ArgMatches) -> Options
 }
 
 /// Reads the arguments, of which the first is the program's name.
-pub(crate) fn read<S: AsStr>(alloc: Global, words: &[S]) -> Result<Options, Refusal>
+pub(crate) fn read<S: AsStr>(alloc: Global, words: &[S]) -> Result<Options, OptionsRefusal>
     ensures values { IfOk result (λ options.
         options ≡ options_at (matches_of tele (map S.text words.now))) }
     ensures taken { IsOk result → fault_of tele (map S.text words.now) ≡ [] }
-    ensures usage { result ≡ Err Refusal.Usage →
+    ensures usage { result ≡ Err OptionsRefusal.Usage →
         ¬ (fault_of tele (map S.text words.now) ≡ []) }
 
     ensures workers { IfOk result (λ options.

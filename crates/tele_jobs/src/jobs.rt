@@ -3,7 +3,7 @@ ghost use Rattle.std.specs.Prelude.{◌≡◌, ℕ, ◌≤◌, ◌^◌, map, str
 ghost use Rattle.tele_jobs.specs.CommandLine.{options_in};
 ghost use Rattle.tele_jobs.specs.Jobs.{job_of};
 
-use crate::options::{Options, Refusal, read_options};
+use crate::options::{Options, OptionsRefusal, read_options};
 use std::alloc::{AllocError, Global};
 
 /// The most lines of a run.
@@ -58,13 +58,13 @@ pub fn read_plan(alloc: Global, words: &[String]) -> Result<Plan, AllocError>
             )),
             None => Ok(plan_for(Job::Read, options)),
         },
-        Err(Refusal::Usage) => Ok(Plan {
+        Err(OptionsRefusal::Usage) => Ok(Plan {
             job: Job::Refuse,
             workers: 1,
             words: 64,
             steal: false,
         }),
-        Err(Refusal::Memory) => Err(AllocError),
+        Err(OptionsRefusal::Memory) => Err(AllocError),
     }
 }
 

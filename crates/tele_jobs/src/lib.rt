@@ -17,8 +17,8 @@ mod replies;
 mod summaries;
 
 pub use jobs::{Job, LINE_LIMIT, Plan, read_plan};
-pub use makers::Maker;
-pub use options::{Options, Refusal, read_options};
+pub use makers::CommandMaker;
+pub use options::{Options, OptionsRefusal, read_options};
 pub use outcomes::{
     ANSWERED, BAD_LINE, NO_MEMORY, Outcome, READ_FAILED, USAGE, WRITE_FAILED, refused,
     without_table,

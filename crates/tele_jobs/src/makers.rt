@@ -14,11 +14,11 @@ const STEP: u64 = 1_442_695_040_888_963_407;
 /// Makes commands from a number. Contracts see the number from which the last command was made; at
 /// first this is the seed.
 #[derive(Debug, Drop)]
-pub struct Maker {
+pub struct CommandMaker {
     number: u64,
 }
 
-impl Model for Maker {
+impl Model for CommandMaker {
     ghost use Rattle.std.specs.Prelude.{ℕ};
 
     ghost Value = { ℕ };
@@ -26,12 +26,12 @@ impl Model for Maker {
     ghost view = { λ m. m.number };
 }
 
-impl Maker {
+impl CommandMaker {
     /// Makes a maker that has made nothing.
-    pub fn new(seed: u64) -> Maker
+    pub fn new(seed: u64) -> CommandMaker
         ensures value { result ≡ seed }
     {
-        Maker { number: seed }
+        CommandMaker { number: seed }
     }
 
     /// Returns the next command.

@@ -23,7 +23,7 @@ pub struct Options {
 
 /// Why arguments give no options.
 #[derive(Clone, Copy, Debug, PartialEq, Eq, Drop)]
-pub enum Refusal {
+pub enum OptionsRefusal {
     /// They aren't valid arguments of the command.
     Usage,
     /// Memory ran out.
@@ -35,11 +35,11 @@ pub enum Refusal {
 ///
 /// `Usage` is returned only if `clap` rejects the arguments for a cause other than lack of memory;
 /// a request for help or for the version is such a rejection.
-pub fn read_options(alloc: Global, words: &[String]) -> Result<Options, Refusal>
+pub fn read_options(alloc: Global, words: &[String]) -> Result<Options, OptionsRefusal>
     ensures values { IfOk result (λ options.
         options ≡ options_in (map string_bytes words.now)) }
     ensures taken { IsOk result → are_refused (map string_bytes words.now) ≡ false }
-    ensures usage { result ≡ Err Refusal.Usage →
+    ensures usage { result ≡ Err OptionsRefusal.Usage →
         are_refused (map string_bytes words.now) ≡ true }
 
     ensures workers { IfOk result (λ options.

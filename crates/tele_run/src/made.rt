@@ -11,7 +11,7 @@ ghost use Rattle.tele_jobs.specs.Rounds.{RanRounds, made_rounds};
 ghost use Rattle.tele_jobs.specs.Endings.{HasNoTable};
 ghost use Rattle.tele_jobs.specs.Open.{FollowsRounds, RunsOn, fresh_round, map_in, round_for};
 
-use crate::rounds::{Round, close, ended};
+use crate::rounds::{PendingRound, close, ended};
 use ist_rest::Closed;
 use std::alloc::{AllocError, Global};
 use std::sync::Wait;
@@ -29,7 +29,7 @@ pub(crate) fn make_all<R: Threads + Wait + Sync, G: Gate + Sync, H: Shelf<Closed
     tables: &mut TreeTables<'_, R, G>,
     shelf: &mut H,
     alloc: Global,
-    round: Round,
+    round: PendingRound,
     count: u64,
     seed: u64,
     out: &mut O,
@@ -68,7 +68,7 @@ pub(crate) fn make_all<R: Threads + Wait + Sync, G: Gate + Sync, H: Shelf<Closed
 fn summarize<R: Threads + Wait + Sync, G: Gate + Sync, H: Shelf<Closed>>(
     tables: &mut TreeTables<'_, R, G>,
     shelf: &mut H,
-    round: &mut Round,
+    round: &mut PendingRound,
     count: u64,
     seed: u64,
 ) -> Result<Summary, AllocError>
@@ -102,7 +102,7 @@ fn summarize<R: Threads + Wait + Sync, G: Gate + Sync, H: Shelf<Closed>>(
 fn answer_made<R: Threads + Wait + Sync, G: Gate + Sync, H: Shelf<Closed>>(
     tables: &mut TreeTables<'_, R, G>,
     shelf: &mut H,
-    round: &mut Round,
+    round: &mut PendingRound,
 ) -> Result<u64, AllocError>
     requires rising { IsStrictlyIncreasing (task_lines round.old.tasks) }
     requires few { length round.old.pairs + length round.old.tasks ≤ 2 ^ 24 }

@@ -27,7 +27,7 @@ pub(crate) const ROUND_LIMIT: usize = 16_384;
 /// The point lines to answer next, the answers to the lines before them, and the last table with
 /// its pairs.
 #[derive(Drop)]
-pub(crate) struct Round {
+pub(crate) struct PendingRound {
     alloc: Global,
     plain: Plain,
     tasks: Vec<Task>,
@@ -39,7 +39,7 @@ pub(crate) struct Round {
     steal: bool,
 }
 
-impl Model for Round {
+impl Model for PendingRound {
     ghost use Rattle.std.specs.Prelude.{◌≤◌, ◌^◌};
     ghost use Rattle.tele_jobs.specs.Rounds.{team_of};
     ghost use Rattle.tele_jobs.specs.Open.{Open};
@@ -60,16 +60,16 @@ impl Model for Round {
         × ((64 ≤ r.words) × (r.words ≤ 2 ^ 28)) };
 }
 
-impl Round {
+impl PendingRound {
     /// Makes a round without lines, over the map with no key.
-    pub(crate) fn new(alloc: Global, workers: u32, steal: bool, words: u32) -> Round
+    pub(crate) fn new(alloc: Global, workers: u32, steal: bool, words: u32) -> PendingRound
         requires some { 1 ≤ workers }
         requires at_most { workers ≤ 64 }
         requires least { 64 ≤ words }
         requires most { words ≤ 2 ^ 28 }
         ensures value { result ≡ fresh_round (team_of workers steal) words }
     {
-        Round {
+        PendingRound {
             alloc,
             plain: Plain::new(alloc),
             tasks: Vec::new(alloc),
@@ -140,7 +140,7 @@ impl Round {
 pub(crate) fn close<R: Threads + Wait + Sync, G: Gate + Sync, H: Shelf<Closed>>(
     tables: &mut TreeTables<'_, R, G>,
     shelf: &mut H,
-    round: &mut Round,
+    round: &mut PendingRound,
 ) -> Result<(), AllocError>
     requires rising { IsStrictlyIncreasing (task_lines round.old.tasks) }
     requires few { length round.old.pairs + length round.old.tasks ≤ 2 ^ 24 }
@@ -162,7 +162,7 @@ pub(crate) fn close<R: Threads + Wait + Sync, G: Gate + Sync, H: Shelf<Closed>>(
 fn close_some<R: Threads + Wait + Sync, G: Gate + Sync, H: Shelf<Closed>>(
     tables: &mut TreeTables<'_, R, G>,
     shelf: &mut H,
-    round: &mut Round,
+    round: &mut PendingRound,
 ) -> Result<(), AllocError>
     requires some { 0 < length round.old.tasks }
     requires rising { IsStrictlyIncreasing (task_lines round.old.tasks) }
@@ -204,7 +204,7 @@ fn shelve<H: Shelf<Closed>>(shelf: &mut H, last: Option<Closed>)
 }
 
 /// Returns the outcome of a run that ended with this round.
-pub(crate) fn ended(status: u8, round: Round) -> Outcome
+pub(crate) fn ended(status: u8, round: PendingRound) -> Outcome
     ensures status { result.status ≡ status }
     ensures last { IsAnswer status → result.last ≡ round.last }
     ensures fulls { IsAnswer status → result.fulls ≡ round.fulls }

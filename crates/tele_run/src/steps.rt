@@ -12,7 +12,7 @@ ghost use Rattle.tele_jobs.specs.Open.{IsOpenBefore, RunsOn, asked, map_in, roun
 ghost use Rattle.tele_jobs.specs.Due.{Takes, TakesRounds};
 ghost use Rattle.tele_jobs.specs.Steps.{StepsOn, EndsRun, run_standing};
 
-use crate::rounds::{Round, close};
+use crate::rounds::{PendingRound, close};
 use ist_rest::Closed;
 use std::alloc::AllocError;
 use std::sync::Wait;
@@ -33,7 +33,7 @@ pub(crate) fn step<R: Threads + Wait + Sync, G: Gate + Sync, H: Shelf<Closed>, S
     tables: &mut TreeTables<'_, R, G>,
     shelf: &mut H,
     lines: &mut Lines,
-    round: &mut Round,
+    round: &mut PendingRound,
     source: &mut S,
     out: &mut O,
 ) -> Option<u8>
@@ -98,7 +98,7 @@ pub(crate) fn step<R: Threads + Wait + Sync, G: Gate + Sync, H: Shelf<Closed>, S
 fn take<R: Threads + Wait + Sync, G: Gate + Sync, H: Shelf<Closed>, O: Sink>(
     tables: &mut TreeTables<'_, R, G>,
     shelf: &mut H,
-    round: &mut Round,
+    round: &mut PendingRound,
     version: Version,
     line: Line,
     out: &mut O,
@@ -153,7 +153,7 @@ fn take<R: Threads + Wait + Sync, G: Gate + Sync, H: Shelf<Closed>, O: Sink>(
 fn name<R: Threads + Wait + Sync, G: Gate + Sync, H: Shelf<Closed>, O: Sink>(
     tables: &mut TreeTables<'_, R, G>,
     shelf: &mut H,
-    round: &mut Round,
+    round: &mut PendingRound,
     version: Version,
     line: u64,
     cause: Cause,
@@ -184,7 +184,7 @@ fn name<R: Threads + Wait + Sync, G: Gate + Sync, H: Shelf<Closed>, O: Sink>(
 fn end_round<R: Threads + Wait + Sync, G: Gate + Sync, H: Shelf<Closed>, O: Sink>(
     tables: &mut TreeTables<'_, R, G>,
     shelf: &mut H,
-    round: &mut Round,
+    round: &mut PendingRound,
     version: Version,
     out: &mut O,
 ) -> Result<(), SinkFault>
@@ -217,7 +217,7 @@ fn end_round<R: Threads + Wait + Sync, G: Gate + Sync, H: Shelf<Closed>, O: Sink
 fn answer<R: Threads + Wait + Sync, G: Gate + Sync, H: Shelf<Closed>, O: Sink>(
     tables: &mut TreeTables<'_, R, G>,
     shelf: &mut H,
-    round: &mut Round,
+    round: &mut PendingRound,
     version: Version,
     out: &mut O,
 ) -> Result<(), SinkFault>

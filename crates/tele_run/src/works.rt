@@ -9,7 +9,7 @@ ghost use Rattle.tele_jobs.specs.Endings.{HasNoTable};
 ghost use Rattle.tele_jobs.specs.Open.{fresh_round};
 
 use crate::made::make_all;
-use crate::rounds::{Round, ended};
+use crate::rounds::{PendingRound, ended};
 use crate::steps::step;
 use ist_rest::Closed;
 use std::alloc::Global;
@@ -77,7 +77,7 @@ pub(crate) fn work<R: Threads + Wait + Sync, G: Gate + Sync, H: Shelf<Closed>, S
     ensures source_counted { S.faults source.old ≤ S.faults source.new }
     ensures sink_counted { O.faults out.old ≤ O.faults out.new }
 {
-    let round = Round::new(alloc, plan.workers, plan.steal, plan.words);
+    let round = PendingRound::new(alloc, plan.workers, plan.steal, plan.words);
     match plan.job {
         Job::Refuse => without_table(refuse(out)),
         Job::Make { count, seed } => make_all(tables, shelf, alloc, round, count, seed, out),
@@ -89,7 +89,7 @@ pub(crate) fn work<R: Threads + Wait + Sync, G: Gate + Sync, H: Shelf<Closed>, S
 fn answer_all<R: Threads + Wait + Sync, G: Gate + Sync, H: Shelf<Closed>, S: Source, O: Sink>(
     tables: &mut TreeTables<'_, R, G>,
     shelf: &mut H,
-    round: Round,
+    round: PendingRound,
     source: &mut S,
     out: &mut O,
 ) -> Outcome

@@ -7,7 +7,7 @@ ghost use Rattle.tele_steal.specs.Runs.{IsNewLane, IsRunLane, Ticket, ticket};
 ghost use Rattle.tele_steal.specs.Tallies.{IsOwners, of_owner, of_worker, taken_by};
 
 use crate::passes::{dismiss, draw, hire, put};
-use crate::tallies::{Hand, Owner};
+use crate::tallies::{DequeHand, Owner};
 use crate::workers::run_into;
 use ist_core::Port;
 use std::sync::Wait;
@@ -18,7 +18,7 @@ use tele_lanes::{Gate, Lane};
 pub(crate) fn hire_all<P: Port>(
     owner: &mut Owner<P>,
     bags: &mut Vec<Vec<Lane<P>>>,
-    hands: &mut Vec<Hand<P>>,
+    hands: &mut Vec<DequeHand<P>>,
 )
     requires owner { IsOwners (worker_view owner.old) }
     requires alone { (worker_view owner.old).out ≡ 0 }
@@ -41,7 +41,7 @@ pub(crate) fn hire_all<P: Port>(
 {
     while let Some(bag) = bags.pop() {
         let pass = hire(owner);
-        hands.push_reserved(Hand { pass, bag });
+        hands.push_reserved(DequeHand { pass, bag });
     }
 }
 
@@ -117,7 +117,11 @@ pub(crate) fn run_kept<R: Threads + Wait + Sync, P: Port + Send, G: Gate + Sync>
 }
 
 /// Takes back the pass of a worker, and the lanes that it ran. Returns its empty bag.
-fn take_hand<P: Port>(owner: &mut Owner<P>, hand: Hand<P>, lanes: &mut Vec<Lane<P>>) -> Vec<Lane<P>>
+fn take_hand<P: Port>(
+    owner: &mut Owner<P>,
+    hand: DequeHand<P>,
+    lanes: &mut Vec<Lane<P>>,
+) -> Vec<Lane<P>>
     requires owner { IsOwners (worker_view owner.old) }
     requires table { IsPassOf (worker_deque owner.old) hand.pass }
     requires worker { view hand.pass ≡ of_worker (view hand.pass).taken }
@@ -137,7 +141,7 @@ fn take_hand<P: Port>(owner: &mut Owner<P>, hand: Hand<P>, lanes: &mut Vec<Lane<
     ensures empty { result.items ≡ [] }
     ensures wide { vec_capacity result ≡ vec_capacity hand.bag }
 {
-    let Hand { pass, mut bag } = hand;
+    let DequeHand { pass, mut bag } = hand;
     // At most as much came back as was put in, so there is room for it.
     dismiss(owner, pass);
     match lanes.append(&mut bag) {
@@ -187,7 +191,7 @@ pub(crate) fn get_back<R: Threads + Wait + Sync, P: Port + Send, G: Gate + Sync>
     rt: &R,
     gate: &G,
     owner: &mut Owner<P>,
-    hands: &mut Vec<Hand<P>>,
+    hands: &mut Vec<DequeHand<P>>,
     bags: &mut Vec<Vec<Lane<P>>>,
     lanes: &mut Vec<Lane<P>>,
 )

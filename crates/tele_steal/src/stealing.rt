@@ -6,7 +6,7 @@ ghost use Rattle.tele_steal.specs.Runs.{IsNewLane, IsRunLane, ticket};
 ghost use Rattle.tele_steal.specs.Yards.{IsReadyYard};
 
 use crate::collecting::{get_back, hire_all, put_in, run_kept};
-use crate::tallies::{Hand, Owner, Thief};
+use crate::tallies::{DequeHand, Owner, Thief};
 use crate::workers::work_all;
 use crate::yards::Yard;
 use ist_core::Port;
@@ -83,7 +83,7 @@ fn run_shared<R: Threads + Wait + Sync, P: Port + Send, G: Gate + Sync>(
     owner: &mut Owner<P>,
     thief: &Thief<P>,
     bags: &mut Vec<Vec<Lane<P>>>,
-    hands: &mut Vec<Hand<P>>,
+    hands: &mut Vec<DequeHand<P>>,
     kept: &mut Vec<Lane<P>>,
     lanes: Vec<Lane<P>>,
 ) -> Vec<Lane<P>>

@@ -127,7 +127,7 @@ pub(crate) type Thief<P> = Stealer<Lane<P>, Global, Tally<Lane<P>>, Balance>;
 
 /// What a worker has: its pass of the deque, and the lanes that it ran.
 #[derive(Drop)]
-pub(crate) struct Hand<P: Port> {
+pub(crate) struct DequeHand<P: Port> {
     pub pass: Pass<Lane<P>, Tally<Lane<P>>>,
     pub bag: Vec<Lane<P>>,
 }

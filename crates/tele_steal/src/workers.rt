@@ -8,7 +8,7 @@ ghost use Rattle.tele_steal.specs.Tallies.{Balances, HasTakenLanes, of_worker, t
 ghost use Rattle.tele_steal.specs.declared.tallies.Tally.{Tally};
 ghost use Rattle.tele_lanes.specs.declared.lanes.Lane.{Lane};
 
-use crate::tallies::{Hand, Nothing, Take, Tally, Thief};
+use crate::tallies::{DequeHand, Nothing, Take, Tally, Thief};
 use crossbeam_deque::protocol::Lesson;
 use crossbeam_deque::{Pass, Steal};
 use ist_core::Port;
@@ -92,7 +92,7 @@ pub(crate) fn work<
     P: Port + Send,
     G: Gate + Sync,
     L: Lesson<Lane<P>, Tally<Lane<P>>>,
->(rt: &R, gate: &G, thief: &Thief<P>, hand: &mut Hand<P>)
+>(rt: &R, gate: &G, thief: &Thief<P>, hand: &mut DequeHand<P>)
     requires table { IsPassOf (stealer_deque thief.now) hand.old.pass }
     requires first_in { stealer_flavor thief.now ≡ 0 }
     requires worker { view hand.old.pass ≡ of_worker [] }
@@ -123,7 +123,7 @@ pub(crate) fn work_all<R: Threads + Wait + Sync, P: Port + Send, G: Gate + Sync>
     rt: &R,
     gate: &G,
     thief: &Thief<P>,
-    hands: &mut Vec<Hand<P>>,
+    hands: &mut Vec<DequeHand<P>>,
 )
     requires tables { All (λ h. IsPassOf (stealer_deque thief.now) h.pass) hands.old.items }
     requires first_in { stealer_flavor thief.now ≡ 0 }
@@ -145,7 +145,7 @@ pub(crate) fn work_all<R: Threads + Wait + Sync, P: Port + Send, G: Gate + Sync>
             rt,
             hands,
             count,
-            &|_, hand: &mut Hand<P>|
+            &|_, hand: &mut DequeHand<P>|
                 requires table { IsPassOf (stealer_deque thief.now) hand.now.pass }
                 requires first_in { stealer_flavor thief.now ≡ 0 }
                 requires worker { view hand.now.pass ≡ of_worker [] }

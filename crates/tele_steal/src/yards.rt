@@ -1,7 +1,7 @@
 //! A yard: the deque, a pass and a bag for each worker, and the room that a run of lanes needs.
 ghost use Rattle.std.specs.Prelude.{◌≡◌, ◌≤◌, [], IfOk, All, length, vec_capacity};
 
-use crate::tallies::{Hand, Owner, Thief};
+use crate::tallies::{DequeHand, Owner, Thief};
 use ist_core::Port;
 use std::alloc::{AllocError, Global};
 use std::marker::Model;
@@ -18,7 +18,7 @@ pub struct Yard<P: Port> {
     pub(crate) owner: Owner<P>,
     pub(crate) thief: Thief<P>,
     pub(crate) bags: Vec<Vec<Lane<P>>>,
-    pub(crate) hands: Vec<Hand<P>>,
+    pub(crate) hands: Vec<DequeHand<P>>,
     pub(crate) kept: Vec<Lane<P>>,
     pub(crate) lanes: usize,
 }

@@ -18,7 +18,7 @@ use ist_rest::Closed;
 use std::alloc::{AllocError, Global};
 use std::sync::Wait;
 use std::thread::Threads;
-use tele_generations::{Generation, Round, Shelf, Turn, Way, begin, finish, go_on};
+use tele_generations::{Generation, Round, RoundState, Shelf, Turn, begin, finish, go_on};
 use tele_lanes::{Gate, Task};
 
 /// Runs the tasks over these pairs until all are answered, one generation after another, each on a
@@ -90,7 +90,7 @@ pub fn run_round<R: Threads + Wait + Sync, G: Gate + Sync, H: Shelf<Closed>>(
 // Runs what is left on the next table.
 fn run_next<R: Threads + Wait + Sync, G: Gate + Sync>(
     tables: &mut TreeTables<'_, R, G>,
-    way: &Way,
+    way: &RoundState,
     workers: u32,
     steal: bool,
 ) -> Result<Generation, AllocError>

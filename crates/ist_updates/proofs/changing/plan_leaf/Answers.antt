@@ -2,7 +2,7 @@ use Rattle.std.proofs.Common.{ap, ◌∙◌, inr, rules, arith}
 use Rattle.ist_rows.specs.declared.kinds.Kind.TheVariants as kind
 use Rattle.ist_rows.specs.Rows.{Spares}
 use Rattle.ist_updates.specs.Changing.{Prepares}
-use Rattle.ist_updates.specs.declared.plans.Way.TheVariants as way
+use Rattle.ist_updates.specs.declared.plans.SlotPlan.TheVariants as way
 use Rattle.ist_updates.proofs.ShortLemmas.{way_refused}
 use Rattle.ist_rows.proofs.GoneLemmas.{gone_more}
 use Rattle.ist_updates.proofs.PairLemmas.{taken_good}

@@ -5,7 +5,7 @@ use Rattle.ist_rows.specs.Rows.{Spares}
 use Rattle.ist_rule.proofs.WentOnLemmas.{went_grow}
 use Rattle.ist_dcss.proofs.FieldLemmas.{good_base}
 use Rattle.ist_updates.specs.Changing.{Prepares}
-use Rattle.ist_updates.specs.declared.plans.Way.TheVariants as way
+use Rattle.ist_updates.specs.declared.plans.SlotPlan.TheVariants as way
 use Rattle.ist_updates.proofs.ShortLemmas.{way_refused}
 use Rattle.ist_rows.proofs.GoneLemmas.{gone_more}
 use Rattle.ist_updates.proofs.PairLemmas.{node_on, taken_good}

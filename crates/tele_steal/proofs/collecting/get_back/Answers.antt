@@ -3,7 +3,7 @@ use Rattle.std.proofs.Common.{sym, ap, ◌∙◌, subst, arith, rules, length-ap
 use Rattle.std.proofs.lemmas.List.{length-map}
 use Rattle.crossbeam_deque.specs.Handles.{view, IsPassOf, worker_deque, worker_view}
 use Rattle.tele_lanes.specs.declared.lanes.Lane.{Lane}
-use Rattle.tele_steal.specs.declared.tallies.Hand.{Hand}
+use Rattle.tele_steal.specs.declared.tallies.DequeHand.{DequeHand}
 use Rattle.tele_steal.specs.Runs.{IsRunLane, ticket}
 use Rattle.tele_steal.specs.Tallies.{of_worker, taken_by}
 use Rattle.tele_steal.proofs.RunLemmas.{All-rest, All-last, All-more, length_more, same_length, following}
@@ -13,7 +13,7 @@ use Rattle.tele_steal.proofs.collecting.get_back.Goals as goal
 -- the last hand is a worker's of this deque, and its bag has what it took and ran
 pub take_hand-bag-requires : goal.take_hand-bag-requires
 take_hand-bag-requires g c =
-    let H = Hand g.row.P.Denot g.row.P-Tie.Denot in
+    let H = DequeHand g.row.P.Denot g.row.P-Tie.Denot in
     let t = ticket g.P.Port.tie in
     let old = c.loop-hand.invariant in
     let last : (Fits : H → Type 0) → All Fits c.loop-hand.hands.items → Fits c.in-Some.hand =
@@ -32,7 +32,7 @@ take_hand-bag-requires g c =
 -- one more hand was taken back
 pub loop-hand-preserved : goal.loop-hand-preserved
 loop-hand-preserved g c =
-    let H = Hand g.row.P.Denot g.row.P-Tie.Denot in
+    let H = DequeHand g.row.P.Denot g.row.P-Tie.Denot in
     let L = Lane g.row.P.Denot g.row.P-Tie.Denot in
     let old = c.loop-hand.invariant in
     let now = c.take_hand-bag.ensures in

@@ -2,7 +2,7 @@ use Rattle.std.proofs.Common.{◌≡◌, ◌+◌, ◌≤◌, [], All, vec_capaci
 use Rattle.std.proofs.lemmas.List.Sorted.{IsPermutation-refl}
 use Rattle.crossbeam_deque.specs.Handles.{view, IsPassOf, worker_deque}
 use Rattle.tele_lanes.specs.declared.lanes.Lane.{Lane}
-use Rattle.tele_steal.specs.declared.tallies.Hand.{Hand}
+use Rattle.tele_steal.specs.declared.tallies.DequeHand.{DequeHand}
 use Rattle.tele_steal.specs.Tallies.{of_worker}
 use Rattle.tele_steal.proofs.OwnerLemmas.{is_owners}
 use Rattle.tele_steal.proofs.RunLemmas.{All-rest, All-last, All-more, length_more}
@@ -18,7 +18,7 @@ loop-bag-preserved g c =
     let popped = c.in-Some.ensures.items in
     let longer = length_more _ _ _ pushed in
     let shorter = length_more _ _ _ popped in
-    let more : (Fits : Hand g.row.P.Denot g.row.P-Tie.Denot → Type 0) → All Fits c.loop-bag.hands.items
+    let more : (Fits : DequeHand g.row.P.Denot g.row.P-Tie.Denot → Type 0) → All Fits c.loop-bag.hands.items
     → Fits (record { pass = c.hire-pass.result; bag = c.in-Some.bag })
     → All Fits c.push_reserved.new.self.items = λ Fits all one. All-more Fits _ _ _ pushed all one in
     record {

@@ -1,6 +1,6 @@
 use Rattle.std.proofs.Common.{◌++◌, All, map, length, IsPermutation, sym, ap, ◌∙◌, subst, arith}
 use Rattle.crossbeam_deque.specs.Handles.{IsPassOf, worker_view}
-use Rattle.tele_steal.specs.declared.tallies.Hand.{Hand}
+use Rattle.tele_steal.specs.declared.tallies.DequeHand.{DequeHand}
 use Rattle.tele_steal.specs.Runs.{ticket}
 use Rattle.tele_steal.proofs.OwnerLemmas.{is_owners}
 use Rattle.tele_steal.proofs.OrderLemmas.{all_home, as_many, as_many_ran}
@@ -22,13 +22,13 @@ run_kept-requires-clause-room g c =
 -- the passes are of this deque
 pub work_all-requires-clause-tables : goal.work_all-requires-clause-tables
 work_all-requires-clause-tables g c κs within =
-    subst (λ d. All (λ (h : Hand g.row.P.Denot g.row.P-Tie.Denot). IsPassOf d h.pass)
+    subst (λ d. All (λ (h : DequeHand g.row.P.Denot g.row.P-Tie.Denot). IsPassOf d h.pass)
     c.hire_all.new.hands.items)
     (sym c.requires.ready.same) c.hire_all.ensures.tables
 
 pub get_back-requires-clause-tables : goal.get_back-requires-clause-tables
 get_back-requires-clause-tables g c κs within =
-    subst (λ d. All (λ (h : Hand g.row.P.Denot g.row.P-Tie.Denot). IsPassOf d h.pass)
+    subst (λ d. All (λ (h : DequeHand g.row.P.Denot g.row.P-Tie.Denot). IsPassOf d h.pass)
     c.work_all.new.hands.items)
     (c.requires.ready.same ∙ sym (c.put_in.ensures.same.0 ∙ c.hire_all.ensures.same.0))
     c.work_all.ensures.tables

@@ -1,6 +1,6 @@
 use Rattle.std.proofs.Common.{◌+◌, ◌<◌, ◌≤◌, ◌∙◌, ap, subst, arith}
 use Rattle.ist_core.proofs.PartLemmas.{longer_at, shorter_at, part_len-lt}
-use Rattle.ist_image.proofs.cuts.Cut.len.Goals as goal
+use Rattle.ist_image.proofs.cuts.RowCut.len.Goals as goal
 
 -- the longer parts come first
 pub returns-then-j-self-clause-value : goal.returns-then-j-self-clause-value

@@ -1,6 +1,6 @@
 use Rattle.std.proofs.Common.{◌+◌, arith, refl}
 use Rattle.ist_image.proofs.PlacingSizeLemmas.{next_start, end_within}
-use Rattle.ist_image.proofs.cuts.Cut.next_start.Goals as goal
+use Rattle.ist_image.proofs.cuts.RowCut.next_start.Goals as goal
 
 -- a part ends within the pairs
 pub overflow_add-result : goal.overflow_add-result

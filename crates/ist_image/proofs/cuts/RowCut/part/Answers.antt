@@ -1,5 +1,5 @@
 use Rattle.ist_image.proofs.CutLemmas.{part_cut}
-use Rattle.ist_image.proofs.cuts.Cut.part.Goals as goal
+use Rattle.ist_image.proofs.cuts.RowCut.part.Goals as goal
 
 -- the part begins where the code says, and ends where the next one begins
 pub returns : goal.returns

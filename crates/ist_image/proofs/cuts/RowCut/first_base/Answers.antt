@@ -1,7 +1,7 @@
 use Rattle.std.proofs.Common.{◌∙◌, ◌+◌, ◌^◌, ap, arith}
 use Rattle.ist_core.specs.RowLayout.{inner_words}
 use Rattle.ist_image.proofs.PlacingSizeLemmas.{part_base-first, row_fits}
-use Rattle.ist_image.proofs.cuts.Cut.first_base.Goals as goal
+use Rattle.ist_image.proofs.cuts.RowCut.first_base.Goals as goal
 
 -- the row lies below the limit
 pub inner_words-requires : goal.inner_words-requires
