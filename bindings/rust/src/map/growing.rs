@@ -129,7 +129,7 @@ impl Inner {
         self.reached(if is_last { Step::Stopped } else { Step::Begun });
         let mut pairs = Vec::new();
         left.iter_mut().try_for_each(|one| one.append_pairs(&mut pairs))?;
-        let plan = Plan::after(&run[0].served(), aim, pairs.len(), self.directory().count, &self.sizes);
+        let plan = Plan::after(&run[0].served(self.is_read()), aim, pairs.len(), self.directory().count, &self.sizes);
         let keys = (run[0].first, run[run.len() - 1].last);
         let next = Parts::of(opened(&self.numbers, keys, pairs, Plan { count: plan.count, words: plan.words << attempt })?)?;
         self.reached(Step::Opened);

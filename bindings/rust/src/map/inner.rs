@@ -10,7 +10,7 @@ use super::watch::Watch;
 use crate::Error;
 use crate::shared::Shared;
 use std::sync::atomic::Ordering::{Relaxed, SeqCst};
-use std::sync::atomic::{AtomicU8, AtomicU64, AtomicUsize};
+use std::sync::atomic::{AtomicBool, AtomicU8, AtomicU64, AtomicUsize};
 use std::sync::{Mutex, MutexGuard};
 use std::thread;
 use std::time::Duration;
@@ -52,6 +52,8 @@ pub(super) struct Inner {
     pub(super) numbers: Shared<Numbers>,
     /// From this key on two parts are looked at next, whether they can be merged.
     pub(super) hand: AtomicU64,
+    // Whether most calls are reads, as the slot found that was asked last.
+    is_read: AtomicBool,
     pub(super) first_words: u32,
     pub(super) sizes: Sizes,
     #[cfg(test)]
@@ -105,6 +107,7 @@ impl Inner {
             watch: Watch::new()?,
             numbers,
             hand: AtomicU64::new(0),
+            is_read: AtomicBool::new(true),
             first_words,
             sizes,
             #[cfg(test)]
@@ -172,6 +175,18 @@ impl Inner {
 
     pub(super) fn count_no_keys(&self) {
         self.slots.iter().for_each(|slot| slot.set_added(0));
+    }
+
+    /// Whether most calls are reads. Only the sizes of parts depend on it.
+    pub(super) fn is_read(&self) -> bool {
+        self.is_read.load(Relaxed)
+    }
+
+    pub(super) fn set_read(&self, is_read: bool) {
+        // it is seldom another, and then no other call's line of memory is written
+        if self.is_read() != is_read {
+            self.is_read.store(is_read, Relaxed);
+        }
     }
 
     // ---- the directory

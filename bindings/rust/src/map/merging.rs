@@ -26,13 +26,23 @@ fn keys_of(part: &Part, most: usize) -> Option<usize> {
     (keys <= most).then_some(keys)
 }
 
+// Whether the part has at most this many keys. Many aren't counted: it began with as many.
+fn has_few(part: &Part, most: usize) -> bool {
+    if most > 1024 { part.pairs.len() <= most } else { keys_of(part, most).is_some() }
+}
+
 impl Inner {
+    // How many keys a part has at most that is merged.
+    fn few(&self) -> usize {
+        if self.is_read() { self.sizes.few_read_keys } else { self.sizes.few_keys }
+    }
+
     /// Merges parts after a growth: what grew with a neighbour of it, or two others. So an update does some work of merging for each
     /// growth that it does.
     pub(super) fn merge_after(&self, run: &[Shared<Part>], next: &Parts) {
         let [old] = run else { return };
         if let [part] = next.all() {
-            if part.pairs.len() <= self.sizes.few_keys && old.opened.elapsed() >= self.sizes.short_life {
+            if part.pairs.len() <= self.few() && old.opened.elapsed() >= self.sizes.short_life {
                 self.merge_with_neighbour(part);
             }
         }
@@ -40,7 +50,7 @@ impl Inner {
         let mut two = directory.parts(self.hand.load(Relaxed), u64::MAX);
         if let (Some(one), Some(other)) = (two.next(), two.next()) {
             self.hand.store(other.first, Relaxed);
-            self.merge([one.clone(), other.clone()], self.sizes.long_life);
+            self.merge([one.clone(), other.clone()], self.sizes.few_keys, self.sizes.long_life);
         } else {
             self.hand.store(0, Relaxed);
         }
@@ -50,16 +60,16 @@ impl Inner {
         let directory = self.directory();
         let before = part.first.checked_sub(1).map(|key| directory.part(key).clone());
         let after = part.last.checked_add(1).map(|key| directory.part(key).clone());
-        let is_merged = before.is_some_and(|before| self.merge([before, part.clone()], self.sizes.short_life));
+        let is_merged = before.is_some_and(|before| self.merge([before, part.clone()], self.few(), self.sizes.short_life));
         if let Some(after) = after.filter(|_| !is_merged) {
-            self.merge([part.clone(), after], self.sizes.short_life);
+            self.merge([part.clone(), after], self.few(), self.sizes.short_life);
         }
     }
 
-    // Merges two neighbours that have few keys and of which one at least is this old. Returns whether it did.
-    fn merge(&self, run: [Shared<Part>; 2], age: Duration) -> bool {
+    // Merges two neighbours that have few keys each and of which one at least is this old. Returns whether it did.
+    fn merge(&self, run: [Shared<Part>; 2], few: usize, age: Duration) -> bool {
         run.iter().any(|part| part.opened.elapsed() >= age)
-            && run.iter().all(|part| keys_of(part, self.sizes.few_keys).is_some())
+            && run.iter().all(|part| has_few(part, few))
             && claim(&run)
             && self.grow(&run, Aim::Fit).is_ok()
     }
@@ -82,10 +92,11 @@ impl Inner {
     // The part that has this key and those that follow it, as many as make one part together; and the keys of them.
     fn run_from(&self, first: u64) -> Option<(Vec<Shared<Part>>, usize)> {
         let directory = self.directory();
+        let most = self.sizes.most(self.is_read());
         let (mut run, mut keys) = (Vec::new(), 0);
         for part in directory.parts(first, u64::MAX) {
-            let more = keys_of(part, self.sizes.most_keys).unwrap_or(self.sizes.most_keys);
-            if !run.is_empty() && keys + more > self.sizes.most_keys / 2 {
+            let more = keys_of(part, most).unwrap_or(most);
+            if !run.is_empty() && keys + more > most / 2 {
                 break;
             }
             keys += more;

@@ -172,9 +172,9 @@ impl Part {
         drop(old);
     }
 
-    /// How it has served.
-    pub(super) fn served(&self) -> Served {
-        Served { words: self.words, time: self.opened.elapsed(), is_shared: self.users.load(Relaxed) > 1 }
+    /// How it has served, where most calls are reads or not.
+    pub(super) fn served(&self, is_read: bool) -> Served {
+        Served { words: self.words, time: self.opened.elapsed(), is_shared: self.users.load(Relaxed) > 1, is_read }
     }
 }
 

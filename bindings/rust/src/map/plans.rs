@@ -18,6 +18,8 @@ pub(super) struct Served {
     pub(super) time: Duration,
     /// Several slots have called it.
     pub(super) is_shared: bool,
+    /// Most calls are reads.
+    pub(super) is_read: bool,
 }
 
 /// What follows some parts.
@@ -33,8 +35,9 @@ impl Plan {
     /// What follows a part that has served so and has this many keys, in a map of this many parts.
     pub(super) fn after(old: &Served, aim: Aim, keys: usize, parts: usize, sizes: &Sizes) -> Plan {
         let plan = |count, words: u32| Plan { count, words: words.max(sizes.least_words) };
-        if keys > sizes.most_keys {
-            return plan(keys.div_ceil(sizes.most_keys / 2), 0);
+        let most = sizes.most(old.is_read);
+        if keys > most {
+            return plan(keys.div_ceil(most / 2), 0);
         }
         match aim {
             Aim::Fit => plan(1, 0),

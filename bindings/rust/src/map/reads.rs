@@ -7,7 +7,7 @@ use crate::{Error, Pair};
 impl Inner {
     pub(super) fn find(&self, key: u64) -> Result<Option<u64>, Error> {
         let (_, mut passes) = self.slot();
-        let (directory, seats, _) = passes.parts();
+        let (directory, seats) = passes.parts_to_read();
         let (place, part) = directory.place(key);
         Ok(seats.pass(place, part)?.find(key))
     }
@@ -15,7 +15,7 @@ impl Inner {
     /// The pair with the least key that is at least this one: by one directory from part to part.
     pub(super) fn at_least(&self, key: u64) -> Result<Option<Pair>, Error> {
         let (_, mut passes) = self.slot();
-        let (directory, seats, _) = passes.parts();
+        let (directory, seats) = passes.parts_to_read();
         for part in directory.parts(key, u64::MAX) {
             let found = seats.pass(part.place, part)?.at_least(key);
             if found.is_some() {
@@ -28,7 +28,7 @@ impl Inner {
     /// The pair with the greatest key that is at most this one.
     pub(super) fn at_most(&self, key: u64) -> Result<Option<Pair>, Error> {
         let (_, mut passes) = self.slot();
-        let (directory, seats, _) = passes.parts();
+        let (directory, seats) = passes.parts_to_read();
         let mut next = Some(key);
         while let Some(part) = next.map(|key| directory.part(key)) {
             let found = seats.pass(part.place, part)?.at_most(key);

@@ -3,7 +3,7 @@
 use super::Map;
 use super::plans::{Aim, Plan, Served};
 use super::sizes::{FIRST_WORDS, Sizes, USUAL};
-use std::thread::scope;
+use std::thread::{scope, sleep};
 use std::time::Duration;
 
 // How many words each part has.
@@ -34,12 +34,45 @@ fn what_follows_a_part_is_as_large_as_its_keys_and_updates_ask_for() {
         (1 << 28, 3_000, true, 1 << 20, 1, (1 << 10, least)),
     ];
     for (words, time, is_shared, keys, parts, (count, next)) in cases {
-        let old = Served { words, time: Duration::from_millis(time), is_shared };
+        let old = Served { words, time: Duration::from_millis(time), is_shared, is_read: false };
         let plan = Plan::after(&old, Aim::Room, keys, parts, &USUAL);
         assert_eq!(plan, Plan { count, words: next }, "{words} words, {time} ms, {is_shared}, {keys} keys, {parts} parts");
         let plan = Plan::after(&old, Aim::Fit, keys, parts, &USUAL);
         assert_eq!(plan, Plan { count: if keys > USUAL.most_keys { count } else { 1 }, words: least });
     }
+}
+
+#[test]
+fn a_part_has_more_keys_while_most_calls_are_reads() {
+    // its keys, whether most calls are reads; how many parts follow
+    let cases = [(2_048, false, 1), (2_049, false, 3), (2_049, true, 1), (16_384, true, 1), (16_385, true, 3), (16_384, false, 16)];
+    for (keys, is_read, count) in cases {
+        let old = Served { words: 1 << 18, time: Duration::from_millis(200), is_shared: true, is_read };
+        for aim in [Aim::Room, Aim::Fit] {
+            assert_eq!(Plan::after(&old, aim, keys, 10, &USUAL).count, count, "{keys} keys, {is_read}");
+        }
+    }
+}
+
+#[test]
+fn parts_are_split_when_most_calls_are_updates_and_merged_when_most_are_reads() {
+    const KEYS: u64 = 6_000;
+    let map: Map = (0..KEYS).map(|key| (key, 0)).collect();
+    assert_eq!(words(&map).len(), 1);
+    (0..4 * KEYS).for_each(|number| _ = map.insert(number % KEYS, number));
+    assert!(words(&map).len() >= 3, "{} parts", words(&map).len());
+    for turn in 0..600 {
+        if words(&map).len() <= 2 {
+            return;
+        }
+        for number in turn * 200..(turn + 1) * 200 {
+            map.insert(number * 7 % KEYS, number);
+            (0..10).for_each(|more| assert!(map.get((number + more) % KEYS).is_some()));
+        }
+        // so that parts serve for long enough
+        sleep(Duration::from_millis(5));
+    }
+    panic!("{} parts are left", words(&map).len());
 }
 
 #[test]

@@ -92,8 +92,39 @@ pub(super) struct Passes {
     /// There is one once the slot is used.
     pub(super) directory: Option<Shared<Directory>>,
     pub(super) seats: Seats,
+    pub(super) calls: Calls,
+}
+
+// A slot counts its calls anew when it has made this many updates, and no more reads than this.
+const MOST_UPDATES: u32 = 1 << 12;
+const MOST_READS: u32 = 1 << 16;
+
+/// The last calls of a slot.
+#[derive(Default)]
+pub(super) struct Calls {
     /// How many updates were made since the last look at the words that are left.
     pub(super) unseen: u64,
+    reads: u32,
+    updates: u32,
+}
+
+impl Calls {
+    pub(super) fn count_read(&mut self) {
+        self.reads = MOST_READS.min(self.reads + 1);
+    }
+
+    pub(super) fn count_update(&mut self) {
+        self.unseen += 1;
+        self.updates += 1;
+        if self.updates == MOST_UPDATES {
+            (self.reads, self.updates) = (self.reads / 2, self.updates / 2);
+        }
+    }
+
+    /// Whether at least seven of eight are reads.
+    pub(super) fn are_reads(&self) -> bool {
+        self.reads >= 7 * self.updates
+    }
 }
 
 /// What a slot has of one tree.
@@ -117,9 +148,17 @@ impl Seat<'_> {
 
 impl Passes {
     /// The directory by which the call goes, and the rest of the slot.
-    pub(super) fn parts(&mut self) -> (&Directory, &mut Seats, &mut u64) {
+    pub(super) fn parts(&mut self) -> (&Directory, &mut Seats, &mut Calls) {
         let directory = self.directory.as_ref().expect("a slot that is used has a directory");
-        (directory, &mut self.seats, &mut self.unseen)
+        (directory, &mut self.seats, &mut self.calls)
+    }
+
+    /// The same for a read, which is counted.
+    #[inline]
+    pub(super) fn parts_to_read(&mut self) -> (&Directory, &mut Seats) {
+        let (directory, seats, calls) = self.parts();
+        calls.count_read();
+        (directory, seats)
     }
 }
 

@@ -74,7 +74,7 @@ impl Inner {
         let mode = self.mode();
         self.reached(Step::Asked);
         self.turn(passes);
-        let (directory, seats, unseen) = passes.parts();
+        let (directory, seats, calls) = passes.parts();
         let part = directory.part(update.key);
         let phase = part.phase();
         if matches!(phase, Phase::Stopped | Phase::Replaced) || mode == Mode::Held {
@@ -86,11 +86,15 @@ impl Inner {
             Mode::Watched => self.watch.update(seat.pass, update),
             _ => update.call(seat.pass),
         };
-        let Ok(had) = called else { return Ok(Tried::Full(part.clone())) };
+        calls.count_update();
+        let Ok(had) = called else {
+            self.set_read(calls.are_reads());
+            return Ok(Tried::Full(part.clone()));
+        };
         slot.count(update.added(had));
-        *unseen += 1;
-        let is_low = phase == Phase::Calm && *unseen >= part.look && {
-            *unseen = 0;
+        let is_low = phase == Phase::Calm && calls.unseen >= part.look && {
+            calls.unseen = 0;
+            self.set_read(calls.are_reads());
             seat.pass.used() >= part.begin
         };
         if update.changes(had) {

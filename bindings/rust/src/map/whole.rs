@@ -14,7 +14,7 @@ use std::slice::from_ref;
 impl Inner {
     /// The map of these pairs, whose keys are strictly increasing.
     pub(super) fn with_pairs(pairs: Vec<Pair>) -> Result<Shared<Inner>, Error> {
-        let count = pairs.len().div_ceil(USUAL.most_keys / 2).max(1);
+        let count = pairs.len().div_ceil(USUAL.most_read_keys / 2).max(1);
         let words = if count == 1 { FIRST_WORDS } else { USUAL.least_words };
         let numbers = Numbers::new()?;
         let parts = opened(&numbers, (0, u64::MAX), pairs, Plan { count, words })?;
