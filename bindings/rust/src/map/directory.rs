@@ -8,13 +8,23 @@ use crate::shared::Shared;
 /// How many parts lie together at most.
 const BLOCK: usize = 32;
 
+/// How many parts a directory has at most that lists all their places: the list is made anew with each directory.
+const LISTED: usize = 1024;
+
 /// All parts of the map at one time, in blocks of some, so that another directory shares most blocks with this one. It is never
 /// changed.
 pub(super) struct Directory {
     pub(super) version: u64,
+    // The places of all parts, unless they are many: a read finds its part's in one step.
+    places: Option<Starts<Place>>,
     /// How many parts there are.
     pub(super) count: usize,
     blocks: Starts<Shared<Parts>>,
+}
+
+// How many parts lie in these blocks.
+fn count_in(blocks: &[(u64, Shared<Parts>)]) -> usize {
+    blocks.iter().map(|(_, block)| block.all().len()).sum()
 }
 
 // Blocks of these parts, about equally large.
@@ -30,26 +40,49 @@ fn blocks_of(parts: &[Shared<Part>]) -> Result<Vec<(u64, Shared<Parts>)>, Error>
     Ok(blocks)
 }
 
+// The places of all parts in these blocks, unless they are many.
+fn places_of(blocks: &[(u64, Shared<Parts>)], count: usize) -> Result<Option<Starts<Place>>, Error> {
+    if count > LISTED {
+        return Ok(None);
+    }
+    let mut places = room_for(count)?;
+    blocks.iter().for_each(|(_, block)| places.extend_from_slice(block.places()));
+    Ok(Some(Starts::of(places)))
+}
+
 impl Directory {
     /// A directory of these parts, which have all keys.
     pub(super) fn of(version: u64, parts: &[Shared<Part>]) -> Result<Shared<Directory>, Error> {
-        Shared::new(Directory { version, count: parts.len(), blocks: Starts::of(blocks_of(parts)?) })
+        Directory::of_blocks(version, blocks_of(parts)?)
     }
 
-    /// The part that has this key, with its place.
+    fn of_blocks(version: u64, blocks: Vec<(u64, Shared<Parts>)>) -> Result<Shared<Directory>, Error> {
+        let count = count_in(&blocks);
+        let places = places_of(&blocks, count)?;
+        Shared::new(Directory { version, places, count, blocks: Starts::of(blocks) })
+    }
+
+    fn block(&self, key: u64) -> &Parts {
+        &self.blocks.all()[self.blocks.at(key)].1
+    }
+
+    /// The place of the part that has this key.
     #[inline]
-    pub(super) fn place(&self, key: u64) -> (Place, &Shared<Part>) {
-        self.blocks.all()[self.blocks.at(key)].1.place(key)
+    pub(super) fn place(&self, key: u64) -> Place {
+        match &self.places {
+            Some(places) => places.all()[places.at(key)].1,
+            None => self.block(key).place(key),
+        }
     }
 
     /// The part that has this key.
     pub(super) fn part(&self, key: u64) -> &Shared<Part> {
-        self.place(key).1
+        self.block(key).part(key)
     }
 
     /// Whether the part is one of it.
     pub(super) fn has(&self, part: &Part) -> bool {
-        self.place(part.first).0.tree == part.place.tree
+        self.place(part.first).tree == part.place.tree
     }
 
     /// The parts that have keys from the first to the last one.
@@ -66,7 +99,6 @@ impl Directory {
     pub(super) fn with(&self, next: &Parts, run: &[Shared<Part>]) -> Result<Shared<Directory>, Error> {
         let all = self.blocks.all();
         let (from, mut to) = (self.blocks.at(run[0].first), self.blocks.at(run[run.len() - 1].first) + 1);
-        let count_in = |blocks: &[(u64, Shared<Parts>)]| blocks.iter().map(|(_, block)| block.all().len()).sum::<usize>();
         // a small block is joined with the next one
         if count_in(&all[from..to]) < BLOCK / 4 && to < all.len() {
             to += 1;
@@ -83,7 +115,6 @@ impl Directory {
         blocks.extend_from_slice(&all[..from]);
         blocks.extend(joined);
         blocks.extend_from_slice(&all[to..]);
-        let count = self.count + next.all().len() - run.len();
-        Shared::new(Directory { version: self.version + 1, count, blocks: Starts::of(blocks) })
+        Directory::of_blocks(self.version + 1, blocks)
     }
 }

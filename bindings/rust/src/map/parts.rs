@@ -216,7 +216,7 @@ pub(super) fn room_for<T>(elements: usize) -> Result<Vec<T>, Error> {
 
 /// Parts side by side, at least one.
 pub(super) struct Parts {
-    // The places of the parts: a read that has a seat doesn't touch its part.
+    // A read that has a seat doesn't touch its part.
     places: Starts<Place>,
     all: Vec<Shared<Part>>,
 }
@@ -238,11 +238,19 @@ impl Parts {
         self.places.at(key)
     }
 
-    /// The place of the part that has this key, and the part.
-    #[inline]
-    pub(super) fn place(&self, key: u64) -> (Place, &Shared<Part>) {
-        let at = self.at(key);
-        (self.places.all()[at].1, &self.all[at])
+    /// The place of the part that has this key.
+    pub(super) fn place(&self, key: u64) -> Place {
+        self.places.all()[self.at(key)].1
+    }
+
+    /// The part that has this key.
+    pub(super) fn part(&self, key: u64) -> &Shared<Part> {
+        &self.all[self.at(key)]
+    }
+
+    /// The places of all, with their first keys.
+    pub(super) fn places(&self) -> &[(u64, Place)] {
+        self.places.all()
     }
 }
 

@@ -8,8 +8,11 @@ impl Inner {
     pub(super) fn find(&self, key: u64) -> Result<Option<u64>, Error> {
         let (_, mut passes) = self.slot();
         let (directory, seats) = passes.parts_to_read();
-        let (place, part) = directory.place(key);
-        Ok(seats.pass(place, part)?.find(key))
+        let place = directory.place(key);
+        if let Some(pass) = seats.pass_at(place) {
+            return Ok(pass.find(key));
+        }
+        Ok(seats.pass(directory.part(key))?.find(key))
     }
 
     /// The pair with the least key that is at least this one: by one directory from part to part.
@@ -17,7 +20,7 @@ impl Inner {
         let (_, mut passes) = self.slot();
         let (directory, seats) = passes.parts_to_read();
         for part in directory.parts(key, u64::MAX) {
-            let found = seats.pass(part.place, part)?.at_least(key);
+            let found = seats.pass(part)?.at_least(key);
             if found.is_some() {
                 return Ok(found);
             }
@@ -31,7 +34,7 @@ impl Inner {
         let (directory, seats) = passes.parts_to_read();
         let mut next = Some(key);
         while let Some(part) = next.map(|key| directory.part(key)) {
-            let found = seats.pass(part.place, part)?.at_most(key);
+            let found = seats.pass(part)?.at_most(key);
             if found.is_some() {
                 return Ok(found);
             }

@@ -180,9 +180,9 @@ pub(super) struct Seats {
 }
 
 impl Seats {
-    // The pass that the slot has at this place. What another part with its number left isn't one.
+    /// The pass that the slot has at this place, if it has one. What another part with its number left isn't one.
     #[inline]
-    fn pass_at(&mut self, place: Place) -> Option<&mut PassHandle> {
+    pub(super) fn pass_at(&mut self, place: Place) -> Option<&mut PassHandle> {
         let pass = self.rows.get_mut(place.number / ROW)?.passes[place.number % ROW].as_mut();
         pass.filter(|pass| pass.tree() == place.tree)
     }
@@ -195,13 +195,9 @@ impl Seats {
         Some(Seat { pass, changed: &mut row.changed[number % ROW] })
     }
 
-    /// The pass of the seat at this part's tree, which has this place.
-    #[inline]
-    pub(super) fn pass(&mut self, place: Place, part: &Part) -> Result<&mut PassHandle, Error> {
-        if self.pass_at(place).is_none() {
-            self.sit(part)?;
-        }
-        Ok(self.pass_at(place).expect("the slot has a seat"))
+    /// The pass of the seat at this part's tree.
+    pub(super) fn pass(&mut self, part: &Part) -> Result<&mut PassHandle, Error> {
+        self.seat(part).map(|seat| seat.pass)
     }
 
     /// The seat at this part's tree.
