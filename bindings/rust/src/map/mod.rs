@@ -128,8 +128,8 @@ fn unreadable<T>(error: Error) -> T {
 /// ([`range`](Map::range), [`first`](Map::first), [`len`](Map::len)) aren't: others may change the map between two keys. A
 /// [`snapshot`](Map::snapshot) is.
 ///
-/// The map has parts of up to two thousand keys, each a tree of its own. An update that finds few words of its part left makes the trees that
-/// follow while others go on. Parts that are changed much are split, and small ones that aren't are merged.
+/// The map has parts of up to two thousand keys, or sixteen thousand while seven of eight calls are reads, each a tree of its own. An update that
+/// finds few words of its part left makes the trees that follow while others go on. Parts that are changed much are split, and small ones that aren't are merged.
 ///
 /// # What waits for what
 ///
@@ -143,7 +143,7 @@ fn unreadable<T>(error: Error) -> T {
 /// | | for a growth of their part, if its words run out first, or if it was tried four times and lost | the rest of the growth |
 /// | | for the beginning of a snapshot or a `clear` | while the slots are locked once, and for a `clear` a directory is made |
 /// | | while a snapshot is taken, for an update of a key with the same last 6 bits | one update |
-/// | an update that finds few words left | does the growth, and perhaps one or two merges | finds the keys that were changed and opens a part of up to two thousand keys |
+/// | an update that finds few words left | does the growth, and perhaps one or two merges | finds the keys that were changed and opens a part of up to two thousand keys (or sixteen thousand, see above) |
 /// | | if the map was made [with many words](Map::with_words), does its first growth | the same, of all its keys |
 /// | | in each of a growth's four steps, for each call that has a slot | one call each |
 /// | [`snapshot`](Map::snapshot) | for other snapshots, for a `clear`, and twice for each call that has a slot | their time, and one call each |
