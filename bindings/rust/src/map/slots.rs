@@ -95,7 +95,7 @@ pub(super) struct Passes {
     pub(super) calls: Calls,
 }
 
-// A slot counts its calls anew when it has made this many updates, and no more reads than this.
+// A slot halves its counts at this many updates, and counts no more reads than this.
 const MOST_UPDATES: u32 = 1 << 12;
 const MOST_READS: u32 = 1 << 16;
 
