@@ -75,7 +75,7 @@ example_open =
 -- a table of 51 words opens with the two pairs
 pub example_opens : CanOpen two_pairs 51
 unfolding ideal_words ideal_words_within degree square_root root_up_to part_len part_lens
-example_opens = record { two_rise = λ k h. two_rise k h; room = omega arith; within = omega arith }
+example_opens = record { rising = λ k h. two_rise k h; room = omega arith; within = omega arith }
 
 -- a table of these pairs opens with these words
 pub opens_at : (pairs : List Pair) (words : List ℕ) → pairs ≡ two_pairs → words ≡ example_image

@@ -8,24 +8,33 @@ use std::alloc::{AllocError, Global};
 use std::process::Abort;
 use std::test::Fail;
 
+// Fails unless these are the guess and the child for the key in even keys.
+fn is_even(rt: &impl Abort, key: u64, near: u64, child: usize) {
+    same(rt, &guess(100, 400, 4, key), &near, key);
+    same(rt, &child_of(&[100, 200, 300, 400], key), &child, key);
+}
+
 #[test]
 fn a_guess_in_even_keys_is_the_child(rt: HostRuntime) {
-    let keys = [100, 200, 300, 400];
     // the key, the guess, the child
-    for (key, near, child) in [(99, 0, 0), (250, 2, 2), (400, 4, 4)] {
-        same(&rt, &guess(100, 400, 4, key), &near, key);
-        same(&rt, &child_of(&keys, key), &child, key);
-    }
+    is_even(&rt, 99, 0, 0);
+    is_even(&rt, 250, 2, 2);
+    is_even(&rt, 400, 4, 4);
+}
+
+// Fails unless these are the guess and the child for the key in uneven keys.
+fn is_uneven(rt: &impl Abort, key: u64, near: u64, child: usize) {
+    same(rt, &guess(1, 1000000, 4, key), &near, key);
+    same(rt, &child_of(&[1, 2, 3, 1000000], key), &child, key);
 }
 
 #[test]
 fn a_guess_among_uneven_keys_is_corrected(rt: HostRuntime) {
-    let keys = [1, 2, 3, 1000000];
     // the key, the guess, the child
-    for (key, near, child) in [(999999, 3, 3), (3, 1, 3), (0, 0, 0), (1, 1, 1)] {
-        same(&rt, &guess(1, 1000000, 4, key), &near, key);
-        same(&rt, &child_of(&keys, key), &child, key);
-    }
+    is_uneven(&rt, 999999, 3, 3);
+    is_uneven(&rt, 3, 1, 3);
+    is_uneven(&rt, 0, 0, 0);
+    is_uneven(&rt, 1, 1, 1);
 }
 
 // Fails unless this is the guess for the key among so many over the whole range.
@@ -35,14 +44,19 @@ fn is_guessed(rt: &impl Abort, count: u64, key: u64, near: u64)
     same(rt, &guess(0, u64::MAX, count, key), &near, (key, count));
 }
 
+// Fails unless these are the guess and the child for the key between the least and the greatest.
+fn is_extreme(rt: &impl Abort, key: u64, near: u64, child: usize) {
+    is_guessed(rt, 2, key, near);
+    same(rt, &child_of(&[0, u64::MAX], key), &child, key);
+}
+
 #[test]
 fn extreme_keys_have_children(rt: HostRuntime) {
-    let whole = [0, u64::MAX];
     // the key, the guess, the child
-    for (key, near, child) in [(0, 1, 1), (1, 1, 1), (u64::MAX - 1, 1, 1), (u64::MAX, 2, 2)] {
-        is_guessed(&rt, 2, key, near);
-        same(&rt, &child_of(&whole, key), &child, key);
-    }
+    is_extreme(&rt, 0, 1, 1);
+    is_extreme(&rt, 1, 1, 1);
+    is_extreme(&rt, u64::MAX - 1, 1, 1);
+    is_extreme(&rt, u64::MAX, 2, 2);
     // many keys over the whole range: the product has more than 64 bits
     is_guessed(&rt, 1 << 32, u64::MAX - 1, (1 << 32) - 1);
     is_guessed(&rt, 1 << 20, 1 << 63, 524288);
@@ -54,13 +68,19 @@ fn extreme_keys_have_children(rt: HostRuntime) {
     same(&rt, &near, &4611686018427387904, "a short range");
 }
 
+// Fails unless this is the guess and the child for the key beside 7 alone.
+fn is_beside(rt: &impl Abort, key: u64, child: usize) {
+    same(rt, &guess(7, 7, 1, key), &(child as u64), key);
+    same(rt, &child_of(&[7], key), &child, key);
+}
+
 #[test]
 fn few_keys_have_children(rt: HostRuntime) {
-    // one key
-    for (key, child) in [(0, 0), (6, 0), (7, 1), (u64::MAX, 1)] {
-        same(&rt, &guess(7, 7, 1, key), &(child as u64), key);
-        same(&rt, &child_of(&[7], key), &child, key);
-    }
+    // the key, its child
+    is_beside(&rt, 0, 0);
+    is_beside(&rt, 6, 0);
+    is_beside(&rt, 7, 1);
+    is_beside(&rt, u64::MAX, 1);
     same(&rt, &child_of(&[], 5), &0, 5);
     same(&rt, &child_of(&[0], 0), &1, 0);
     same(&rt, &child_of(&[u64::MAX], u64::MAX - 1), &0, u64::MAX);
@@ -125,20 +145,21 @@ fn ideal_trees_take_these_words(rt: HostRuntime) {
     takes(&rt, 4294967295, 34712447733);
 }
 
+// Fails unless a row of so many keys is due after so many updates.
+fn is_due(rt: &impl Abort, size: u64, updates: u64) {
+    same(rt, &limit(size), &updates, size);
+}
+
 #[test]
 fn nodes_are_due_after_a_quarter_of_their_keys(rt: HostRuntime) {
     // the size, the limit
-    for (size, updates) in [
-        (2, 8),
-        (31, 8),
-        (32, 8),
-        (35, 8),
-        (36, 9),
-        (256, 64),
-        (1000, 250),
-    ] {
-        same(&rt, &limit(size), &updates, size);
-    }
+    is_due(&rt, 2, 8);
+    is_due(&rt, 31, 8);
+    is_due(&rt, 32, 8);
+    is_due(&rt, 35, 8);
+    is_due(&rt, 36, 9);
+    is_due(&rt, 256, 64);
+    is_due(&rt, 1000, 250);
 }
 
 // Does each key lie below the next?
@@ -223,42 +244,35 @@ fn most_looks(rt: &impl Abort, keys: &[u64]) -> usize {
     most
 }
 
+// Fails unless this is the most looks in these keys.
+fn take_looks(
+    rt: &impl Abort,
+    keys: Result<Vec<u64>, AllocError>,
+    most: usize,
+    of: &str,
+) -> Result<(), AllocError> {
+    let keys = keys?;
+    same(rt, &most_looks(rt, &keys), &most, of);
+    Ok(())
+}
+
 #[test]
 fn few_keys_are_looked_at_however_they_lie(rt: HostRuntime) -> Result<(), Fail> {
-    let seconds = keys_by(rt.alloc(), 1000, Lie::Seconds)?;
-    let bursts = keys_by(rt.alloc(), 1000, Lie::Bursts)?;
-    let squares = keys_by(rt.alloc(), 1000, Lie::Squares)?;
-    let one_far = keys_by(rt.alloc(), 1000, Lie::OneFar)?;
-    let random = random_keys(rt.alloc(), 1000, 1)?;
-    let four = keys_by(rt.alloc(), 4, Lie::Squares)?;
-    let five = keys_by(rt.alloc(), 5, Lie::Squares)?;
-    // the most looks of each
-    same(
-        &rt,
-        &most_looks(&rt, seconds.as_slice()),
-        &4,
-        "rising seconds",
-    );
-    same(
-        &rt,
-        &most_looks(&rt, bursts.as_slice()),
-        &20,
-        "two bursts, a year apart",
-    );
-    same(&rt, &most_looks(&rt, squares.as_slice()), &18, "squares");
-    same(
-        &rt,
-        &most_looks(&rt, one_far.as_slice()),
-        &21,
-        "one key at the end",
-    );
-    same(
-        &rt,
-        &most_looks(&rt, random.as_slice()),
-        &10,
-        "random, by the seed 1",
-    );
-    same(&rt, &most_looks(&rt, four.as_slice()), &4, "four squares");
-    same(&rt, &most_looks(&rt, five.as_slice()), &4, "five squares");
+    let alloc = rt.alloc();
+    // the keys, the most looks
+    let seconds = keys_by(alloc, 1000, Lie::Seconds);
+    take_looks(&rt, seconds, 4, "rising seconds")?;
+    let bursts = keys_by(alloc, 1000, Lie::Bursts);
+    take_looks(&rt, bursts, 20, "two bursts, a year apart")?;
+    let squares = keys_by(alloc, 1000, Lie::Squares);
+    take_looks(&rt, squares, 18, "squares")?;
+    let one_far = keys_by(alloc, 1000, Lie::OneFar);
+    take_looks(&rt, one_far, 21, "one key at the end")?;
+    let random = random_keys(alloc, 1000, 1);
+    take_looks(&rt, random, 10, "random, by the seed 1")?;
+    let four = keys_by(alloc, 4, Lie::Squares);
+    take_looks(&rt, four, 4, "four squares")?;
+    let five = keys_by(alloc, 5, Lie::Squares);
+    take_looks(&rt, five, 4, "five squares")?;
     Ok(())
 }

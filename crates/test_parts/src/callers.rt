@@ -9,8 +9,7 @@ use ist_layout::NEXT_PLACE;
 use ist_rows::{Caller, Kind, enter, fill, reserve};
 use ist_rule::{TreeTable, close, join as join_seats, load, split};
 use std::alloc::{AllocError, Global};
-use std::test::Fail;
-use std::thread::join;
+use std::thread::{Threads, join};
 
 // What the caller is told that reserves a leaf row twice.
 fn reserve_twice(table: &TreeTable, who: &mut Caller) -> (Result<u32, Full>, Result<u32, Full>)
@@ -35,15 +34,15 @@ fn reserve_and_fill(table: &TreeTable, who: &mut Caller) -> Result<u32, Full>
     change
 }
 
-// What the first of two callers is told in a table of 14 words, and what these are when the table is closed.
-#[derive(Drop)]
-struct Seen {
-    numbers: (u32, u32),
-    leaves: (Result<u32, Full>, Result<u32, Full>),
-    next: u64,
-    change: Result<u32, Full>,
-    words: (u64, u64),
-}
+// What is seen in a table of 14 words: the numbers of two callers; what the first one is told that reserves a leaf row twice, and
+// the next row then; what it is told of a change row; and the leaf's value and the next row in the closed table.
+type Seen = (
+    (u32, u32),
+    (Result<u32, Full>, Result<u32, Full>),
+    u64,
+    Result<u32, Full>,
+    (u64, u64),
+);
 
 fn see_reserved(alloc: Global) -> Result<Seen, AllocError> {
     let (table, mut maker) = empty_table(alloc, 14)?;
@@ -56,34 +55,18 @@ fn see_reserved(alloc: Global) -> Result<Seen, AllocError> {
     let closed = close(table, maker);
     let words = (closed.word(5), closed.word(NEXT_PLACE as usize));
     closed.free();
-    Ok(Seen {
-        numbers,
-        leaves,
-        next,
-        change,
-        words,
-    })
+    Ok((numbers, leaves, next, change, words))
 }
 
 #[test]
-fn a_caller_reserves_a_leaf_once_and_is_refused_a_change(rt: HostRuntime) -> Result<(), Fail> {
-    let seen = see_reserved(rt.alloc())?;
+fn a_caller_reserves_a_leaf_once_and_is_refused_a_change(rt: HostRuntime) {
     let full = Full {
         next: 6,
         asked: 9,
         words: 14,
     };
-    same(&rt, &seen.numbers, &(0, 1), "the callers");
-    same(&rt, &seen.leaves, &(Ok(4), Ok(4)), "the leaf row");
-    same(&rt, &seen.next, &6, "the next row");
-    same(&rt, &seen.change, &Err(full), "the change row");
-    same(
-        &rt,
-        &seen.words,
-        &(9, 6),
-        "the leaf's value and the next row",
-    );
-    Ok(())
+    let wanted = ((0, 1), (Ok(4), Ok(4)), 6, Err(full), (9, 6));
+    same(&rt, &see_reserved(rt.alloc()), &Ok(wanted), "14 words");
 }
 
 // The leaf row that one caller reserves, the number of the next caller, and the next free word, once two tokens have met whose
@@ -102,10 +85,8 @@ fn meet_in_14(alloc: Global) -> Result<(Result<u32, Full>, u32, u64), AllocError
 }
 
 #[test]
-fn logs_of_different_length_meet(rt: HostRuntime) -> Result<(), Fail> {
-    let met = meet_in_14(rt.alloc())?;
-    same(&rt, &met, &(Ok(4), 1, 6), "the two");
-    Ok(())
+fn logs_of_different_length_meet(rt: HostRuntime) {
+    same(&rt, &meet_in_14(rt.alloc()), &Ok((Ok(4), 1, 6)), "the two");
 }
 
 const KINDS: [Kind; 4] = [Kind::Leaf, Kind::Pair, Kind::Change, Kind::Rebuild];
@@ -137,13 +118,29 @@ fn rows_over(bases: &[Option<u32>; 4], place: u64) -> u64 {
     count
 }
 
-#[test]
-fn two_threads_reserve_until_the_table_is_full(rt: HostRuntime) -> Result<(), Fail> {
-    let (table, mut maker) = empty_table(rt.alloc(), 20)?;
+// The first place of a table of 20 words that isn't in one of these rows, though it is from 4 on and before the next free word,
+// or that is in one otherwise.
+fn first_wrong(left: &[Option<u32>; 4], right: &[Option<u32>; 4], next: u64) -> Option<u64> {
+    for place in 0..20 {
+        let over = rows_over(left, place).wrapping_add(rows_over(right, place));
+        let wanted = if place >= 4 && place < next { 1 } else { 0 };
+        if over != wanted {
+            return Some(place);
+        }
+    }
+    None
+}
+
+// The first such place after two threads reserved all that they could, and whether each was refused a row.
+fn reserve_beside<R: Threads + Sync>(
+    rt: &R,
+    alloc: Global,
+) -> Result<(Option<u64>, bool, bool), AllocError> {
+    let (table, mut maker) = empty_table(alloc, 20)?;
     let one = enter(&table, &mut maker);
     let two = enter(&table, &mut maker);
     let (left, right) = join(
-        &rt,
+        rt,
         ||
             requires same_table { one.token.table ≡ table.table }
             requires caller { IsCaller one }
@@ -154,11 +151,12 @@ fn two_threads_reserve_until_the_table_is_full(rt: HostRuntime) -> Result<(), Fa
         { reserve_each(&table, two) },
     );
     let next = load(&table, &mut maker, NEXT_PLACE);
-    for place in 0..20 {
-        let over = rows_over(&left, place).wrapping_add(rows_over(&right, place));
-        let wanted = if place >= 4 && place < next { 1 } else { 0 };
-        same(&rt, &over, &wanted, place);
-    }
-    assert!(rt; left.contains(&None) && right.contains(&None));
-    Ok(())
+    let wrong = first_wrong(&left, &right, next);
+    Ok((wrong, left.contains(&None), right.contains(&None)))
+}
+
+#[test]
+fn two_threads_reserve_until_the_table_is_full(rt: HostRuntime) {
+    let seen = reserve_beside(&rt, rt.alloc());
+    same(&rt, &seen, &Ok((None, true, true)), "20 words");
 }

@@ -12,7 +12,6 @@ use ist_layout::{ANCHOR_SLOT_PLACE, Ref};
 use ist_rows::{Caller, Kind, enter, reserve};
 use ist_rule::{TreeTable, TreeToken, begin_search, load_top};
 use std::alloc::{AllocError, Global};
-use std::test::Fail;
 use std::thread::{Threads, join};
 
 /// Helps the change at 6 if the anchor's slot holds it.
@@ -105,7 +104,7 @@ fn help_two(alloc: Global) -> Result<Option<Seen>, AllocError> {
 }
 
 #[test]
-fn a_put_is_decided_once_and_leaves_its_slot(rt: HostRuntime) -> Result<(), Fail> {
+fn a_put_is_decided_once_and_leaves_its_slot(rt: HostRuntime) {
     let change = Ref::Change { base: 6 }.to_word();
     let leaf = Ref::Leaf { base: 4 }.to_word();
     let wanted = Seen {
@@ -114,8 +113,7 @@ fn a_put_is_decided_once_and_leaves_its_slot(rt: HostRuntime) -> Result<(), Fail
         by_first: Decision::Yes,
         met: Some(leaf),
     };
-    same(&rt, &help_two(rt.alloc())?, &Some(wanted), "the put");
-    Ok(())
+    same(&rt, &help_two(rt.alloc()), &Ok(Some(wanted)), "the put");
 }
 
 // Helps the change at 6, if the anchor's slot holds it, by a caller that has no more to do.
@@ -162,13 +160,21 @@ fn help_on_threads<R: Threads + Sync>(rt: &R, alloc: Global) -> Result<Helped, A
     })
 }
 
-#[test]
-fn two_threads_that_meet_one_change_see_it_decided_yes(rt: HostRuntime) -> Result<(), Fail> {
-    let leaf = Ref::Leaf { base: 4 }.to_word();
+// Whether the put is installed, and the word in the anchor's slot; whether a thread met the change, and whether one saw it decided no.
+fn see_helped<R: Threads + Sync>(
+    rt: &R,
+    alloc: Global,
+) -> Result<(bool, u64, bool, bool), AllocError> {
     let no = Some(Decision::No);
-    let seen = help_on_threads(&rt, rt.alloc())?;
-    assert!(rt; seen.left.is_some() || seen.right.is_some());
-    assert!(rt; seen.left != no && seen.right != no);
-    same(&rt, &(seen.installed, seen.slot), &(true, leaf), "the put");
-    Ok(())
+    let seen = help_on_threads(rt, alloc)?;
+    let is_met = seen.left.is_some() || seen.right.is_some();
+    let is_no = seen.left == no || seen.right == no;
+    Ok((seen.installed, seen.slot, is_met, is_no))
+}
+
+#[test]
+fn two_threads_that_meet_one_change_see_it_decided_yes(rt: HostRuntime) {
+    let leaf = Ref::Leaf { base: 4 }.to_word();
+    let seen = see_helped(&rt, rt.alloc());
+    same(&rt, &seen, &Ok((true, leaf, true, false)), "the put");
 }

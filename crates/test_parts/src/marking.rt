@@ -14,7 +14,6 @@ use ist_mark::mark_and_count;
 use ist_rows::{Caller, enter};
 use ist_rule::{TreeTable, TreeToken, begin_search, know, load, load_top};
 use std::alloc::{AllocError, Global};
-use std::test::Fail;
 use std::thread::{Threads, join};
 
 // Helps the change at 20, and returns whether it has started a rebuild of the row at 4.
@@ -115,17 +114,12 @@ fn mark_two(alloc: Global) -> Result<Option<([u64; 3], [u64; 2])>, AllocError> {
 }
 
 #[test]
-fn two_callers_mark_one_subtree_in_turn(rt: HostRuntime) -> Result<(), Fail> {
+fn two_callers_mark_one_subtree_in_turn(rt: HostRuntime) {
     let clear = Status::Clear.to_word();
     let finished = Status::Finished { keys: 2 }.to_word();
-    let seen = mark_two(rt.alloc())?;
-    same(
-        &rt,
-        &seen,
-        &Some(([clear, finished, finished], [2, 2])),
-        "two callers",
-    );
-    Ok(())
+    let seen = mark_two(rt.alloc());
+    let wanted = Some(([clear, finished, finished], [2, 2]));
+    same(&rt, &seen, &Ok(wanted), "two callers");
 }
 
 // The same start, which both see.
@@ -184,9 +178,8 @@ fn mark_on_threads<R: Threads + Sync>(
 }
 
 #[test]
-fn two_threads_mark_one_subtree(rt: HostRuntime) -> Result<(), Fail> {
+fn two_threads_mark_one_subtree(rt: HostRuntime) {
     let finished = Status::Finished { keys: 2 }.to_word();
-    let seen = mark_on_threads(&rt, rt.alloc())?;
-    same(&rt, &seen, &(Some(2), Some(2), finished), "two threads");
-    Ok(())
+    let seen = mark_on_threads(&rt, rt.alloc());
+    same(&rt, &seen, &Ok((Some(2), Some(2), finished)), "two threads");
 }

@@ -15,7 +15,6 @@ use ist_image::lay_image;
 use ist_rows::{Caller, enter};
 use ist_rule::{TreeTable, TreeToken, begin_search, open_table};
 use std::alloc::{AllocError, Global};
-use std::test::Fail;
 
 // The table of two pairs: an inner row at 4, and two leaves.
 fn two_pairs(alloc: Global) -> Result<(TreeTable, TreeToken), AllocError>
@@ -34,7 +33,7 @@ fn found_in_two(alloc: Global, key: u64) -> Result<(Child, Found), AllocError> {
 }
 
 #[test]
-fn each_key_is_found_with_its_value(rt: HostRuntime) -> Result<(), Fail> {
+fn each_key_is_found_with_its_value(rt: HostRuntime) {
     // the key, its child in the row, the word in its slot, its value
     let cases = [
         (5, 0, 89, Some(7)),
@@ -45,16 +44,10 @@ fn each_key_is_found_with_its_value(rt: HostRuntime) -> Result<(), Fail> {
         (u64::MAX, 1, 105, None),
     ];
     for (key, index, word, value) in cases {
-        let found = found_in_two(rt.alloc(), key)?;
         let node = 4;
-        same(
-            &rt,
-            &found,
-            &(Child { index, word }, Found { value, node, index }),
-            key,
-        );
+        let wanted = (Child { index, word }, Found { value, node, index });
+        same(&rt, &found_in_two(rt.alloc(), key), &Ok(wanted), key);
     }
-    Ok(())
 }
 
 // A table of 100 words with ten pairs, whose keys are three apart: a row at 4 with the keys 13 and
@@ -86,7 +79,7 @@ fn search_of_ten(alloc: Global, key: u64) -> Result<(Option<u64>, u64), AllocErr
 }
 
 #[test]
-fn a_search_loads_the_words_of_its_way_alone(rt: HostRuntime) -> Result<(), Fail> {
+fn a_search_loads_the_words_of_its_way_alone(rt: HostRuntime) {
     // Each search loads word 0 and the anchor's slot. A row of degree d costs d + 1 loads: its
     // degree, its d - 1 keys, a slot. A leaf costs one, and its value another. Through rows of the
     // degrees 3, 2 and 2 that is 2 + 4 + 3 + 3 + 1, and through 3 and 2 it is 3 less.
@@ -116,10 +109,9 @@ fn a_search_loads_the_words_of_its_way_alone(rt: HostRuntime) -> Result<(), Fail
         (u64::MAX, None, 10),
     ];
     for (key, value, loads) in cases {
-        let found = search_of_ten(rt.alloc(), key)?;
-        same(&rt, &found, &(value, loads), key);
+        let found = search_of_ten(rt.alloc(), key);
+        same(&rt, &found, &Ok((value, loads)), key);
     }
-    Ok(())
 }
 
 // Returns the span of a key in the table of ten pairs.
@@ -131,7 +123,7 @@ fn span_of_ten(alloc: Global, key: u64) -> Result<Span, AllocError> {
 }
 
 #[test]
-fn a_span_reaches_from_its_pair_to_before_the_next_one(rt: HostRuntime) -> Result<(), Fail> {
+fn a_span_reaches_from_its_pair_to_before_the_next_one(rt: HostRuntime) {
     // the key, the ends of its span, the key and the value of the pair in it
     let cases = [
         (0, 0, 3, 1, 0),
@@ -149,11 +141,10 @@ fn a_span_reaches_from_its_pair_to_before_the_next_one(rt: HostRuntime) -> Resul
         (u64::MAX, 28, u64::MAX, 28, 9),
     ];
     for (asked, first, last, key, value) in cases {
-        let found = span_of_ten(rt.alloc(), asked)?;
         let pair = Some(Pair { key, value });
-        same(&rt, &found, &Span { first, last, pair }, asked);
+        let span = Span { first, last, pair };
+        same(&rt, &span_of_ten(rt.alloc(), asked), &Ok(span), asked);
     }
-    Ok(())
 }
 
 // A table of this many pairs, with the keys from 0 on.
@@ -176,7 +167,7 @@ fn search_of(alloc: Global, count: u64, key: u64) -> Result<(Option<u64>, u64), 
 }
 
 #[test]
-fn a_search_loads_few_keys_of_a_row_with_more_than_four(rt: HostRuntime) -> Result<(), Fail> {
+fn a_search_loads_few_keys_of_a_row_with_more_than_four(rt: HostRuntime) {
     // 36 pairs: a row with the keys 6, 12, 18, 24 and 30 over rows of six pairs, these over two
     // rows of three, and these over a row of two and a leaf. The first row costs its degree, the
     // keys at both ends, a slot; for a key between them, the key at the guess too, which is right,
@@ -198,10 +189,9 @@ fn a_search_loads_few_keys_of_a_row_with_more_than_four(rt: HostRuntime) -> Resu
         (u64::MAX, None, 2 + 4 + 6 + 1),
     ];
     for (key, value, loads) in cases {
-        let found = search_of(rt.alloc(), 36, key)?;
-        same(&rt, &found, &(value, loads), key);
+        let found = search_of(rt.alloc(), 36, key);
+        same(&rt, &found, &Ok((value, loads)), key);
     }
-    Ok(())
 }
 
 // What is found during a put of 1 at 1.
@@ -256,8 +246,8 @@ fn find_in_empty(alloc: Global) -> Result<Option<Beside>, AllocError> {
 }
 
 #[test]
-fn a_put_is_found_once_it_is_decided(rt: HostRuntime) -> Result<(), Fail> {
-    let seen = find_in_empty(rt.alloc())?;
+fn a_put_is_found_once_it_is_decided(rt: HostRuntime) {
+    let seen = find_in_empty(rt.alloc());
     let wanted = Beside {
         before: None,
         // word 0, the anchor's slot, the change's decision, its `from`
@@ -270,6 +260,5 @@ fn a_put_is_found_once_it_is_decided(rt: HostRuntime) -> Result<(), Fail> {
         },
         other: None,
     };
-    same(&rt, &seen, &Some(wanted), "the put");
-    Ok(())
+    same(&rt, &seen, &Ok(Some(wanted)), "the put");
 }
