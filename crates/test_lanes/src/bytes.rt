@@ -1,6 +1,7 @@
 //! Sources and sinks of bytes, call by call, with reads and writes that fail.
 ghost use Rattle.std.specs.Prelude.{◌<◌, length};
 
+use crate::judging::same;
 use std::alloc::{AllocError, Global};
 use std::fs::File;
 use std::io::{Cursor, Error, ErrorKind, Read, Result as IoResult, Write};
@@ -37,7 +38,7 @@ fn a_quiet_source_gives_its_bytes_and_then_none(rt: HostRuntime) -> Result<(), F
         (Ok(0), b"dec"),
     ];
     let other = first_other_read(&mut source, &mut [0u8; 3], &reads);
-    assert_eq!(rt; other, None);
+    same(&rt, &other, &None, "the reads");
     Ok(())
 }
 
@@ -69,7 +70,12 @@ fn writes_all(sink: &mut QuietSink, pieces: &[&[u8]]) -> bool {
 fn a_quiet_sink_keeps_what_is_written(rt: HostRuntime) {
     let mut sink = QuietSink::new(rt.alloc());
     let written = writes_all(&mut sink, &[b"ab".as_slice(), b"cd", b""]);
-    assert_eq!(rt; (written, sink.bytes()), (true, b"abcd".as_slice()));
+    same(
+        &rt,
+        &(written, sink.bytes()),
+        &(true, b"abcd".as_slice()),
+        "the writes",
+    );
 }
 
 #[test]
@@ -85,7 +91,7 @@ fn the_reads_with_the_named_numbers_fail(rt: HostRuntime) -> Result<(), Fail> {
         (Ok(0), b"cb--"),
     ];
     let other = first_other_read(&mut source, &mut [b'-'; 4], &reads);
-    assert_eq!(rt; other, None);
+    same(&rt, &other, &None, "the reads");
     Ok(())
 }
 
@@ -99,7 +105,7 @@ fn the_writes_with_the_named_numbers_fail(rt: HostRuntime) -> Result<(), Fail> {
         (b"ef", Ok(()), b"abef"),
     ];
     let other = first_other_write(&mut sink, &writes);
-    assert_eq!(rt; other, None);
+    same(&rt, &other, &None, "the writes");
     Ok(())
 }
 
@@ -112,7 +118,7 @@ fn a_reader_is_read_to_its_end(rt: HostRuntime) -> Result<(), Fail> {
         (Ok(0), b"cb"),
     ];
     let other = first_other_read(&mut source, &mut [0u8; 2], &reads);
-    assert_eq!(rt; other, None);
+    same(&rt, &other, &None, "the reads");
     Ok(())
 }
 
@@ -125,14 +131,24 @@ fn write_through<W: Write + Drop>(writer: W, bytes: &[u8]) -> Result<(), SinkFau
 fn a_writer_gets_what_is_written(rt: HostRuntime) {
     let mut out = Vec::new(rt.alloc());
     let written = write_through(&mut out, b"abc");
-    assert_eq!(rt; (written, out.as_slice()), (Ok(()), b"abc".as_slice()));
+    same(
+        &rt,
+        &(written, out.as_slice()),
+        &(Ok(()), b"abc".as_slice()),
+        "the write",
+    );
 }
 
 #[test]
 fn a_writer_without_room_fails_after_what_fits(rt: HostRuntime) {
     let mut room = [b'-'; 3];
     let written = write_through(room.as_mut_slice(), b"abcde");
-    assert_eq!(rt; (written, &room), (Err(SinkFault::Failed), b"abc"));
+    same(
+        &rt,
+        &(written, &room),
+        &(Err(SinkFault::Failed), b"abc"),
+        "the write",
+    );
 }
 
 #[test]
@@ -140,7 +156,12 @@ fn a_directory_can_neither_be_read_nor_written(rt: HostRuntime) -> Result<(), Fa
     let (to_read, to_write) = (File::open(&rt, ".")?, File::open(&rt, ".")?);
     let read = ReadSource::new(to_read).read(&mut [0u8; 8]);
     let written = WriteSink::new(to_write).write(b"abc");
-    assert_eq!(rt; (read, written), (Err(Failed), Err(SinkFault::Failed)));
+    same(
+        &rt,
+        &(read, written),
+        &(Err(Failed), Err(SinkFault::Failed)),
+        "a directory",
+    );
     Ok(())
 }
 
@@ -216,15 +237,14 @@ fn see_new_buffer(alloc: Global, fails: u64) -> Result<Buffered, AllocError> {
 }
 
 #[test]
-fn a_buffer_loses_nothing_where_a_write_fails(rt: HostRuntime) -> Result<(), Fail> {
+fn a_buffer_loses_nothing_where_a_write_fails(rt: HostRuntime) {
     // each write of the sink after, one after another, of five pieces and the last passing on; and
     // none
     for fails in 0..6 {
-        let seen = see_new_buffer(rt.alloc(), fails)?;
+        let seen = see_new_buffer(rt.alloc(), fails);
         let wanted = (None, fails == 4, Ok(()), true);
-        assert_eq!(rt; seen, wanted, "where write {fails} fails");
+        same(&rt, &seen, &Ok(wanted), fails);
     }
-    Ok(())
 }
 
 // The first of these pieces that isn't taken, that passes on with another result than expected, or
@@ -258,7 +278,7 @@ fn fill_room(alloc: Global, room: &mut [u8]) -> Option<usize> {
 fn a_buffer_keeps_what_a_full_writer_leaves(rt: HostRuntime) {
     let mut room = [b'-'; 5];
     let other = fill_room(rt.alloc(), room.as_mut_slice());
-    assert_eq!(rt; (other, &room), (None, b"abcde"));
+    same(&rt, &(other, &room), &(None, b"abcde"), "the pieces");
 }
 
 /// Is interrupted by signals this many times; then a read gives the byte `x`, and a write takes
@@ -307,12 +327,12 @@ fn an_interrupted_read_is_made_again(rt: HostRuntime) {
     let mut source = ReadSource::new(Interrupted { times: 3 });
     let mut buf = [b'-'; 2];
     let read = source.read(&mut buf);
-    assert_eq!(rt; (read, &buf), (Ok(1), b"x-"));
+    same(&rt, &(read, &buf), &(Ok(1), b"x-"), "the read");
 }
 
 #[test]
 fn an_interrupted_write_is_made_again(rt: HostRuntime) {
     let mut sink = WriteSink::new(Interrupted { times: 3 });
     let answers = (sink.write(b"ab"), write_whole(&mut sink, b"abc"));
-    assert_eq!(rt; answers, (Ok(1), Ok(())));
+    same(&rt, &answers, &(Ok(1), Ok(())), "the writes");
 }

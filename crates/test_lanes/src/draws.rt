@@ -1,7 +1,7 @@
 //! Numbers from outside, and how keys lie.
 
+use crate::judging::same;
 use std::alloc::{AllocError, Global};
-use std::test::Fail;
 use test_tools::{Draws, Kind, Shares, Spread};
 
 #[test]
@@ -22,7 +22,7 @@ fn numbers_are_those_of_the_source(rt: HostRuntime) {
         draws.next(),
         draws.next(),
     ];
-    assert_eq!(rt; drawn, numbers);
+    same(&rt, &drawn, &numbers, "the first five");
 }
 
 // The first of these cases in which the seed and thread draw the number of the other seed and
@@ -42,7 +42,7 @@ fn first_alike(cases: &[(u64, u64, u64, u64)]) -> Option<usize> {
 fn threads_of_one_seed_draw_different_numbers(rt: HostRuntime) {
     // seed, thread, another seed, another thread
     let cases = [(1, 0, 1, 1), (1, 0, 2, 0), (0, 3, 3, 0), (1, 1, 2, 0)];
-    assert_eq!(rt; first_alike(&cases), None);
+    same(&rt, &first_alike(&cases), &None, "the cases");
 }
 
 // The first of these numbers below all shares that gives another kind of call than expected.
@@ -74,7 +74,7 @@ fn each_kind_of_call_has_its_share(rt: HostRuntime) {
         (999, Kind::Freeze),
     ];
     let other = first_other_kind(&shares, &cases);
-    assert_eq!(rt; (shares.all(), other), (1000, None));
+    same(&rt, &(shares.all(), other), &(1000, None), "the shares");
 }
 
 // Returns 5,000 keys, in increasing order.
@@ -114,7 +114,7 @@ fn neighbours(alloc: Global, spread: Spread) -> Result<(u64, u64), AllocError> {
 }
 
 #[test]
-fn keys_are_different_and_lie_as_they_are_to(rt: HostRuntime) -> Result<(), Fail> {
+fn keys_are_different_and_lie_as_they_are_to(rt: HostRuntime) {
     // the spread, the number of 5,000 keys that are one above another
     let cases = [
         (Spread::Uniform, 0),
@@ -122,8 +122,7 @@ fn keys_are_different_and_lie_as_they_are_to(rt: HostRuntime) -> Result<(), Fail
         (Spread::Clustered, 4_995),
     ];
     for (spread, beside) in cases {
-        let counts = neighbours(rt.alloc(), spread)?;
-        assert_eq!(rt; counts, (0, beside), "{spread:?}");
+        let counts = neighbours(rt.alloc(), spread);
+        same(&rt, &counts, &Ok((0, beside)), spread);
     }
-    Ok(())
 }

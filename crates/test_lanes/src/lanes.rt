@@ -2,6 +2,7 @@
 ghost use Rattle.std.specs.Prelude.{◌≡◌, [], All, Option, None, ◌≤◌, length, map, IfOk};
 ghost use Rattle.tele_lanes.specs.Lanes.{all_lane_tasks};
 
+use crate::judging::same;
 use crate::recorders::{Counter, FULL, Recorder, idle_lane};
 use ist_core::{Command, Full, Reply};
 use std::alloc::{AllocError, Global};
@@ -79,7 +80,7 @@ fn are_split(
 }
 
 #[test]
-fn equal_timestamps_go_to_one_lane(rt: HostRuntime) -> Result<(), AllocError> {
+fn equal_timestamps_go_to_one_lane(rt: HostRuntime) {
     let tasks = [
         task(1, Command::Put { key: 2, value: 1 }),
         task(2, Command::Put { key: 3, value: 1 }),
@@ -87,8 +88,8 @@ fn equal_timestamps_go_to_one_lane(rt: HostRuntime) -> Result<(), AllocError> {
         task(4, Command::Get { key: 2 }),
     ];
     let first = [tasks[0], tasks[2], tasks[3]];
-    assert!(rt; are_split(rt.alloc(), &tasks, &first, &[tasks[1]])?);
-    Ok(())
+    let split = are_split(rt.alloc(), &tasks, &first, &[tasks[1]]);
+    same(&rt, &split, &Ok(true), "two lanes");
 }
 
 // The first of these timestamps and workers that gives another lane than expected.
@@ -117,7 +118,7 @@ fn lanes_are_remainders(rt: HostRuntime) {
         (u64::MAX, 7, 1),
         (u64::MAX, u32::MAX, 0),
     ];
-    assert_eq!(rt; first_other_lane(&cases), None);
+    same(&rt, &first_other_lane(&cases), &None, "the lanes");
 }
 
 // Are these the tasks that the lanes left?
@@ -170,7 +171,7 @@ fn run_stopped<R: Threads + Wait + Sync>(
 }
 
 #[test]
-fn a_lane_stops_at_the_refused_task(rt: HostRuntime) -> Result<(), AllocError> {
+fn a_lane_stops_at_the_refused_task(rt: HostRuntime) {
     let tasks = [
         task(1, Command::Get { key: 5 }),
         task(2, Command::Put { key: 5, value: 9 }),
@@ -182,13 +183,10 @@ fn a_lane_stops_at_the_refused_task(rt: HostRuntime) -> Result<(), AllocError> {
     };
     let answers = [answer(1, Some(5)), answer(2, None)];
     let left = [tasks[2], tasks[3]];
-    let stopped = run_stopped(&rt, rt.alloc(), &gate, &tasks, &answers, &left)?;
+    let stopped = run_stopped(&rt, rt.alloc(), &gate, &tasks, &answers, &left);
+    same(&rt, &stopped, &Ok((true, true, Some(FULL))), "the lane");
     // two answered calls and the refused one: 1 + 2 + 3
-    assert_eq!(rt;
-        (stopped, gate.told.load(Ordering::SeqCst)),
-        ((true, true, Some(FULL)), 6006)
-    );
-    Ok(())
+    same(&rt, &gate.told.load(Ordering::SeqCst), &6006, "the calls");
 }
 
 // the get of this key, in this line
@@ -224,7 +222,7 @@ fn has_both(
 }
 
 #[test]
-fn lines_rise_whatever_the_order_of_the_tasks(rt: HostRuntime) -> Result<(), AllocError> {
+fn lines_rise_whatever_the_order_of_the_tasks(rt: HostRuntime) {
     let tasks = [
         get(9, 0),
         get(2, 1),
@@ -246,9 +244,8 @@ fn lines_rise_whatever_the_order_of_the_tasks(rt: HostRuntime) -> Result<(), All
         answer(9, Some(0)),
     ];
     let left = [get(4, 2), get(5, 1), get(6, 0)];
-    let has = run_rising(&rt, rt.alloc(), &tasks, &answers, &left)?;
-    assert_eq!(rt; has, (true, true));
-    Ok(())
+    let has = run_rising(&rt, rt.alloc(), &tasks, &answers, &left);
+    same(&rt, &has, &Ok((true, true)), "the answers");
 }
 
 // Did each lane answer nothing without stopping?
@@ -274,17 +271,17 @@ fn run_idle<R: Threads + Wait + Sync>(
 }
 
 #[test]
-fn no_tasks_give_no_answers(rt: HostRuntime) -> Result<(), AllocError> {
-    let idle = run_idle(&rt, rt.alloc())?;
-    let none = has_answered(rt.alloc(), &[], &[])?;
-    assert_eq!(rt; (idle, none), ((3, true, true, None), true));
+fn no_tasks_give_no_answers(rt: HostRuntime) {
+    let idle = run_idle(&rt, rt.alloc());
+    same(&rt, &idle, &Ok((3, true, true, None)), "three lanes");
+    let none = has_answered(rt.alloc(), &[], &[]);
+    same(&rt, &none, &Ok(true), "no lanes");
     let mut none: [Lane<Recorder>; 0] = [];
     run_lanes(&rt, &NoGate, &mut none);
-    Ok(())
 }
 
 #[test]
-fn answers_come_back_in_line_order(rt: HostRuntime) -> Result<(), AllocError> {
+fn answers_come_back_in_line_order(rt: HostRuntime) {
     let tasks = [
         task(1, Command::Get { key: 200 }),
         task(2, Command::Get { key: 7 }),
@@ -305,10 +302,9 @@ fn answers_come_back_in_line_order(rt: HostRuntime) -> Result<(), AllocError> {
     ];
     for workers in [1u32, 2, 3, 7, 64] {
         assert!(rt; workers >= 1 && workers <= 64);
-        let given = round_gives(&rt, rt.alloc(), &tasks, workers, &answers)?;
-        assert!(rt; given, "{workers} workers");
+        let given = round_gives(&rt, rt.alloc(), &tasks, workers, &answers);
+        same(&rt, &given, &Ok(true), workers);
     }
-    Ok(())
 }
 
 // Does a list of this task come back as it went in?
@@ -324,9 +320,9 @@ fn answer_comes_back(alloc: Global, answer: Answer) -> Result<bool, AllocError> 
 }
 
 #[test]
-fn lists_come_back_as_they_went_in(rt: HostRuntime) -> Result<(), AllocError> {
-    let tasks = task_comes_back(rt.alloc(), task(3, Command::Remove { key: 8 }))?;
-    let answers = answer_comes_back(rt.alloc(), answer(3, Some(6)))?;
-    assert_eq!(rt; (tasks, answers), (true, true));
-    Ok(())
+fn lists_come_back_as_they_went_in(rt: HostRuntime) {
+    let tasks = task_comes_back(rt.alloc(), task(3, Command::Remove { key: 8 }));
+    same(&rt, &tasks, &Ok(true), "the tasks");
+    let answers = answer_comes_back(rt.alloc(), answer(3, Some(6)));
+    same(&rt, &answers, &Ok(true), "the answers");
 }

@@ -10,6 +10,8 @@ mod bytes;
 #[cfg(test)]
 mod draws;
 #[cfg(test)]
+mod judging;
+#[cfg(test)]
 mod lanes;
 #[cfg(test)]
 mod lines;

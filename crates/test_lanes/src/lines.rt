@@ -1,6 +1,7 @@
 //! Lines read from bytes, what is printed for them, and the map of one thread, call by call.
 ghost use Rattle.std.specs.Prelude.{◌<◌, ◌≤◌, ◌^◌};
 
+use crate::judging::same;
 use ist_core::{Command, Pair, Reply};
 use plain_map::Plain;
 use std::alloc::{AllocError, Global};
@@ -79,7 +80,7 @@ fn first_other_piece(
 }
 
 #[test]
-fn good_lines_come_by_their_numbers_until_the_input_ends(rt: HostRuntime) -> Result<(), Fail> {
+fn good_lines_come_by_their_numbers_until_the_input_ends(rt: HostRuntime) {
     // the input, what each call of `next` returns
     let rows: [(&[u8], &[Next]); 6] = [
         (b"", &[Ok(None), Ok(None)]),
@@ -110,14 +111,13 @@ fn good_lines_come_by_their_numbers_until_the_input_ends(rt: HostRuntime) -> Res
         ),
     ];
     for (bytes, calls) in rows {
-        let other = first_other_piece(rt.alloc(), bytes, calls)?;
-        assert_eq!(rt; other, None);
+        let other = first_other_piece(rt.alloc(), bytes, calls);
+        same(&rt, &other, &Ok(None), "the lines");
     }
-    Ok(())
 }
 
 #[test]
-fn a_bad_line_ends_the_reading(rt: HostRuntime) -> Result<(), Fail> {
+fn a_bad_line_ends_the_reading(rt: HostRuntime) {
     // the input, what each call of `next` returns; the last is returned again and again
     let rows: [(&[u8], &[Next]); 7] = [
         (
@@ -136,10 +136,9 @@ fn a_bad_line_ends_the_reading(rt: HostRuntime) -> Result<(), Fail> {
         ),
     ];
     for (bytes, calls) in rows {
-        let other = first_other_piece(rt.alloc(), bytes, calls)?;
-        assert_eq!(rt; other, None);
+        let other = first_other_piece(rt.alloc(), bytes, calls);
+        same(&rt, &other, &Ok(None), "the lines");
     }
-    Ok(())
 }
 
 #[test]
@@ -150,13 +149,13 @@ fn a_line_beyond_the_limit_is_bad(rt: HostRuntime) -> Result<(), Fail> {
         let mut source = MemorySource::new(bytes.to_vec(rt.alloc())?, 3, Vec::new(rt.alloc()));
         let mut lines = Lines::new(2);
         let next = lines.next(&mut source);
-        assert_eq!(rt; next, expected);
+        same(&rt, &next, &expected, "the line");
     }
     Ok(())
 }
 
 #[test]
-fn a_reader_goes_on_after_a_failed_read(rt: HostRuntime) -> Result<(), Fail> {
+fn a_reader_goes_on_after_a_failed_read(rt: HostRuntime) {
     // the size of pieces, which reads fail, what each call of `next` returns
     let rows: [(usize, &[u64], &[Next]); 3] = [
         (
@@ -182,10 +181,9 @@ fn a_reader_goes_on_after_a_failed_read(rt: HostRuntime) -> Result<(), Fail> {
         ),
     ];
     for (piece, fails, calls) in rows {
-        let other = first_other_line(rt.alloc(), b"P 5 7\nG 5", piece.max(1), fails, calls)?;
-        assert_eq!(rt; other, None);
+        let other = first_other_line(rt.alloc(), b"P 5 7\nG 5", piece.max(1), fails, calls);
+        same(&rt, &other, &Ok(None), "the lines");
     }
-    Ok(())
 }
 
 #[test]
@@ -211,12 +209,12 @@ fn each_reply_has_its_line(rt: HostRuntime) {
         print_bad(&mut out, 25, Cause::Number),
         print_bad(&mut out, u64::MAX, Cause::Lines),
     ];
-    assert_eq!(rt; printed, [Ok(()); 11]);
+    same(&rt, &printed, &[Ok(()); 11], "the replies");
     let text: &[u8] = b"17 1200\n18 -\n19 -9223372036854774608\n\
         20 2\n1 2\n9223372036854775808 0\n21 0\n\
         -9223372036854775807 -9223372036854775806\n0 -9223372036854775808\n\
         ! 22 long\n! 23 letter\n! 24 fields\n! 25 number\n! 18446744073709551615 lines\n";
-    assert_eq!(rt; out.bytes(), text);
+    same(&rt, &out.bytes(), &text, "the text");
 }
 
 #[test]
@@ -227,13 +225,18 @@ fn a_failed_write_leaves_the_lines_before_it(rt: HostRuntime) -> Result<(), Fail
     for (fails, before) in rows {
         let mut out = MemorySink::new(rt.alloc(), [fails].to_vec(rt.alloc())?);
         let printed = print_interval(&mut out, Version::One, 9, &pairs);
-        assert_eq!(rt; (printed, out.bytes()), (Err(SinkFault::Failed), before));
+        same(
+            &rt,
+            &(printed, out.bytes()),
+            &(Err(SinkFault::Failed), before),
+            "the text",
+        );
     }
     Ok(())
 }
 
 #[test]
-fn a_map_of_one_thread_replies_with_the_value_before(rt: HostRuntime) -> Result<(), Fail> {
+fn a_map_of_one_thread_replies_with_the_value_before(rt: HostRuntime) {
     let mut map = Plain::new(rt.alloc());
     // a command, the reply to it
     let rows: [(Command, Reply); 6] = [
@@ -245,11 +248,9 @@ fn a_map_of_one_thread_replies_with_the_value_before(rt: HostRuntime) -> Result<
         (Command::Remove { key: 5 }, None),
     ];
     for (command, expected) in rows {
-        let reply = map.apply(command)?;
-        assert_eq!(rt; reply, expected);
+        same(&rt, &map.apply(command), &Ok(expected), command);
     }
-    assert_eq!(rt; map.pairs().len(), 0);
-    Ok(())
+    same(&rt, &map.pairs().len(), &0, "the pairs at the end");
 }
 
 #[test]
@@ -280,7 +281,12 @@ fn a_map_of_one_thread_lists_from_one_key_to_another(rt: HostRuntime) -> Result<
         (9, 1, 0, 0),
     ];
     for (first, last, from, to) in rows {
-        assert_eq!(rt; Some(map.list(first, last)), all.get(from..to));
+        same(
+            &rt,
+            &Some(map.list(first, last)),
+            &all.get(from..to),
+            (first, last),
+        );
     }
     Ok(())
 }

@@ -2,6 +2,7 @@
 ghost use Rattle.std.specs.Prelude.{◌≡◌, [], Option, None, ◌≤◌, length, IfOk};
 ghost use Rattle.std.specs.Option.{option_to_list, option_map};
 
+use crate::judging::same;
 use crate::recorders::{FULL, misses};
 use ist_core::{Command, Full, Port, Reply};
 use std::alloc::{AllocError, Global};
@@ -104,8 +105,8 @@ fn meet<R: Threads + Wait + Sync>(rt: &R, alloc: Global) -> Result<(Met, Met), A
 }
 
 #[test]
-fn lanes_run_beside_each_other(rt: HostRuntime) -> Result<(), AllocError> {
-    let met = meet(&rt, rt.alloc())?;
-    assert_eq!(rt; met, ((1, None, false), (1, None, false)));
-    Ok(())
+fn lanes_run_beside_each_other(rt: HostRuntime) {
+    let met = meet(&rt, rt.alloc());
+    let wanted = ((1, None, false), (1, None, false));
+    same(&rt, &met, &Ok(wanted), "the lanes");
 }

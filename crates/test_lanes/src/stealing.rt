@@ -2,6 +2,7 @@
 ghost use Rattle.std.specs.Prelude.{◌≡◌, [], ◌≤◌, All, None, length, map, IfOk};
 ghost use Rattle.std.specs.List.Sorted.{IsStrictlyIncreasing};
 
+use crate::judging::same;
 use crate::recorders::{Counter, FULL, Recorder, idle_lane, misses};
 use ist_core::Command;
 use std::alloc::{AllocError, Global};
@@ -167,14 +168,13 @@ fn run_three<R: Threads + Wait + Sync>(rt: &R, alloc: Global) -> Result<[bool; 3
 }
 
 #[test]
-fn three_lanes_come_back_in_order(rt: HostRuntime) -> Result<(), AllocError> {
-    let back = run_three(&rt, rt.alloc())?;
-    assert_eq!(rt; back, [true; 3]);
-    Ok(())
+fn three_lanes_come_back_in_order(rt: HostRuntime) {
+    let back = run_three(&rt, rt.alloc());
+    same(&rt, &back, &Ok([true; 3]), "three runs");
 }
 
 #[test]
-fn lanes_of_unequal_length_come_back_in_order(rt: HostRuntime) -> Result<(), AllocError> {
+fn lanes_of_unequal_length_come_back_in_order(rt: HostRuntime) {
     let mut counts = [10u32; 64];
     counts[5] = 1000;
     counts[63] = 0;
@@ -183,24 +183,22 @@ fn lanes_of_unequal_length_come_back_in_order(rt: HostRuntime) -> Result<(), All
         let gate = Counter {
             told: AtomicU64::new(0),
         };
-        let back = run_in_yard(&rt, rt.alloc(), &gate, workers, 64, &counts, 1000)?;
+        let back = run_in_yard(&rt, rt.alloc(), &gate, workers, 64, &counts, 1000);
+        same(&rt, &back, &Ok(true), workers);
         // 62 lanes of ten calls, whose numbers add up to 55, and one of a thousand, to 500,500
-        assert_eq!(rt;
-            (back, gate.told.load(Ordering::SeqCst)),
-            (true, 504_413_910),
-            "{workers} workers"
-        );
+        let told = gate.told.load(Ordering::SeqCst);
+        same(&rt, &told, &504_413_910, workers);
     }
-    Ok(())
 }
 
 #[test]
-fn two_workers_run_two_lanes_beside_each_other(rt: HostRuntime) -> Result<(), AllocError> {
+fn two_workers_run_two_lanes_beside_each_other(rt: HostRuntime) {
     let gate = Meeting {
         came: [AtomicU64::new(0), AtomicU64::new(0)],
         missed: AtomicU64::new(0),
     };
-    let back = run_in_yard(&rt, rt.alloc(), &gate, 2, 2, &[1, 1], 1)?;
-    assert_eq!(rt; (gate.missed.load(Ordering::SeqCst), back), (0, true));
-    Ok(())
+    let back = run_in_yard(&rt, rt.alloc(), &gate, 2, 2, &[1, 1], 1);
+    same(&rt, &back, &Ok(true), "two lanes");
+    let missed = gate.missed.load(Ordering::SeqCst);
+    same(&rt, &missed, &0, "the lanes that waited in vain");
 }
