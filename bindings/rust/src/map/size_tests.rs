@@ -3,7 +3,7 @@
 use super::Map;
 use super::plans::{Aim, Plan, Served};
 use super::sizes::{FIRST_WORDS, Sizes, USUAL};
-use std::thread::{scope, sleep};
+use std::thread::scope;
 use std::time::Duration;
 
 // How many words each part has.
@@ -57,22 +57,18 @@ fn a_part_has_more_keys_while_most_calls_are_reads() {
 #[test]
 fn parts_are_split_when_most_calls_are_updates_and_merged_when_most_are_reads() {
     const KEYS: u64 = 6_000;
-    let map: Map = (0..KEYS).map(|key| (key, 0)).collect();
-    assert_eq!(words(&map).len(), 1);
+    let made: Map = (0..KEYS).map(|key| (key, 0)).collect();
+    assert_eq!(words(&made).len(), 1);
+    // however fast it is changed
+    let sizes = Sizes { short_life: Duration::ZERO, long_life: Duration::ZERO, ..USUAL };
+    let map = Map::of(FIRST_WORDS, sizes).unwrap();
     (0..4 * KEYS).for_each(|number| _ = map.insert(number % KEYS, number));
     assert!(words(&map).len() >= 3, "{} parts", words(&map).len());
-    for turn in 0..600 {
-        if words(&map).len() <= 2 {
-            return;
-        }
-        for number in turn * 200..(turn + 1) * 200 {
-            map.insert(number * 7 % KEYS, number);
-            (0..10).for_each(|more| assert!(map.get((number + more) % KEYS).is_some()));
-        }
-        // so that parts serve for long enough
-        sleep(Duration::from_millis(5));
+    for number in 0..20 * KEYS {
+        map.insert(number * 7 % KEYS, number);
+        (0..10).for_each(|more| assert!(map.get((number + more) % KEYS).is_some()));
     }
-    panic!("{} parts are left", words(&map).len());
+    assert!(words(&map).len() <= 2, "{} parts are left", words(&map).len());
 }
 
 #[test]
