@@ -1,5 +1,5 @@
 #!/bin/bash
-# Takes all figures of docs/PERFORMANCE.md and of README's tables in one go, on a machine that does nothing else. It takes some 40 minutes, and
+# Takes all figures of docs/PERFORMANCE.md and of README's tables in one go, on a machine that does nothing else. It takes some 25 minutes, and
 # first proves and builds what isn't built.
 #
 #     bench/all.sh [--plan] OUT
@@ -48,18 +48,28 @@ sys.exit(code)' out/log_check "$out/a.log-of-events") || return
     rm -f "$out/a.log-of-events"
 }
 
+# A benchmark of the Cargo package, with real-time priority if it may have that.
+rust() {
+    local first=()
+    chrt -f 40 true 2>/dev/null && first=(chrt -f 40)
+    "${first[@]}" env -C bindings/rust cargo bench --offline --bench "$1" -- "${@:2}"
+}
+
 part machine machine
 part built python3 tools/build.py try_bench
 part library bash tools/library.sh --wait
 part tree bash bench/tree.sh out/try_bench --peers --figures "$out/figures"
 part charts python3 bench/charts.py "$out/figures" "$(date -u +%Y-%m-%d)"
 part lines python3 bench/lines.py --turns 5
-part words python3 bench/lines.py --turns 5 --options '--words 2097152' --options '' --options '--words 4194304'
+part workers python3 bench/lines.py --turns 5 --options '--words 1048576' --options '--words 1048576 --workers 1'
 part lanes python3 bench/lanes.py --options '--words 1048576' 300000
-part calls env -C bindings/rust cargo bench --offline --bench calls
-part maps env -C bindings/rust cargo bench --offline --bench maps
-for keys in 1000 1000000; do
-    part "service-$keys" env -C bindings/rust cargo bench --offline --bench service -- "$keys" 4 25 25 2
+for given in '1000 1000000 0' '1000000 1000000 0' '1000000 300000 100'; do
+    # shellcheck disable=SC2086
+    part "calls-${given// /-}" rust calls $given
+done
+for given in '1000 4 25 25' '100000 4 25 25' '1000000 4 25 25' '1000000 4 5 5'; do
+    # shellcheck disable=SC2086
+    part "service-${given// /-}" rust service $given 3 1
 done
 part logs logs
 [ -n "$plan" ] || printf '%s failed\n' "$failed"

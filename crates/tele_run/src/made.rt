@@ -19,7 +19,8 @@ use std::thread::Threads;
 use tele_generations::Shelf;
 use tele_io::Sink;
 use tele_jobs::{
-    ANSWERED, Maker, NO_MEMORY, Outcome, Summary, WRITE_FAILED, end_with_summary, refused, sum_of,
+    ANSWERED, CommandMaker, NO_MEMORY, Outcome, Summary, WRITE_FAILED, end_with_summary, refused,
+    sum_of,
 };
 use tele_lanes::{Answer, Gate, Task};
 use tele_trees::TreeTables;
@@ -78,7 +79,7 @@ fn summarize<R: Threads + Wait + Sync, G: Gate + Sync, H: Shelf<Closed>>(
     ensures ran { OnOk result (FollowsRounds round.old.team round.old.words
         (made_rounds count seed) (H.kept shelf.old) (H.kept shelf.new) round.new) }
 {
-    let mut maker = Maker::new(seed);
+    let mut maker = CommandMaker::new(seed);
     let mut found = 0;
     for line in 0..count {
         round.ask(Task {
