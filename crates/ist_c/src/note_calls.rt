@@ -1,12 +1,14 @@
 //! The exports by which one pass learns what another has seen.
 ghost use Rattle.std.specs.Prelude.{◌≡◌, true, false};
+ghost use Rattle.std.specs.Arc.{arc_value};
+ghost use Rattle.ist_tree.specs.Calls.{HasSeenMore, HasLearnt, WeavesWith};
 ghost use Rattle.ist_c.specs.Calls.{NumbersPass};
 ghost use Rattle.ist_c.specs.Kinds.{IsAsBefore};
 ghost use Rattle.ist_c.specs.Notes.{Notes, Meets};
 ghost use Rattle.ist_handles.specs.Results.{misuse};
 
 use crate::tree_calls::keep;
-use ist_handles::{DONE, Handle, Held, MEMORY, MISUSE};
+use ist_handles::{DONE, Handle, Held, MEMORY, MISUSE, TreeNote, TreePass};
 use std::alloc::Global;
 use std::mem;
 
@@ -44,6 +46,18 @@ pub extern "C" fn ist_write_note(alloc: Global, pass: &mut Handle, out: &mut Han
     }
 }
 
+// Lets the pass learn what the note holds.
+fn learn_from(pass: &mut TreePass, told: TreeNote)
+    requires same_tree { arc_value told.tree ≡ arc_value pass.old.tree }
+    ensures tree { arc_value pass.new.tree ≡ arc_value pass.old.tree }
+    ensures seen { HasSeenMore pass.old.pass pass.new.pass }
+    ensures calls { pass.new.pass.calls ≡ pass.old.pass.calls }
+    ensures learnt { HasLearnt pass.new.pass told.note }
+    ensures woven { WeavesWith pass.new.pass told.note }
+{
+    pass.tree.tree.meet(&mut pass.pass, told.note);
+}
+
 // Lets the pass learn what the handle's note holds, which is empty then. What isn't a note of the
 // pass's tree is put back.
 fn meet_in(alloc: Global, held: &mut Held, note: &mut Handle) -> u32
@@ -63,7 +77,7 @@ fn meet_in(alloc: Global, held: &mut Held, note: &mut Handle) -> u32
                 *note = Handle::of(told);
                 return MISUSE;
             }
-            pass.tree.tree.meet(&mut pass.pass, met.note);
+            learn_from(pass, met);
             DONE
         }
         other => {

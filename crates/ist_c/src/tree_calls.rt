@@ -1,5 +1,7 @@
 //! The exports that open a tree, make its passes and take them back, and free what a handle holds.
-ghost use Rattle.std.specs.Prelude.{◌≡◌, ◌<◌, ◌≤◌, ◌^◌, true, false};
+ghost use Rattle.std.specs.Prelude.{◌≡◌, ◌<◌, ◌≤◌, ◌^◌, ◌∷◌, true, false};
+ghost use Rattle.std.specs.Arc.{arc_value};
+ghost use Rattle.ist_tree.specs.Faces.{calls_in};
 ghost use Rattle.plain_map.specs.Rising.{IsRising};
 ghost use Rattle.ist_c.specs.Calls.{NumbersOwner};
 ghost use Rattle.ist_c.specs.Closing.{fault_status};
@@ -12,7 +14,8 @@ ghost use Rattle.ist_handles.specs.Results.{misuse};
 
 use ist_core::Pair;
 use ist_handles::{
-    DONE, Entry, Handle, Held, MEMORY, MISUSE, PAIRS_LIMIT, SMALL, TreeOwner, pairs_of_entries,
+    DONE, Entry, Handle, Held, MEMORY, MISUSE, PAIRS_LIMIT, SMALL, TreeOwner, TreePass,
+    pairs_of_entries,
 };
 use ist_image::needed_words;
 use ist_reopen::{MOST_WORDS, ReopenFault};
@@ -136,6 +139,16 @@ pub extern "C" fn ist_new_pass(alloc: Global, owner: &mut Handle, out: &mut Hand
     }
 }
 
+// Takes the pass back.
+fn take_from(owner: &mut TreeOwner, given: TreePass)
+    requires same_tree { arc_value given.tree ≡ arc_value owner.old.tree }
+    ensures tree { arc_value owner.new.tree ≡ arc_value owner.old.tree }
+    ensures taken { owner.new.maker.taken ≡ calls_in given.pass ∷ owner.old.maker.taken }
+    ensures made { owner.new.maker.made ≡ owner.old.maker.made }
+{
+    owner.tree.tree.take_back(&mut owner.maker, given.pass);
+}
+
 // Takes the pass back that the handle holds, which is empty then. What isn't a pass of the owner's tree is
 // put back.
 fn take_in(alloc: Global, held: &mut Held, pass: &mut Handle) -> u32
@@ -155,7 +168,7 @@ fn take_in(alloc: Global, held: &mut Held, pass: &mut Handle) -> u32
                 *pass = Handle::of(given);
                 return MISUSE;
             }
-            owner.tree.tree.take_back(&mut owner.maker, taken.pass);
+            take_from(owner, taken);
             DONE
         }
         other => {

@@ -17,13 +17,13 @@ returns-then-deref c =
 
 pub returns-else-deref : goal.returns-else-deref
 returns-else-deref c =
-    let e = c.meet.ensures in
+    let e = c.learn_from.ensures in
     let value = sym c.in-Some.ensures.value ∙ sym c.deref_mut.ensures.value ∙ sym c.replace.ensures.value
     ∙ c.in-Note.is in
     record {
-      meets = met_one c.args.held.now c.in-Pass.pass _ c.in-Note.met c.args.note.now
+      meets = met_one c.args.held.now c.in-Pass.pass c.learn_from.new.pass c.in-Note.met c.args.note.now
           c.open.new.self c.in-Pass.is (c.open.ensures.some.0 (subst IsSome (sym c.in-Some.is) refl)) value (record {
-            same_tree = refl;
+            same_tree = e.tree;
             its_tree = c.requires.numbered c.in-Pass.pass c.in-Note.met c.in-Pass.is value
                 (sym (ap number c.deref.ensures) ∙ c.if-deref.false ∙ ap number c.deref-in-Note.ensures);
             seen = e.seen;

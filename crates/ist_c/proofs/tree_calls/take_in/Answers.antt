@@ -17,13 +17,13 @@ returns-then-deref c =
 
 pub returns-else-deref : goal.returns-else-deref
 returns-else-deref c =
-    let e = c.take_back.ensures in
+    let e = c.take_from.ensures in
     let value = sym c.in-Some.ensures.value ∙ sym c.deref_mut.ensures.value ∙ sym c.replace.ensures.value
     ∙ c.in-Pass.is in
     record {
-      takes = took_one c.args.held.now c.in-Owner.owner _ c.in-Pass.taken c.args.pass.now
+      takes = took_one c.args.held.now c.in-Owner.owner c.take_from.new.owner c.in-Pass.taken c.args.pass.now
           c.open.new.self c.in-Owner.is (c.open.ensures.some.0 (subst IsSome (sym c.in-Some.is) refl)) value (record {
-            same_tree = refl;
+            same_tree = e.tree;
             its_tree = c.requires.numbered c.in-Owner.owner c.in-Pass.taken c.in-Owner.is value
                 (sym (ap number c.deref.ensures) ∙ c.if-deref.false ∙ ap number c.deref-in-Pass.ensures);
             made = e.made;
