@@ -12,7 +12,6 @@ use ist_rows::{Caller, Kind, drop_pair, enter, reserve};
 use ist_rule::{TreeTable, begin_search, load_top};
 use ist_tree::OpenFault;
 use std::alloc::Global;
-use std::test::Fail;
 
 // The row at which the inner row in the anchor's slot lies, for which the caller gives up its pair row,
 // if that lies lower.
@@ -66,9 +65,9 @@ fn see_dropped(alloc: Global) -> Result<Option<Seen>, OpenFault> {
 }
 
 #[test]
-fn a_pair_row_below_that_of_a_put_is_given_up(rt: HostRuntime) -> Result<(), Fail> {
+fn a_pair_row_below_that_of_a_put_is_given_up(rt: HostRuntime) {
     // the leaf lies at 4, the rows of the put at 13, 15 and 22
-    let seen = see_dropped(rt.alloc())?;
-    same(&rt, &seen, &Some((Ok(6), Some(15), Ok(31))), "the rows");
-    Ok(())
+    let seen = see_dropped(rt.alloc());
+    let wanted = Some((Ok(6), Some(15), Ok(31)));
+    same(&rt, &seen, &Ok(wanted), "the rows");
 }

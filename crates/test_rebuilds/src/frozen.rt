@@ -1,5 +1,5 @@
 //! Rebuilds of a row whose slots hold pair rows, another rebuild, and the change of a put that came too late.
-ghost use Rattle.std.specs.Prelude.{◌≡◌, Some};
+ghost use Rattle.std.specs.Prelude.{◌≡◌, Some, IfSome};
 ghost use Rattle.ist_core.specs.declared.events.Who.TheVariants.{Maker};
 ghost use Rattle.test_rebuilds.specs.Late.{IsFilled};
 ghost use Rattle.ist_core.specs.Rebuilding.{IsStarted};
@@ -12,21 +12,19 @@ ghost use Rattle.ist_tree.specs.Insides.{IsPass};
 use crate::callers::{enter_call, help_on, mark, see_rebuild};
 use crate::judging::same;
 use crate::late::{LatePut, install_late, prepare};
-use crate::leaves::{are_few, are_pairs, part};
+use crate::leaves::{are_pairs, is_part};
 use crate::shapes::{LAST, Shape, bring_in, map_of};
 use crate::shares::begin_top;
-use crate::tables::{Opened, all_words, are_alike, is_image, open, open_numbered, word_at};
+use crate::tables::{Opened, is_image, open, open_numbered, word_at};
 use crate::updates::enter_idle;
 use ist_core::Pair;
 use ist_dcss::{Decision, Installed, help};
-use ist_layout::Ref;
 use ist_rebuild::Helped;
 use ist_rows::Caller;
 use ist_rule::{TreeTable, TreeToken};
 use ist_tree::OpenFault;
 use plain_map::Plain;
 use std::alloc::{AllocError, Global};
-use std::test::Fail;
 
 // What is seen of a rebuild: are the leaves below its finished target the map's leaves, is what is
 // built over them the ideal tree, was it replaced, and is the tree afterwards the ideal tree?
@@ -79,15 +77,8 @@ fn build_over(
     };
     let marked = mark(table, builder, rebuild);
     let leaves = are_pairs(table, maker, builder, rebuild, marked, pairs);
-    if !are_few(marked.keys) {
-        return Ok((leaves, false));
-    }
-    let Ok(Ref::Inner { base }) = part(table, builder, rebuild, marked) else {
-        return Ok((leaves, false));
-    };
-    let words = all_words(alloc, table, maker)?;
-    let roots = (*image.get(3).unwrap_or(&0), u64::from(base) * 8 + 2);
-    Ok((leaves, are_alike(alloc, image, words.as_slice(), roots)?))
+    let part = is_part(table, alloc, maker, builder, rebuild, marked, image)?;
+    Ok((leaves, part))
 }
 
 // Helps the late put, if it was installed.
@@ -151,6 +142,35 @@ fn may_install(table: &TreeTable, who: &mut Caller, put: LatePut, late: bool) ->
     }
 }
 
+// Fills a late put, starts a rebuild, and marks its row; then installs the put, if the test says so. Returns the rebuild too.
+fn freeze(
+    table: &TreeTable,
+    last: &mut Caller,
+    helper: &mut Caller,
+    late: bool,
+) -> Option<(LatePut, Option<Installed>, u32)>
+    requires last_table { last.old.token.table ≡ table.now.table }
+    requires last_pass { IsPass last.old }
+    requires helper_table { helper.old.token.table ≡ table.now.table }
+    requires helper_ready { IsReady helper.old }
+    ensures last_table { last.new.token.table ≡ table.now.table }
+    ensures may_help { IfSome result (λ frozen. frozen.1 ≡ Some Yes
+        → MayHelp last.new.token.view frozen.0.change) }
+    ensures helper_table { helper.new.token.table ≡ table.now.table }
+    ensures helper_ready { IsReady helper.new }
+    ensures started { IfSome result (λ frozen. IsStarted (now helper.new.token.view) frozen.2) }
+{
+    let Some(put) = prepare(table, last, 31, 9) else {
+        return None;
+    };
+    let Some(rebuild) = begin_top(table, helper) else {
+        return None;
+    };
+    mark(table, helper, rebuild);
+    let installed = may_install(table, last, put, late);
+    Some((put, installed, rebuild))
+}
+
 // Rebuilds the tree, which is in this shape, and installs the late put once its row is marked.
 fn see_late(
     table: &TreeTable,
@@ -169,14 +189,9 @@ fn see_late(
     requires builder_table { builder.old.token.table ≡ table.now.table }
     requires builder_ready { IsReady builder.old }
 {
-    let Some(put) = prepare(table, last, 31, 9) else {
+    let Some((put, installed, rebuild)) = freeze(table, last, helper, shape.late) else {
         return Ok(None);
     };
-    let Some(rebuild) = begin_top(table, helper) else {
-        return Ok(None);
-    };
-    mark(table, helper, rebuild);
-    let installed = may_install(table, last, put, shape.late);
     let tags = tags(table, maker);
     let map = map_of(alloc, shape)?;
     let rebuilt = rebuild_over(table, alloc, maker, helper, builder, rebuild, &map)?;
@@ -228,9 +243,7 @@ fn see(alloc: Global, shape: Shape) -> Result<Option<Seen>, OpenFault> {
 }
 
 #[test]
-fn a_rebuild_has_the_leaves_of_the_map_whatever_stands_in_the_slots(
-    rt: HostRuntime,
-) -> Result<(), Fail> {
+fn a_rebuild_has_the_leaves_of_the_map_whatever_stands_in_the_slots(rt: HostRuntime) {
     // how many pair rows in the first slot, whether a rebuild in the second, whether a late change in the
     // third; the tags of these slots: 1 a leaf, 2 a row, 3 a change, 4 a rebuild
     let cases = [
@@ -257,7 +270,6 @@ fn a_rebuild_has_the_leaves_of_the_map_whatever_stands_in_the_slots(
             },
             late: if late { Some(Decision::No) } else { None },
         };
-        same(&rt, &see(rt.alloc(), shape)?, &Some(wanted), shape);
+        same(&rt, &see(rt.alloc(), shape), &Ok(Some(wanted)), shape);
     }
-    Ok(())
 }

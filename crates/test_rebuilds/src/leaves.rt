@@ -17,8 +17,7 @@ use ist_rebuild::Started;
 use ist_rows::Caller;
 use ist_rule::{TreeTable, TreeToken, know};
 use ist_tree::OpenFault;
-use std::alloc::Global;
-use std::test::Fail;
+use std::alloc::{AllocError, Global};
 
 // Returns the base of the leaf that the reference names.
 fn base_of(reference: Ref) -> u32 {
@@ -71,13 +70,8 @@ pub(crate) fn are_pairs(
     right
 }
 
-/// Builds the ideal subtree over all leaves of the finished target, in rows that stay the caller's.
-pub(crate) fn part(
-    table: &TreeTable,
-    who: &mut Caller,
-    rebuild: u32,
-    marked: Marked,
-) -> Result<Ref, Full>
+// Builds the ideal subtree over all leaves of the finished target, in rows that stay the caller's.
+fn part(table: &TreeTable, who: &mut Caller, rebuild: u32, marked: Marked) -> Result<Ref, Full>
     requires same_table { who.old.token.table ≡ table.now.table }
     requires ready { IsReady who.old }
     requires marked { HasMarkedTarget (now who.old.token.view) rebuild marked.target marked.keys }
@@ -87,12 +81,39 @@ pub(crate) fn part(
     build_part(table, who, marked.target, 0, marked.keys)
 }
 
-/// Is the root over this many keys built whole?
-pub(crate) fn are_few(keys: u64) -> bool
+// Is the root over this many keys built whole?
+fn are_few(keys: u64) -> bool
     ensures few { IsTrue result → keys < share_from }
 {
     shared_roots_have_several_keys();
     keys < SHARE_FROM
+}
+
+/// Is the ideal subtree over all leaves of the finished target, which the caller builds, the tree of the image?
+pub(crate) fn is_part(
+    table: &TreeTable,
+    alloc: Global,
+    maker: &mut TreeToken,
+    who: &mut Caller,
+    rebuild: u32,
+    marked: Marked,
+    image: &[u64],
+) -> Result<bool, AllocError>
+    requires maker_table { maker.old.table ≡ table.now.table }
+    requires same_table { who.old.token.table ≡ table.now.table }
+    requires ready { IsReady who.old }
+    requires marked { HasMarkedTarget (now who.old.token.view) rebuild marked.target marked.keys }
+    ensures maker_table { maker.new.table ≡ table.now.table }
+{
+    if !are_few(marked.keys) {
+        return Ok(false);
+    }
+    let Ok(Ref::Inner { base }) = part(table, who, rebuild, marked) else {
+        return Ok(false);
+    };
+    let words = all_words(alloc, table, maker)?;
+    let roots = (*image.get(3).unwrap_or(&0), u64::from(base) * 8 + 2);
+    are_alike(alloc, image, words.as_slice(), roots)
 }
 
 // Is the leaf of each number its key's, and the part over them the tree of the image?
@@ -121,15 +142,8 @@ fn agree_in(
     }
     let pairs = numbered(alloc, last)?;
     let right = are_pairs(table, maker, who, rebuild, marked, pairs.as_slice());
-    if !are_few(marked.keys) {
-        return Ok((right, false));
-    }
-    let Ok(Ref::Inner { base }) = part(table, who, rebuild, marked) else {
-        return Ok((right, false));
-    };
-    let words = all_words(alloc, table, maker)?;
-    let roots = (*image.get(3).unwrap_or(&0), u64::from(base) * 8 + 2);
-    Ok((right, are_alike(alloc, image, words.as_slice(), roots)?))
+    let part = is_part(table, alloc, maker, who, rebuild, marked, image)?;
+    Ok((right, part))
 }
 
 // The same in a new table of this many pairs.
@@ -147,11 +161,8 @@ fn agree(alloc: Global, last: u64) -> Result<(bool, bool), OpenFault> {
 }
 
 #[test]
-fn leaves_are_numbered_by_their_keys_and_the_part_over_them_is_ideal(
-    rt: HostRuntime,
-) -> Result<(), Fail> {
+fn leaves_are_numbered_by_their_keys_and_the_part_over_them_is_ideal(rt: HostRuntime) {
     for last in [2, 3, 16, 17, 100, 200] {
-        same(&rt, &agree(rt.alloc(), last)?, &(true, true), last);
+        same(&rt, &agree(rt.alloc(), last), &Ok((true, true)), last);
     }
-    Ok(())
 }

@@ -1,8 +1,8 @@
 //! Rebuilds of small, of shared and of changed tables, by direct calls of the crates that mark,
 //! build and rebuild: only tests.
 //!
-//! Read `tables.rt` and `callers.rt`, then `turns.rt`, `races.rt`, `shortages.rt`, `shares.rt`,
-//! `leaves.rt` and `loads.rt`; then `updates.rt` and `late.rt`, and `marked.rt`, `shapes.rt`,
+//! Read `tables.rt` and `callers.rt`, then `marking.rt`, `turns.rt`, `races.rt`, `shortages.rt`,
+//! `shares.rt`, `leaves.rt` and `loads.rt`; then `updates.rt` and `late.rt`, and `marked.rt`, `shapes.rt`,
 //! `frozen.rt` and `standing.rt`. Uses `ist_updates` and the crates below it, and the laws of
 //! `ist_tree`.
 #![tactic(auto)]
@@ -25,6 +25,8 @@ mod leaves;
 mod loads;
 #[cfg(test)]
 mod marked;
+#[cfg(test)]
+mod marking;
 #[cfg(test)]
 mod races;
 #[cfg(test)]

@@ -12,15 +12,15 @@ ghost use Rattle.ist_rule.specs.Learning.{now, ExchangedOrLost};
 use crate::callers::{Marked, enter_call, help_on, mark, see_rebuild, set};
 use crate::judging::same;
 use crate::shares::begin_top;
-use crate::tables::{Opened, all_words, are_alike, open_numbered};
+use crate::tables::{Opened, all_words, open_numbered};
+use crate::turns::root_in;
 use ist_build::build_part;
 use ist_layout::{REBUILD_ROOT_OFFSET, Ref};
 use ist_rebuild::Helped;
 use ist_rows::Caller;
 use ist_rule::{TreeTable, TreeToken, exchange_or_lose, know, load};
 use ist_tree::OpenFault;
-use std::alloc::Global;
-use std::test::Fail;
+use std::alloc::{AllocError, Global};
 
 // Builds the root over two keys, in a row of the caller's own, and then looks whether the rebuild
 // has a root. If it has none yet, returns the word of what was built.
@@ -118,18 +118,33 @@ fn end(table: &TreeTable, who: &mut Caller, rebuild: u32) -> (Option<Ref>, bool)
     (root, help_on(table, who, rebuild) == Ok(Helped::Replaced))
 }
 
+// Does some word of the table name the row that the second of the two built?
+fn names_lost(
+    table: &TreeTable,
+    alloc: Global,
+    maker: &mut TreeToken,
+    raced: Option<Raced>,
+) -> Result<bool, AllocError>
+    requires same_table { maker.old.table ≡ table.now.table }
+{
+    let lost = match raced {
+        Some(raced) => raced.built.1,
+        None => 0,
+    };
+    let words = all_words(alloc, table, maker)?;
+    Ok(words.as_slice().contains(&lost))
+}
+
 // What is seen if two callers each build a root for a rebuild that a third has started: the
 // rebuilds that all found; the result of the race; the root that the starter gets, and whether the
-// target is then replaced; the used words and the root below the anchor afterwards; whether the
+// target is then replaced; the used words and the root below the anchor afterwards, and whether the
 // ideal tree is there; and whether some word names the row that was lost.
 #[derive(Clone, Copy, Debug, PartialEq, Eq, Drop)]
 struct Seen {
     rebuilds: (u32, u32, u32),
     raced: Option<Raced>,
     ended: (Option<Ref>, bool),
-    used: Option<u64>,
-    root: Option<u64>,
-    is_ideal: bool,
+    words: (Option<u64>, Option<u64>, bool),
     names_lost: bool,
 }
 
@@ -159,17 +174,14 @@ fn see_in(
     };
     let raced = race(table, first, second, one, two);
     let ended = end(table, starter, rebuild);
-    let words = all_words(alloc, table, maker)?;
-    let root = words.get(3).copied();
-    let lost = raced.map_or(0, |raced| raced.built.1);
+    let words = root_in(table, alloc, maker, image)?;
+    let names_lost = names_lost(table, alloc, maker, raced)?;
     Ok(Some(Seen {
         rebuilds: (rebuild, one, two),
         raced,
         ended,
-        used: words.first().copied(),
-        root,
-        is_ideal: are_alike(alloc, image, &words, (34, root.unwrap_or(0)))?,
-        names_lost: words.iter().any(|word| *word == lost),
+        words,
+        names_lost,
     }))
 }
 
@@ -195,7 +207,7 @@ fn see(alloc: Global) -> Result<Option<Seen>, OpenFault> {
 }
 
 #[test]
-fn of_two_that_build_a_root_at_once_the_second_loses_its_row(rt: HostRuntime) -> Result<(), Fail> {
+fn of_two_that_build_a_root_at_once_the_second_loses_its_row(rt: HostRuntime) {
     // Each has a row of its own: the rows of the start end at 29.
     let stands = Ref::Inner { base: 29 };
     let lost = Ref::Inner { base: 36 };
@@ -208,11 +220,8 @@ fn of_two_that_build_a_root_at_once_the_second_loses_its_row(rt: HostRuntime) ->
         // Whoever asks for the root gets the first one's. It is then below the anchor, and no word
         // of the table names the second one's row.
         ended: (Some(stands), true),
-        used: Some(52),
-        root: Some(stands.to_word()),
-        is_ideal: true,
+        words: (Some(52), Some(stands.to_word()), true),
         names_lost: false,
     };
-    same(&rt, &see(rt.alloc())?, &Some(wanted), "two pairs");
-    Ok(())
+    same(&rt, &see(rt.alloc()), &Ok(Some(wanted)), "two pairs");
 }

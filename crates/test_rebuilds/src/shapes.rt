@@ -4,10 +4,9 @@ ghost use Rattle.ist_core.specs.declared.events.Who.TheVariants.{Maker};
 ghost use Rattle.ist_tree.specs.Insides.{IsPass};
 
 use crate::callers::help_on;
-use crate::tables::numbered;
-use crate::updates::{enter_idle, start_due, update_all, update_due};
-use ist_core::{Command, Pair};
-use ist_rebuild::{Helped, Started};
+use crate::updates::{enter_idle, start_after, update_all};
+use ist_core::Command;
+use ist_rebuild::Helped;
 use ist_rows::Caller;
 use ist_rule::{TreeTable, TreeToken};
 use ist_tree::OpenFault;
@@ -55,8 +54,11 @@ fn chained(alloc: Global, count: u64) -> Result<Vec<(u64, Option<u64>)>, AllocEr
 }
 
 // Carries out the same updates on a map of one thread.
-fn follow(map: &mut Plain, updates: &[(u64, Option<u64>)]) -> Result<(), AllocError> {
-    for (key, value) in updates {
+fn follow(
+    map: &mut Plain,
+    updates: Result<Vec<(u64, Option<u64>)>, AllocError>,
+) -> Result<(), AllocError> {
+    for (key, value) in updates?.as_slice() {
         let key = *key;
         match *value {
             Some(value) => map.apply(Command::Put { key, value })?,
@@ -84,17 +86,9 @@ fn shrink(
 {
     let last = first.saturating_add(14);
     let updates = removes(alloc, first.saturating_add(1), last.saturating_sub(1))?;
-    if !update_all(table, most, updates.as_slice()) {
-        return Ok(false);
-    }
-    let Some(due) = update_due(table, rest, last, None) else {
-        return Ok(false);
-    };
-    match start_due(table, rest, due) {
-        Ok(Started::Yes { rebuild }) => {
-            Ok(help_on(table, rest, rebuild) == Ok(Helped::Replaced))
-        }
-        _ => Ok(false),
+    match start_after(table, most, rest, updates.as_slice(), last, None) {
+        Some((_, rebuild)) => Ok(help_on(table, rest, rebuild) == Ok(Helped::Replaced)),
+        None => Ok(false),
     }
 }
 
@@ -114,31 +108,35 @@ fn start_second(
     ensures pass { result ≡ Ok true → IsPass most.new }
 {
     let updates = puts(alloc, 16, 7)?;
-    if !update_all(table, most, updates.as_slice()) {
-        return Ok(false);
+    match start_after(table, most, starter, updates.as_slice(), 16, Some(1007)) {
+        Some(_) => Ok(true),
+        None => Ok(false),
     }
-    let Some(due) = update_due(table, starter, 16, Some(1007)) else {
-        return Ok(false);
-    };
-    match start_due(table, starter, due) {
-        Ok(Started::Yes { rebuild: _ }) => Ok(true),
-        _ => Ok(false),
+}
+
+// Puts the pairs that the table has at first.
+fn fill(map: &mut Plain) -> Result<(), AllocError> {
+    for key in 1..LAST + 1 {
+        map.apply(Command::Put { key, value: key })?;
     }
+    Ok(())
+}
+
+// Carries out the updates that bring a tree of these pairs into this shape.
+fn follow_all(alloc: Global, map: &mut Plain, shape: Shape) -> Result<(), AllocError> {
+    follow(map, removes(alloc, 2, 15))?;
+    follow(map, removes(alloc, 32, 45))?;
+    if shape.rebuilt {
+        follow(map, puts(alloc, 16, 8))?;
+    }
+    follow(map, chained(alloc, shape.chain))
 }
 
 /// Returns what the map holds after the updates that bring a tree of all pairs into this shape.
 pub(crate) fn map_of(alloc: Global, shape: Shape) -> Result<Plain, AllocError> {
     let mut map = Plain::new(alloc);
-    for pair in numbered(alloc, LAST)?.as_slice() {
-        let Pair { key, value } = *pair;
-        map.apply(Command::Put { key, value })?;
-    }
-    follow(&mut map, removes(alloc, 2, 15)?.as_slice())?;
-    follow(&mut map, removes(alloc, 32, 45)?.as_slice())?;
-    if shape.rebuilt {
-        follow(&mut map, puts(alloc, 16, 8)?.as_slice())?;
-    }
-    follow(&mut map, chained(alloc, shape.chain)?.as_slice())?;
+    fill(&mut map)?;
+    follow_all(alloc, &mut map, shape)?;
     Ok(map)
 }
 

@@ -12,7 +12,6 @@ use ist_rule::{TreeTable, TreeToken};
 use ist_tree::OpenFault;
 use std::alloc::Global;
 use std::process::Abort;
-use std::test::Fail;
 
 // The results of starting a rebuild of all pairs, and of helping it.
 #[derive(Clone, Copy, Debug, PartialEq, Eq, Drop)]
@@ -92,46 +91,60 @@ const OF_SIXTEEN: [(u64, u64, Option<u32>); 16] = [
     (240, 9, None),
 ];
 
-// Fails unless a rebuild of this many pairs is refused this row, where too few words are left for it: none, or all but one.
-fn is_refused(
-    rt: &impl Abort,
+// Why a rebuild of this many pairs in this many words is refused, and the rebuild row that is still the caller's.
+fn refused_in(
     alloc: Global,
     last: u64,
-    row: &(u64, u64, Option<u32>),
-) -> Result<(), OpenFault> {
+    words: u64,
+) -> Result<(Option<Full>, Option<u32>), OpenFault> {
+    let came = see(alloc, last, words)?;
+    Ok((came.refused, came.held))
+}
+
+// Fails unless a rebuild of this many pairs is refused this row, where too few words are left for it: none, or all but one.
+fn is_refused(rt: &impl Abort, alloc: Global, last: u64, row: &(u64, u64, Option<u32>)) {
     let (next, asked, held) = *row;
     for words in [next, next.saturating_add(asked).saturating_sub(1)] {
-        let came = see(alloc, last, words)?;
         let full = Full { next, asked, words };
-        same(rt, &came.refused, &Some(full), (last, words));
-        same(rt, &came.held, &held, (last, words));
+        let found = refused_in(alloc, last, words);
+        same(rt, &found, &Ok((Some(full), held)), (last, words));
     }
-    Ok(())
+}
+
+// Fails unless a rebuild of this many pairs is refused each of these rows.
+fn is_refused_each(rt: &impl Abort, alloc: Global, last: u64, rows: &[(u64, u64, Option<u32>)]) {
+    for row in rows {
+        is_refused(rt, alloc, last, row);
+    }
+}
+
+// Returns why a rebuild of this many pairs in this many words is refused, if it is.
+fn refusal_in(alloc: Global, last: u64, words: u64) -> Result<Option<Full>, OpenFault> {
+    let came = see(alloc, last, words)?;
+    Ok(came.refused)
 }
 
 #[test]
-fn a_rebuild_is_refused_by_the_first_row_that_finds_no_room(rt: HostRuntime) -> Result<(), Fail> {
-    // the pairs, the rows, the words that suffice
-    let cases = [(2, OF_TWO.as_slice(), 45), (16, OF_SIXTEEN.as_slice(), 249)];
-    for (last, rows, enough) in cases {
-        for row in rows {
-            is_refused(&rt, rt.alloc(), last, row)?;
-        }
-        let came = see(rt.alloc(), last, enough)?;
-        same(&rt, &came.refused, &None, (last, enough));
-    }
-    Ok(())
+fn a_rebuild_is_refused_by_the_first_row_that_finds_no_room(rt: HostRuntime) {
+    let alloc = rt.alloc();
+    is_refused_each(&rt, alloc, 2, &OF_TWO);
+    is_refused_each(&rt, alloc, 16, &OF_SIXTEEN);
+    // the pairs, the words that suffice
+    same(&rt, &refusal_in(alloc, 2, 45), &Ok(None), 2);
+    same(&rt, &refusal_in(alloc, 16, 249), &Ok(None), 16);
+}
+
+// Returns the word of the rebuild's root after a rebuild of two pairs in this many words.
+fn root_in(alloc: Global, words: u64) -> Result<u64, OpenFault> {
+    let came = see(alloc, 2, words)?;
+    Ok(came.root)
 }
 
 #[test]
-fn a_refused_build_leaves_no_root_and_a_refused_finish_leaves_it(
-    rt: HostRuntime,
-) -> Result<(), Fail> {
+fn a_refused_build_leaves_no_root_and_a_refused_finish_leaves_it(rt: HostRuntime) {
     // the words of a table of two pairs, the root word after a rebuild there
     let cases = [(28, 0), (29, 7), (35, 7), (36, 234), (44, 234), (45, 234)];
     for (words, root) in cases {
-        let came = see(rt.alloc(), 2, words)?;
-        same(&rt, &came.root, &root, words);
+        same(&rt, &root_in(rt.alloc(), words), &Ok(root), words);
     }
-    Ok(())
 }

@@ -7,7 +7,7 @@ ghost use Rattle.ist_core.specs.RowLayout.{place_limit};
 use ist_core::{Command, Pair};
 use ist_image::{lay_image, needed_words};
 use ist_layout::ANCHOR_SLOT_PLACE;
-use ist_rule::{TreeTable, TreeToken, begin_search, load, load_top, open_table, word_count};
+use ist_rule::{TreeTable, TreeToken, begin_search, load, load_top, open_table_over, word_count};
 use ist_tree::OpenFault;
 use plain_map::Plain;
 use std::alloc::{AllocError, Global};
@@ -36,7 +36,7 @@ fn open_rising(alloc: Global, pairs: &[Pair], words: u64) -> Result<Opened, Open
     }
     let kept = pairs.to_vec(alloc)?;
     let image = lay_image(alloc, words, pairs)?;
-    let (table, maker) = open_table(alloc, lay_image(alloc, words, pairs)?, &kept)?;
+    let (table, maker) = open_table_over(alloc, image.as_slice(), &kept)?;
     Ok(Opened {
         table,
         maker,

@@ -12,7 +12,6 @@ use ist_rows::Caller;
 use ist_rule::{TreeTable, TreeToken};
 use ist_tree::OpenFault;
 use std::alloc::{AllocError, Global};
-use std::test::Fail;
 
 const FIVE: Pair = Pair { key: 5, value: 7 };
 
@@ -34,8 +33,8 @@ struct Seen {
     late: (Option<Result<Helped, Full>>, Option<u32>, u64),
 }
 
-// How many words of the table are used, the word of the anchor's slot, and whether the tree of the image is below it.
-fn root_in(
+/// How many words of the table are used, the word of the anchor's slot, and whether the tree of the image is below it.
+pub(crate) fn root_in(
     table: &TreeTable,
     alloc: Global,
     maker: &mut TreeToken,
@@ -48,6 +47,26 @@ fn root_in(
     let (used, root) = (words.first().copied(), words.get(3).copied());
     let is_ideal = are_alike(alloc, image, &words, (34, root.unwrap_or(0)))?;
     Ok((used, root, is_ideal))
+}
+
+// The rebuild that the caller finds, the row that it marks with its keys and its status, and its help.
+fn help_found(
+    table: &TreeTable,
+    maker: &mut TreeToken,
+    who: &mut Caller,
+) -> Option<((u32, u32, u64, u64), Result<Helped, Full>)>
+    requires maker_table { maker.old.table ≡ table.now.table }
+    requires same_table { who.old.token.table ≡ table.now.table }
+    requires ready { IsReady who.old }
+    ensures maker_table { maker.new.table ≡ table.now.table }
+{
+    let Some(seen) = see_rebuild(table, who) else {
+        return None;
+    };
+    let marked = mark(table, who, seen);
+    let status = word_at(table, maker, 4);
+    let helped = help_on(table, who, seen);
+    Some(((seen, marked.target, marked.keys, status), helped))
 }
 
 // The same in a table of both pairs, whose words were the image.
@@ -68,23 +87,20 @@ fn see_in(
     let (Some(one), Some(two)) = (see_row(table, starter), see_row(table, helper)) else {
         return Ok(None);
     };
-    let starts = (begin(table, starter, one), begin(table, helper, two));
+    let (start, other) = (begin(table, starter, one), begin(table, helper, two));
     let held = (helper.rebuild, helper.change);
-    let Some(seen) = see_rebuild(table, helper) else {
+    let Some((marked, helped)) = help_found(table, maker, helper) else {
         return Ok(None);
     };
-    let marked = mark(table, helper, seen);
-    let status = word_at(table, maker, 4);
-    let helped = help_on(table, helper, seen);
     let words = root_in(table, alloc, maker, image)?;
-    let ended = match starts.0 {
+    let ended = match start {
         Ok(Started::Yes { rebuild }) => Some(help_on(table, starter, rebuild)),
         _ => None,
     };
     Ok(Some(Seen {
-        starts,
+        starts: (start, other),
         held,
-        marked: (seen, marked.target, marked.keys, status),
+        marked,
         helped,
         words,
         late: (ended, starter.change, word_at(table, maker, 0)),
@@ -104,7 +120,7 @@ fn see(alloc: Global) -> Result<Option<Seen>, OpenFault> {
 }
 
 #[test]
-fn a_rebuild_is_ended_by_another_than_who_started_it(rt: HostRuntime) -> Result<(), Fail> {
+fn a_rebuild_is_ended_by_another_than_who_started_it(rt: HostRuntime) {
     let wanted = Seen {
         // The other finds the rebuild of the first, and holds its own rows, which lie from 29 on.
         starts: (
@@ -119,6 +135,5 @@ fn a_rebuild_is_ended_by_another_than_who_started_it(rt: HostRuntime) -> Result<
         // The caller that comes too late has reserved a change row, which it still holds.
         late: (Some(Ok(Helped::Replaced)), Some(50), 59),
     };
-    same(&rt, &see(rt.alloc())?, &Some(wanted), "two pairs");
-    Ok(())
+    same(&rt, &see(rt.alloc()), &Ok(Some(wanted)), "two pairs");
 }

@@ -1,4 +1,4 @@
-use Rattle.test_rebuilds.proofs.leaves.agree_in.Goals as goal
+use Rattle.test_rebuilds.proofs.leaves.is_part.Goals as goal
 
 -- so few keys are a share of their own
 pub part-requires-clause-few : goal.part-requires-clause-few
