@@ -8,7 +8,7 @@ import sys
 sys.dont_write_bytecode = True
 import build
 
-# The most memory that a check of this repository takes, in bytes, with some to spare: 2.6 GB in `tele` and `test_parts`.
+# The most memory that a check of this repository takes, in bytes, with some to spare: 2.6 GB in `tele`.
 MEMORY_OF_A_CHECK = 2_700_000_000
 
 

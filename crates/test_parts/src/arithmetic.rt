@@ -6,7 +6,6 @@ use crate::judging::same;
 use ist_math::{child_and_looks, child_of, degree, guess, ideal_words, limit, part};
 use std::alloc::{AllocError, Global};
 use std::process::Abort;
-use std::test::Fail;
 
 // Fails unless these are the guess and the child for the key in even keys.
 fn is_even(rt: &impl Abort, key: u64, near: u64, child: usize) {
@@ -245,34 +244,30 @@ fn most_looks(rt: &impl Abort, keys: &[u64]) -> usize {
 }
 
 // Fails unless this is the most looks in these keys.
-fn take_looks(
-    rt: &impl Abort,
-    keys: Result<Vec<u64>, AllocError>,
-    most: usize,
-    of: &str,
-) -> Result<(), AllocError> {
-    let keys = keys?;
-    same(rt, &most_looks(rt, &keys), &most, of);
-    Ok(())
+fn take_looks(rt: &impl Abort, keys: Result<Vec<u64>, AllocError>, most: usize, of: &str) {
+    let looks = match keys {
+        Ok(keys) => Ok(most_looks(rt, &keys)),
+        Err(error) => Err(error),
+    };
+    same(rt, &looks, &Ok(most), of);
 }
 
 #[test]
-fn few_keys_are_looked_at_however_they_lie(rt: HostRuntime) -> Result<(), Fail> {
+fn few_keys_are_looked_at_however_they_lie(rt: HostRuntime) {
     let alloc = rt.alloc();
     // the keys, the most looks
     let seconds = keys_by(alloc, 1000, Lie::Seconds);
-    take_looks(&rt, seconds, 4, "rising seconds")?;
+    take_looks(&rt, seconds, 4, "rising seconds");
     let bursts = keys_by(alloc, 1000, Lie::Bursts);
-    take_looks(&rt, bursts, 20, "two bursts, a year apart")?;
+    take_looks(&rt, bursts, 20, "two bursts, a year apart");
     let squares = keys_by(alloc, 1000, Lie::Squares);
-    take_looks(&rt, squares, 18, "squares")?;
+    take_looks(&rt, squares, 18, "squares");
     let one_far = keys_by(alloc, 1000, Lie::OneFar);
-    take_looks(&rt, one_far, 21, "one key at the end")?;
+    take_looks(&rt, one_far, 21, "one key at the end");
     let random = random_keys(alloc, 1000, 1);
-    take_looks(&rt, random, 10, "random, by the seed 1")?;
+    take_looks(&rt, random, 10, "random, by the seed 1");
     let four = keys_by(alloc, 4, Lie::Squares);
-    take_looks(&rt, four, 4, "four squares")?;
+    take_looks(&rt, four, 4, "four squares");
     let five = keys_by(alloc, 5, Lie::Squares);
-    take_looks(&rt, five, 4, "five squares")?;
-    Ok(())
+    take_looks(&rt, five, 4, "five squares");
 }

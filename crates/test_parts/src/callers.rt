@@ -2,8 +2,8 @@
 ghost use Rattle.std.specs.Prelude.{◌≡◌};
 ghost use Rattle.ist_rows.specs.Rows.{IsCaller};
 
-use crate::empty_table;
 use crate::judging::same;
+use crate::tables::empty_table;
 use ist_core::Full;
 use ist_layout::NEXT_PLACE;
 use ist_rows::{Caller, Kind, enter, fill, reserve};
@@ -89,10 +89,11 @@ fn logs_of_different_length_meet(rt: HostRuntime) {
     same(&rt, &meet_in_14(rt.alloc()), &Ok((Ok(4), 1, 6)), "the two");
 }
 
-const KINDS: [Kind; 4] = [Kind::Leaf, Kind::Pair, Kind::Change, Kind::Rebuild];
+// The row that a caller reserved, if there were words, and how many words it has.
+type Reserved = (Option<u32>, u64);
 
 // Reserves one row of each kind, as far as there are words.
-fn reserve_each(table: &TreeTable, who: Caller) -> [Option<u32>; 4]
+fn reserve_each(table: &TreeTable, who: Caller) -> [Reserved; 4]
     requires same_table { who.token.table ≡ table.now.table }
     requires caller { IsCaller who }
 {
@@ -101,16 +102,16 @@ fn reserve_each(table: &TreeTable, who: Caller) -> [Option<u32>; 4]
     let pair = reserve(table, &mut who, Kind::Pair).ok();
     let change = reserve(table, &mut who, Kind::Change).ok();
     let rebuild = reserve(table, &mut who, Kind::Rebuild).ok();
-    [leaf, pair, change, rebuild]
+    [(leaf, 2), (pair, 7), (change, 9), (rebuild, 5)]
 }
 
 // Returns how many of the rows have a word at this place.
-fn rows_over(bases: &[Option<u32>; 4], place: u64) -> u64 {
+fn rows_over(rows: &[Reserved; 4], place: u64) -> u64 {
     let mut count = 0u64;
-    for (base, kind) in bases.iter().zip(KINDS) {
+    for (base, words) in rows {
         if let Some(base) = base {
             let base = u64::from(*base);
-            if base <= place && place < base + kind.words() {
+            if base <= place && place - base < *words {
                 count = count.wrapping_add(1);
             }
         }
@@ -118,9 +119,19 @@ fn rows_over(bases: &[Option<u32>; 4], place: u64) -> u64 {
     count
 }
 
+// Was a row refused?
+fn is_refused(rows: &[Reserved; 4]) -> bool {
+    for (base, _) in rows {
+        if base.is_none() {
+            return true;
+        }
+    }
+    false
+}
+
 // The first place of a table of 20 words that isn't in one of these rows, though it is from 4 on and before the next free word,
 // or that is in one otherwise.
-fn first_wrong(left: &[Option<u32>; 4], right: &[Option<u32>; 4], next: u64) -> Option<u64> {
+fn first_wrong(left: &[Reserved; 4], right: &[Reserved; 4], next: u64) -> Option<u64> {
     for place in 0..20 {
         let over = rows_over(left, place).wrapping_add(rows_over(right, place));
         let wanted = if place >= 4 && place < next { 1 } else { 0 };
@@ -152,7 +163,7 @@ fn reserve_beside<R: Threads + Sync>(
     );
     let next = load(&table, &mut maker, NEXT_PLACE);
     let wrong = first_wrong(&left, &right, next);
-    Ok((wrong, left.contains(&None), right.contains(&None)))
+    Ok((wrong, is_refused(&left), is_refused(&right)))
 }
 
 #[test]

@@ -1,7 +1,7 @@
-//! Installed changes.
-ghost use Rattle.std.specs.Prelude.{◌≡◌, ◌+◌, ◌<◌, ◌≤◌, None, Some};
+//! Puts that are installed.
+ghost use Rattle.std.specs.Prelude.{◌≡◌, ◌+◌, ◌<◌, ◌≤◌, None, Some, true};
 ghost use Rattle.ist_core.specs.RowLayout.{place_limit};
-ghost use Rattle.ist_rows.specs.Rows.{IsCaller};
+ghost use Rattle.ist_rows.specs.Rows.{IsCaller, spares_of, no_spares};
 ghost use Rattle.ist_dcss.specs.declared.decisions.Installed.TheVariants.{Yes};
 ghost use Rattle.ist_dcss.specs.Helping.{MayHelp};
 ghost use Rattle.ist_dcss.specs.Installing.{Filling};
@@ -9,13 +9,13 @@ ghost use Rattle.test_parts.specs.Samples.{sample_put};
 
 use ist_core::Command;
 use ist_dcss::{Installed, install};
-use ist_layout::{PUT_KIND, Ref, START_KIND, UNDECIDED};
-use ist_rows::{Caller, Kind, fill_row};
-use ist_rule::{TreeTable, begin_call, begin_search, know, load_top};
+use ist_layout::{PUT_KIND, Ref, UNDECIDED};
+use ist_rows::{Caller, Kind, fill_row, reserve};
+use ist_rule::{TreeTable, begin_call, know};
 
 /// Fills a put of the value at the key 1 into both rows, and installs it in the anchor's slot, if that slot
 /// is empty.
-pub fn install_put(
+pub(crate) fn install_put(
     table: &TreeTable,
     who: &mut Caller,
     leaf: u32,
@@ -49,34 +49,27 @@ pub fn install_put(
     install(table, &mut who.token, change)
 }
 
-/// Fills a start of a rebuild of the row at 4 into the rows at 15 and 20, and installs it in the
-/// anchor's slot, if that slot holds the row.
-pub fn install_start(table: &TreeTable, who: &mut Caller) -> Installed
+/// Reserves a leaf row and a change row, and installs a put with them, if the caller is the first
+/// and the rows lie at 4 and 6. Returns whether it is installed.
+pub(crate) fn begin_put(table: &TreeTable, who: &mut Caller) -> bool
     requires same_table { who.old.token.table ≡ table.now.table }
     requires caller { IsCaller who.old }
-    requires rows { (who.old.rebuild ≡ Some 15) × (who.old.change ≡ Some 20) }
-    requires number { who.old.number ≡ 0 }
+    requires no_rows { spares_of who.old ≡ no_spares }
     requires in_none { who.old.token.view.pending ≡ None }
     ensures same_table { who.new.token.table ≡ table.now.table }
-    ensures may_help { result ≡ Yes → MayHelp who.new.token.view 20 }
+    ensures may_help { result ≡ true → MayHelp who.new.token.view 6 }
 {
-    begin_search(table, &mut who.token);
-    let from = Ref::Inner { base: 4 }.to_word();
-    let to = Ref::Rebuild { base: 15 }.to_word();
-    let unset = Ref::Unset.to_word();
-    fill_row(table, who, Kind::Rebuild, 15, &[4, 2, 0, unset, 0]);
-    fill_row(
-        table,
-        who,
-        Kind::Change,
-        20,
-        &[UNDECIDED, START_KIND, 2, 0, from, to, 0, 0, 0],
-    );
-    know(&who.token);
-    let met = load_top(table, &mut who.token);
-    if met != from {
-        return Installed::Other(met);
+    if reserve(table, who, Kind::Leaf) != Ok(4) {
+        return false;
     }
-    begin_call(table, &mut who.token, None);
-    install(table, &mut who.token, 20)
+    if reserve(table, who, Kind::Change) != Ok(6) {
+        return false;
+    }
+    if who.number != 0 || who.leaf != Some(4) || who.change != Some(6) {
+        return false;
+    }
+    match install_put(table, who, 4, 6, 1) {
+        Installed::Yes => true,
+        Installed::Other(_) => false,
+    }
 }

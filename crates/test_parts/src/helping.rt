@@ -2,8 +2,7 @@
 ghost use Rattle.std.specs.Prelude.{◌≡◌, None};
 ghost use Rattle.ist_rows.specs.Rows.{IsCaller, spares_of, no_spares};
 
-use crate::beginnings::begin_put;
-use crate::changes::install_put;
+use crate::changes::{begin_put, install_put};
 use crate::judging::same;
 use crate::samples::word_at;
 use crate::tables::empty_table;

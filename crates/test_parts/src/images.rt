@@ -3,32 +3,31 @@
 use crate::judging::same;
 use ist_core::Pair;
 use ist_image::{lay_image, needed_words};
-use std::test::Fail;
+use std::alloc::AllocError;
+use std::process::Abort;
 
 const LOW: Pair = Pair { key: 5, value: 7 };
 
 const HIGH: Pair = Pair { key: 9, value: 1 };
 
+// Fails unless these are the words of the image.
+fn is_laid(rt: &impl Abort, image: Result<Vec<u64>, AllocError>, words: &[u64], of: &str) {
+    let found = match &image {
+        Ok(image) => Ok(image.as_slice()),
+        Err(error) => Err(*error),
+    };
+    same(rt, &found, &Ok(words), of);
+}
+
 #[test]
-fn small_tables_are_laid_word_by_word(rt: HostRuntime) -> Result<(), Fail> {
-    let one = lay_image(rt.alloc(), 16, &[LOW])?;
-    same(
-        &rt,
-        &one.as_slice(),
-        &[6, 0, 0, 33, 5, 7, 0, 0, 0, 0, 0, 0, 0, 0, 0, 0].as_slice(),
-        "one pair",
-    );
-    let two = lay_image(rt.alloc(), 20, &[LOW, HIGH])?;
-    same(
-        &rt,
-        &two.as_slice(),
-        &[
-            15, 0, 0, 34, 0, 0, 2, 2, 9, 89, 105, 5, 7, 9, 1, 0, 0, 0, 0, 0,
-        ]
-        .as_slice(),
-        "two pairs",
-    );
-    Ok(())
+fn small_tables_are_laid_word_by_word(rt: HostRuntime) {
+    let alloc = rt.alloc();
+    let words = [6, 0, 0, 33, 5, 7, 0, 0, 0, 0, 0, 0, 0, 0, 0, 0];
+    is_laid(&rt, lay_image(alloc, 16, &[LOW]), &words, "one pair");
+    let words = [
+        15, 0, 0, 34, 0, 0, 2, 2, 9, 89, 105, 5, 7, 9, 1, 0, 0, 0, 0, 0,
+    ];
+    is_laid(&rt, lay_image(alloc, 20, &[LOW, HIGH]), &words, "two pairs");
 }
 
 #[test]

@@ -1,19 +1,16 @@
-//! The crates below the tree, call by call, and worked schedules of several callers: only tests.
+//! The crates below the tree, call by call, and puts that several callers help: only tests.
 //!
 //! Read `ports.rt`, `arithmetic.rt` and `layouts.rt`, then `images.rt`, `callers.rt` and `searches.rt` with
-//! `samples.rt`; of the schedules `beginnings.rt`, `helping.rt` and `marking.rt`, then `races.rt` with
-//! `specs/Racing.antt`. What they begin with, small tables and installed changes, is in
-//! `specs/Samples.antt`, `tables.rt` and `changes.rt`. Uses `ist_core`, `ist_math`, `ist_layout`,
-//! `ist_image`, `ist_rule`, `ist_rows`, `ist_dcss`, `ist_mark` and `ist_find`, and the laws of
-//! `laws_links` and `laws_coming`.
+//! `samples.rt`, and then `helping.rt`. What they begin with, small tables and an installed put, is in
+//! `tables.rt` and `changes.rt` with `specs/Samples.antt`. Uses `ist_core`, `ist_math`, `ist_layout`,
+//! `ist_image`, `ist_rule`, `ist_rows`, `ist_dcss` and `ist_find`.
 #![tactic(auto)]
 
 #[cfg(test)]
 mod arithmetic;
 #[cfg(test)]
-mod beginnings;
-#[cfg(test)]
 mod callers;
+#[cfg(test)]
 mod changes;
 #[cfg(test)]
 mod helping;
@@ -24,16 +21,10 @@ mod judging;
 #[cfg(test)]
 mod layouts;
 #[cfg(test)]
-mod marking;
-#[cfg(test)]
 mod ports;
-#[cfg(test)]
-mod races;
 #[cfg(test)]
 mod samples;
 #[cfg(test)]
 mod searches;
+#[cfg(test)]
 mod tables;
-
-pub use changes::{install_put, install_start};
-pub use tables::{empty_table, table_of_two};

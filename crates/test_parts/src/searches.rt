@@ -3,11 +3,11 @@ ghost use Rattle.std.specs.Prelude.{◌≡◌, ◌<◌, ◌^◌, None, IfOk};
 ghost use Rattle.ist_rows.specs.Rows.{IsCaller, spares_of, no_spares};
 ghost use Rattle.ist_find.specs.Searches.{IsRow};
 
-use crate::beginnings::begin_put;
+use crate::changes::begin_put;
 use crate::helping::help_met;
 use crate::judging::same;
 use crate::samples::pairs_of;
-use crate::tables::{empty_table, table_of_two};
+use crate::tables::empty_table;
 use ist_core::Pair;
 use ist_dcss::Decision;
 use ist_find::{Child, Found, Span, child_at, find_and_loads, find_from_anchor, find_span};
@@ -16,12 +16,14 @@ use ist_rows::{Caller, enter};
 use ist_rule::{TreeTable, TreeToken, begin_search, open_table};
 use std::alloc::{AllocError, Global};
 
-// The table of two pairs: an inner row at 4, and two leaves.
+// A table of 20 words with the pairs (5, 7) and (9, 1): an inner row at 4, and two leaves.
 fn two_pairs(alloc: Global) -> Result<(TreeTable, TreeToken), AllocError>
     ensures same_table { IfOk result (λ t. t.1.table ≡ t.0.table) }
     ensures row { IfOk result (λ t. IsRow t.1.view 4) }
 {
-    table_of_two(alloc)
+    let pairs = vec![in alloc; Pair { key: 5, value: 7 }, Pair { key: 9, value: 1 }]?;
+    let image = lay_image(alloc, 20, pairs.as_slice())?;
+    open_table(alloc, image, &pairs)
 }
 
 // Returns the child for a key in the row of the table of two pairs, and what is found at the key.

@@ -1,5 +1,5 @@
 use Rattle.test_parts.specs.Samples.{sample_put}
-use Rattle.test_parts.proofs.beginnings.begin_put.Given as goal
+use Rattle.test_parts.proofs.changes.begin_put.Given as goal
 
 -- it installs the caller's put of the leaf
 abbrev pub ghost-install_put : goal.ghost-install_put
