@@ -1,15 +1,13 @@
 -- A caller whose token went on by its own events, in terms of its views. Serves `laws`.
-use Rattle.std.proofs.Common.{◌≡◌, ℕ, ◌==◌, not, List, ◌∷◌, map, filter, sym, ap, ◌∙◌, subst, inl, inr}
+use Rattle.std.proofs.Common.{◌≡◌, ℕ, not, List, ◌∷◌, map, filter, sym, ap, ◌∙◌, subst, inl, inr}
 use Rattle.ist_core.specs.declared.events.Event.{Event}
 use Rattle.ist_core.specs.declared.lists.HeldRow.{HeldRow}
 use Rattle.ist_core.specs.declared.pairs.Pair.{Pair}
 use Rattle.ist_core.specs.Authors.{no_more, one_more, whose, Later, LaterBy}
 use Rattle.ist_core.specs.Deciding.{AllResolvedOf}
-use Rattle.ist_core.specs.Elements.{Among}
 use Rattle.ist_core.specs.Lawful.{EachEnabled, Lawful, state_of}
 use Rattle.ist_core.specs.Logs.{Log, same_log, one_event}
 use Rattle.ist_core.specs.StartLayout.{start}
-use Rattle.ist_core.proofs.ElementLemmas.{among-filter, among_filter}
 use Rattle.ist_rule.specs.declared.view.View.{View}
 use Rattle.ist_core.specs.declared.events.Who.TheVariants.{Caller as CallerOf}
 use Rattle.ist_rule.specs.Conditions.{IsResolved}
@@ -33,7 +31,6 @@ use Rattle.ist_rows.proofs.CallerLemmas.{IsCallerIn, caller_later}
 use Rattle.ist_rows.proofs.GivenRowsLemmas.{sizes_given, caller_given}
 use Rattle.ist_rows.proofs.HeldAfterLemmas.{held_by_own, held_by_went, after_between, caller_between}
 use Rattle.ist_rows.proofs.HeldListLemmas.{held_by_later}
-use Rattle.ist_rows.proofs.CallerGoingLemmas.{base_same}
 
 -- ---- many events
 
@@ -47,18 +44,6 @@ same_held who token c g =
     ∙ held_by_went v.start v.words who.number v.log token.view.log
     (went_lawful KeepsRows v token.view g).enabled
     (subst (λ w. LaterBy w KeepsRows v.log token.view.log) c.mine g.later)
-
--- a row that its token's caller holds is held still
-pub row_went : (v w : View) → WentOn KeepsRows v w → (h : HeldRow) → v.who ≡ CallerOf h.caller
-    → Among h (now v).held → Among h (now w).held
-row_went v w g h mine i =
-    let same = ap (λ t. held_by t h.caller) (went_now KeepsRows v w g)
-    ∙ held_by_went v.start v.words h.caller v.log w.log (went_lawful KeepsRows v w g).enabled
-    (subst (λ who. LaterBy who KeepsRows v.log w.log) mine g.later) in
-    (among-filter (λ (x : HeldRow). x.caller == h.caller) h (now w).held
-    (subst (Among h) (sym same)
-    (among_filter (λ (x : HeldRow). x.caller == h.caller) h (now v).held i
-    (base_same h.caller)))).0
 
 -- a caller whose token went on by events that keep rows is still a caller
 pub caller_went : (who : Caller) (token : TokenFace) → IsCaller who
