@@ -2,11 +2,11 @@
 //! audit of the dump agrees with the closed tree.
 ghost use Rattle.std.specs.Prelude.{◌≡◌, ◌≤◌};
 
+use crate::judging::same;
 use ist_core::Pair;
 use ist_rest::Closed;
 use ist_tree::{Pass, Tree};
 use std::alloc::{AllocError, Global};
-use std::test::Fail;
 use tele_audit::{Audited, audit, dump};
 use tele_io::{MemorySink, MemorySource, QuietSink, SinkFault};
 
@@ -94,17 +94,24 @@ fn see_ten(alloc: Global, words: u32) -> Result<(bool, u64, bool, u64), AllocErr
     Ok((told, count, closed.settled(), closed.used()))
 }
 
-#[test]
-fn an_audit_tells_what_a_closed_tree_of_any_size_does(rt: HostRuntime) -> Result<(), Fail> {
-    for words in 4..259 {
-        let (told, _, _, _) = see_ten(rt.alloc(), words)?;
-        assert!(rt; told, "{words} words");
-    }
-    Ok(())
+// Returns whether an audit agrees with it.
+fn is_ten_told(alloc: Global, words: u32) -> Result<bool, AllocError>
+    requires least { 4 ≤ words }
+    requires most { words ≤ 1000 }
+{
+    let (closed, _count) = ten(alloc, words)?;
+    is_told(alloc, &closed)
 }
 
 #[test]
-fn trees_that_are_closed_in_a_rebuild_are_told(rt: HostRuntime) -> Result<(), Fail> {
+fn an_audit_tells_what_a_closed_tree_of_any_size_does(rt: HostRuntime) {
+    for words in 4..259 {
+        same(&rt, &is_ten_told(rt.alloc(), words), &Ok(true), words);
+    }
+}
+
+#[test]
+fn trees_that_are_closed_in_a_rebuild_are_told(rt: HostRuntime) {
     // the words, whether the closed tree is settled, how many words it uses
     let cases = [
         (177, false, 177),
@@ -115,37 +122,34 @@ fn trees_that_are_closed_in_a_rebuild_are_told(rt: HostRuntime) -> Result<(), Fa
         (258, true, 258),
     ];
     for (words, settled, used) in cases {
-        let seen = see_ten(rt.alloc(), words)?;
-        assert_eq!(rt; seen, (true, 10, settled, used), "{words} words");
+        let seen = see_ten(rt.alloc(), words);
+        same(&rt, &seen, &Ok((true, 10, settled, used)), words);
     }
-    Ok(())
 }
 
 /// How a dump ended, and how many bytes were written then.
 type Written = (Result<(), SinkFault>, u64);
 
-// Dumps the closed tree twice into a sink. Returns both results, and how many bytes the tree's dump
-// has.
-fn dump_twice(closed: &Closed, out: &mut MemorySink) -> (Written, Written, u64) {
+// Dumps the closed tree twice into a sink. Returns how the first ended, how the second did, and whether that has as many
+// bytes as the tree's dump.
+fn dump_twice(closed: &Closed, out: &mut MemorySink) -> (Written, Result<(), SinkFault>, bool) {
     let first = dump(closed, out);
     let before = out.bytes().len() as u64;
     let second = dump(closed, out);
     let after = out.bytes().len() as u64;
-    ((first, before), (second, after), 16 + 8 * closed.used())
+    ((first, before), second, after == 16 + 8 * closed.used())
 }
 
 // Dumps a tree of 300 words twice into a sink that refuses the first piece.
-fn see_refused(alloc: Global) -> Result<(Written, Written, u64), AllocError> {
+fn see_refused(alloc: Global) -> Result<(Written, Result<(), SinkFault>, bool), AllocError> {
     let mut out = MemorySink::new(alloc, vec![in alloc; 0]?);
     let (closed, _count) = ten(alloc, 300)?;
     Ok(dump_twice(&closed, &mut out))
 }
 
 #[test]
-fn a_sink_that_refuses_the_first_piece_has_none_of_it(rt: HostRuntime) -> Result<(), Fail> {
-    let (first, second, len) = see_refused(rt.alloc())?;
+fn a_sink_that_refuses_the_first_piece_has_none_of_it(rt: HostRuntime) {
     // the next write is taken
-    let wanted = ((Err(SinkFault::Failed), 0), (Ok(()), len));
-    assert_eq!(rt; (first, second), wanted);
-    Ok(())
+    let wanted = ((Err(SinkFault::Failed), 0), Ok(()), true);
+    same(&rt, &see_refused(rt.alloc()), &Ok(wanted), "both dumps");
 }

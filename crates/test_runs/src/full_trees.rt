@@ -4,12 +4,13 @@ ghost use Rattle.std.specs.List.Sorted.{IsStrictlyIncreasing};
 ghost use Rattle.ist_core.specs.declared.commands.Command.TheVariants.{Put};
 ghost use Rattle.tele_lanes.specs.Lines.{task_lines};
 
+use crate::judging::same;
 use crate::running::{Ran, has_pairs, one, run_over};
 use ist_core::{Command, Full, Pair};
 use ist_rest::Closed;
 use std::alloc::{AllocError, Global};
+use std::process::Abort;
 use std::sync::Wait;
-use std::test::Fail;
 use std::thread::Threads;
 use tele_generations::{Kept, NoShelf, Round};
 use tele_lanes::{Answer, NoGate, Task};
@@ -104,10 +105,10 @@ fn see_small<R: Threads + Wait + Sync>(
 }
 
 #[test]
-fn a_fourth_put_finds_no_room_in_64_words(rt: HostRuntime) -> Result<(), Fail> {
+fn a_fourth_put_finds_no_room_in_64_words(rt: HostRuntime) {
     let tasks = [put(1), put(2), put(3), put(4)];
     let pairs = [one(1), one(2), one(3), one(4)];
-    let seen = see_small(&rt, rt.alloc(), &[], &tasks, (&pairs[..3], &pairs))?;
+    let seen = see_small(&rt, rt.alloc(), &[], &tasks, (&pairs[..3], &pairs));
     // 4 words precede all rows, and three puts take 11, 18 and 18; the fourth has its leaf and its
     // pair row, which are 9, and asks for 9 more
     let full = Full {
@@ -126,12 +127,11 @@ fn a_fourth_put_finds_no_room_in_64_words(rt: HostRuntime) -> Result<(), Fail> {
         alone: true,
         last: ((128, 42), true),
     };
-    assert_eq!(rt; seen, wanted);
-    Ok(())
+    same(&rt, &seen, &Ok(wanted), "the round");
 }
 
 #[test]
-fn a_line_that_finds_no_room_is_answered_at_rest(rt: HostRuntime) -> Result<(), Fail> {
+fn a_line_that_finds_no_room_is_answered_at_rest(rt: HostRuntime) {
     let pairs = [one(1), one(2), one(3), one(4), one(5), one(6), one(7)];
     let all = [
         one(1),
@@ -147,7 +147,7 @@ fn a_line_that_finds_no_room_is_answered_at_rest(rt: HostRuntime) -> Result<(), 
         line: 9,
         command: Command::Put { key: 8, value: 1 },
     };
-    let seen = see_small(&rt, rt.alloc(), &pairs, &[task], (&pairs, &all))?;
+    let seen = see_small(&rt, rt.alloc(), &pairs, &[task], (&pairs, &all));
     let full = Full {
         next: 62,
         asked: 7,
@@ -165,8 +165,7 @@ fn a_line_that_finds_no_room_is_answered_at_rest(rt: HostRuntime) -> Result<(), 
         alone: true,
         last: ((128, 69), true),
     };
-    assert_eq!(rt; seen, wanted);
-    Ok(())
+    same(&rt, &seen, &Ok(wanted), "the round");
 }
 
 /// A tree's number of words, how many of them are used, and its highest key, if it has all keys from 1
@@ -214,19 +213,7 @@ fn show(
     Ok(((wrote, ran.outcome.status, ran.outcome.fulls), kept, last))
 }
 
-// Runs over the input, with this shelf.
-fn show_run<R: Threads + Wait + Sync>(
-    rt: &R,
-    alloc: Global,
-    shelf: &mut Kept<Closed>,
-    input: &[u8],
-    output: &[u8],
-) -> Result<Shown, AllocError> {
-    let ran = run_over(rt, alloc, &SMALL, input, &NoGate, shelf)?;
-    show(alloc, shelf, &ran, output)
-}
-
-// Does the same with a new shelf.
+// Runs over the input.
 fn show_small<R: Threads + Wait + Sync>(
     rt: &R,
     alloc: Global,
@@ -234,34 +221,31 @@ fn show_small<R: Threads + Wait + Sync>(
     output: &[u8],
 ) -> Result<Shown, AllocError> {
     let mut shelf = Kept::new();
-    show_run(rt, alloc, &mut shelf, input, output)
+    let ran = run_over(rt, alloc, &SMALL, input, &NoGate, &mut shelf)?;
+    show(alloc, &shelf, &ran, output)
 }
 
 #[test]
-fn each_tree_of_a_run_but_the_last_is_kept(rt: HostRuntime) -> Result<(), Fail> {
+fn each_tree_of_a_run_but_the_last_is_kept(rt: HostRuntime) {
+    let alloc = rt.alloc();
     let small = Some((64, 60, Some(3)));
-    let large = Some((128, 96, Some(7)));
-    let again = Some((64, 62, Some(7)));
-    // the input, the output, the trees that are kept, the last one; each put takes 18 words
-    let rows: [(&[u8], &[u8], [Option<Shape>; 4], Shape); 2] = [
-        (
-            b"P 1 1\nP 2 1\nP 3 1\nP 4 1\n",
-            b"1 -\n2 -\n3 -\n4 -\n",
-            [small, None, None, None],
-            (128, 42, Some(4)),
-        ),
-        (
-            b"P 1 1\nP 2 1\nP 3 1\nP 4 1\nP 5 1\nP 6 1\nP 7 1\nI 0 0\nP 8 1\n",
-            b"1 -\n2 -\n3 -\n4 -\n5 -\n6 -\n7 -\n8 0\n9 -\n",
-            [small, large, again, None],
-            (128, 69, Some(8)),
-        ),
+    // the trees that are kept, the last one; each put takes 18 words
+    let input = b"P 1 1\nP 2 1\nP 3 1\nP 4 1\n";
+    let shown = show_small(&rt, alloc, input, b"1 -\n2 -\n3 -\n4 -\n");
+    let kept = [small, None, None, None];
+    let wanted = ((true, 0, 1), kept, Some((128, 42, Some(4))));
+    same(&rt, &shown, &Ok(wanted), "one round");
+    let input = b"P 1 1\nP 2 1\nP 3 1\nP 4 1\nP 5 1\nP 6 1\nP 7 1\nI 0 0\nP 8 1\n";
+    let output = b"1 -\n2 -\n3 -\n4 -\n5 -\n6 -\n7 -\n8 0\n9 -\n";
+    let shown = show_small(&rt, alloc, input, output);
+    let kept = [
+        small,
+        Some((128, 96, Some(7))),
+        Some((64, 62, Some(7))),
+        None,
     ];
-    for (input, output, kept, last) in rows {
-        let shown = show_small(&rt, rt.alloc(), input, output)?;
-        assert_eq!(rt; shown, ((true, 0, 1), kept, Some(last)));
-    }
-    Ok(())
+    let wanted = ((true, 0, 1), kept, Some((128, 69, Some(8))));
+    same(&rt, &shown, &Ok(wanted), "two rounds");
 }
 
 // Returns the status of a run over the input, and how many trees of its last round with point lines
@@ -275,28 +259,61 @@ fn ending<R: Threads + Wait + Sync>(
     Ok((ran.outcome.status, ran.outcome.fulls))
 }
 
+// Fails unless a run over the input has this status, and so many trees of its last round with point lines ran full.
+fn ends<R: Threads + Wait + Sync + Abort>(
+    rt: &R,
+    alloc: Global,
+    input: &[u8],
+    status: u8,
+    fulls: u64,
+) {
+    same(rt, &ending(rt, alloc, input), &Ok((status, fulls)), input);
+}
+
 #[test]
-fn the_last_round_with_point_lines_says_how_many_trees_ran_full(
-    rt: HostRuntime,
-) -> Result<(), Fail> {
+fn the_last_round_with_point_lines_says_how_many_trees_ran_full(rt: HostRuntime) {
+    let alloc = rt.alloc();
     // the input, the status, how many trees of the last round with point lines ran full
-    let rows: [(&[u8], u8, u64); 12] = [
-        (b"", 0, 0),
-        (b"I 0 9\n", 0, 0),
-        (b"P 1 1\nP 2 1\nP 3 1\n", 0, 0),
-        (b"P 1 1\nP 2 1\nP 3 1\nP 4 1\n", 0, 1),
-        (b"P 1 1\nP 2 1\nP 3 1\nP 4 1\nI 0 9\n", 0, 1),
-        (b"P 1 1\nP 2 1\nP 3 1\nP 4 1\nI 0 9\nI 0 9\n# end\n", 0, 1),
-        (b"P 1 1\nP 2 1\nP 3 1\nP 4 1\nI 0 9\nX\n", 3, 1),
-        (b"P 1 1\nP 2 1\nP 3 1\nP 4 1\nX\n", 3, 1),
-        (b"P 1 1\nP 2 1\nP 3 1\nP 4 1\nI 0 9\nG 1\n", 0, 0),
-        (b"P 1 1\nP 2 1\nP 3 1\nP 4 1\nI 0 9\nP 1 2\nI 0 9\n", 0, 0),
-        (b"P 1 1\nI 0 9\nP 2 1\nP 3 1\nP 4 1\nP 5 1\n", 0, 1),
-        (b"G 1\nI 0 9\nP 1 1\nP 2 1\nP 3 1\nP 4 1\nI 5 5\n", 0, 1),
-    ];
-    for (input, status, fulls) in rows {
-        let ended = ending(&rt, rt.alloc(), input)?;
-        assert_eq!(rt; ended, (status, fulls), "for {input:?}");
-    }
-    Ok(())
+    ends(&rt, alloc, b"", 0, 0);
+    ends(&rt, alloc, b"I 0 9\n", 0, 0);
+    ends(&rt, alloc, b"P 1 1\nP 2 1\nP 3 1\n", 0, 0);
+    ends(&rt, alloc, b"P 1 1\nP 2 1\nP 3 1\nP 4 1\n", 0, 1);
+    ends(&rt, alloc, b"P 1 1\nP 2 1\nP 3 1\nP 4 1\nI 0 9\n", 0, 1);
+    ends(
+        &rt,
+        alloc,
+        b"P 1 1\nP 2 1\nP 3 1\nP 4 1\nI 0 9\nI 0 9\n# end\n",
+        0,
+        1,
+    );
+    ends(&rt, alloc, b"P 1 1\nP 2 1\nP 3 1\nP 4 1\nI 0 9\nX\n", 3, 1);
+    ends(&rt, alloc, b"P 1 1\nP 2 1\nP 3 1\nP 4 1\nX\n", 3, 1);
+    ends(
+        &rt,
+        alloc,
+        b"P 1 1\nP 2 1\nP 3 1\nP 4 1\nI 0 9\nG 1\n",
+        0,
+        0,
+    );
+    ends(
+        &rt,
+        alloc,
+        b"P 1 1\nP 2 1\nP 3 1\nP 4 1\nI 0 9\nP 1 2\nI 0 9\n",
+        0,
+        0,
+    );
+    ends(
+        &rt,
+        alloc,
+        b"P 1 1\nI 0 9\nP 2 1\nP 3 1\nP 4 1\nP 5 1\n",
+        0,
+        1,
+    );
+    ends(
+        &rt,
+        alloc,
+        b"G 1\nI 0 9\nP 1 1\nP 2 1\nP 3 1\nP 4 1\nI 5 5\n",
+        0,
+        1,
+    );
 }

@@ -9,6 +9,8 @@ mod dumps;
 #[cfg(test)]
 mod full_trees;
 #[cfg(test)]
+mod judging;
+#[cfg(test)]
 mod long_inputs;
 #[cfg(test)]
 mod meetings;

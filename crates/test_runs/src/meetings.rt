@@ -1,12 +1,12 @@
 //! Lanes of a run that wait for one another, and the trees of such a run.
 
+use crate::judging::same;
 use crate::running::{Ran, has_pairs, one, run_over};
 use ist_core::Pair;
 use ist_rest::{Closed, WordList};
 use std::alloc::{AllocError, Global};
 use std::sync::Wait;
 use std::sync::atomic::{AtomicU64, Ordering};
-use std::test::Fail;
 use std::thread::Threads;
 use tele_generations::{Kept, NoShelf};
 use tele_lanes::{Gate, NoGate};
@@ -85,19 +85,17 @@ pub(crate) fn see_meeting<R: Threads + Wait + Sync>(
 }
 
 #[test]
-fn the_lanes_of_a_round_run_beside_each_other(rt: HostRuntime) -> Result<(), Fail> {
+fn the_lanes_of_a_round_run_beside_each_other(rt: HostRuntime) {
     let more = ["--workers", "2"];
-    let seen = see_meeting(&rt, rt.alloc(), &more, 100_000_000, INPUT, OUTPUT)?;
-    assert_eq!(rt; seen, (true, 0, (1, 1, 0)));
-    Ok(())
+    let seen = see_meeting(&rt, rt.alloc(), &more, 100_000_000, INPUT, OUTPUT);
+    same(&rt, &seen, &Ok((true, 0, (1, 1, 0))), "two lanes");
 }
 
 #[test]
-fn one_lane_alone_waits_in_vain_in_each_round(rt: HostRuntime) -> Result<(), Fail> {
+fn one_lane_alone_waits_in_vain_in_each_round(rt: HostRuntime) {
     let more = ["--workers", "1"];
-    let seen = see_meeting(&rt, rt.alloc(), &more, 1_000, INPUT, OUTPUT)?;
-    assert_eq!(rt; seen, (true, 0, (1, 0, 2)));
-    Ok(())
+    let seen = see_meeting(&rt, rt.alloc(), &more, 1_000, INPUT, OUTPUT);
+    same(&rt, &seen, &Ok((true, 0, (1, 0, 2))), "one lane");
 }
 
 // Returns how many words a tree has, and whether these are its pairs.
@@ -136,24 +134,19 @@ fn see_trees(alloc: Global, shelf: &Kept<Closed>, ran: &Ran) -> Result<Seen, All
 }
 
 // Runs over the two rounds by two workers.
-fn keep_trees<R: Threads + Wait + Sync>(
-    rt: &R,
-    alloc: Global,
-    shelf: &mut Kept<Closed>,
-) -> Result<Seen, AllocError> {
+fn keep_trees<R: Threads + Wait + Sync>(rt: &R, alloc: Global) -> Result<Seen, AllocError> {
     let more = ["--workers", "2"];
-    let ran = run_over(rt, alloc, &more, INPUT, &NoGate, shelf)?;
-    see_trees(alloc, shelf, &ran)
+    let mut shelf = Kept::new();
+    let ran = run_over(rt, alloc, &more, INPUT, &NoGate, &mut shelf)?;
+    see_trees(alloc, &shelf, &ran)
 }
 
 #[test]
-fn the_tree_of_each_round_is_kept(rt: HostRuntime) -> Result<(), Fail> {
-    let mut shelf = Kept::new();
-    let seen = keep_trees(&rt, rt.alloc(), &mut shelf)?;
+fn the_tree_of_each_round_is_kept(rt: HostRuntime) {
     let first = (Some(2_052), true);
     let last = (Some(1_039), true);
-    assert_eq!(rt; seen, ((true, 0), first, Some(2), true, last));
-    Ok(())
+    let wanted = ((true, 0), first, Some(2), true, last);
+    same(&rt, &keep_trees(&rt, rt.alloc()), &Ok(wanted), "the trees");
 }
 
 /// Returns how many callers a tree says it had, in its word 1.

@@ -7,7 +7,7 @@ use std::alloc::{AllocError, Global};
 use std::sync::Wait;
 use std::thread::Threads;
 use tele_generations::Shelf;
-use tele_io::{QuietSink, QuietSource};
+use tele_io::{QuietSink, QuietSource, Sink, Source};
 use tele_lanes::Gate;
 use tele_run::{Outcome, run};
 
@@ -28,6 +28,27 @@ fn command_words(alloc: Global, more: &[&str]) -> Result<Vec<String>, AllocError
     Ok(words)
 }
 
+/// Runs over this source and this sink, with these arguments after the program's name.
+pub(crate) fn run_by<
+    R: Threads + Wait + Sync,
+    S: Source,
+    O: Sink,
+    G: Gate + Sync,
+    H: Shelf<Closed>,
+>(
+    rt: &R,
+    alloc: Global,
+    more: &[&str],
+    source: &mut S,
+    out: &mut O,
+    gate: &G,
+    shelf: &mut H,
+) -> Result<Outcome, AllocError> {
+    let words = command_words(alloc, more)?;
+    let outcome = run(rt, alloc, words.as_slice(), source, out, gate, shelf);
+    Ok(outcome)
+}
+
 /// Runs over these bytes, with these arguments after the program's name.
 pub(crate) fn run_over<R: Threads + Wait + Sync, G: Gate + Sync, H: Shelf<Closed>>(
     rt: &R,
@@ -37,18 +58,9 @@ pub(crate) fn run_over<R: Threads + Wait + Sync, G: Gate + Sync, H: Shelf<Closed
     gate: &G,
     shelf: &mut H,
 ) -> Result<Ran, AllocError> {
-    let words = command_words(alloc, more)?;
     let mut source = QuietSource::new(input.to_vec(alloc)?);
     let mut out = QuietSink::new(alloc);
-    let outcome = run(
-        rt,
-        alloc,
-        words.as_slice(),
-        &mut source,
-        &mut out,
-        gate,
-        shelf,
-    );
+    let outcome = run_by(rt, alloc, more, &mut source, &mut out, gate, shelf)?;
     Ok(Ran { out, outcome })
 }
 
