@@ -11,13 +11,12 @@ use tele_io::{
     SinkFault, Source, WriteSink, write_whole,
 };
 
+// The answers to some reads, each with the buffer after it.
+type Reads<'a> = &'a [(Result<usize, Failed>, &'a [u8])];
+
 // Returns the number of the first of these reads that returns something else than expected, or
 // leaves other bytes in the buffer.
-fn first_other_read<S: Source>(
-    source: &mut S,
-    buf: &mut [u8],
-    reads: &[(Result<usize, Failed>, &[u8])],
-) -> Option<usize>
+fn first_other_read<S: Source>(source: &mut S, buf: &mut [u8], reads: Reads<'_>) -> Option<usize>
     requires some { 0 < length buf.old }
 {
     for (i, (answer, bytes)) in reads.iter().enumerate() {
@@ -28,26 +27,30 @@ fn first_other_read<S: Source>(
     None
 }
 
+// The same for a quiet source of five bytes.
+fn read_quiet(alloc: Global, reads: Reads<'_>) -> Result<Option<usize>, AllocError> {
+    let mut source = QuietSource::new(b"abcde".to_vec(alloc)?);
+    Ok(first_other_read(&mut source, &mut [0u8; 3], reads))
+}
+
 #[test]
-fn a_quiet_source_gives_its_bytes_and_then_none(rt: HostRuntime) -> Result<(), Fail> {
-    let mut source = QuietSource::new(b"abcde".to_vec(rt.alloc())?);
+fn a_quiet_source_gives_its_bytes_and_then_none(rt: HostRuntime) {
     // how many bytes, the buffer after the read
     let reads: [(Result<usize, Failed>, &[u8]); 3] = [
         (Ok(3), b"abc"),
         (Ok(2), b"dec"),
         (Ok(0), b"dec"),
     ];
-    let other = first_other_read(&mut source, &mut [0u8; 3], &reads);
-    same(&rt, &other, &None, "the reads");
-    Ok(())
+    let other = read_quiet(rt.alloc(), &reads);
+    same(&rt, &other, &Ok(None), "the reads");
 }
+
+// Some pieces, the answer to the write of each, and what the sink holds after it.
+type Writes<'a> = &'a [(&'a [u8], Result<(), SinkFault>, &'a [u8])];
 
 // Returns the number of the first of these writes that returns something else than expected, or
 // leaves other bytes in the sink.
-fn first_other_write(
-    sink: &mut MemorySink,
-    writes: &[(&[u8], Result<(), SinkFault>, &[u8])],
-) -> Option<usize> {
+fn first_other_write(sink: &mut MemorySink, writes: Writes<'_>) -> Option<usize> {
     for (i, (piece, answer, bytes)) in writes.iter().enumerate() {
         if write_whole(sink, *piece) != *answer || sink.bytes() != *bytes {
             return Some(i);
@@ -78,10 +81,15 @@ fn a_quiet_sink_keeps_what_is_written(rt: HostRuntime) {
     );
 }
 
+// The same for a source of three bytes in pieces of two, whose first and third read fail.
+fn read_failing(alloc: Global, reads: Reads<'_>) -> Result<Option<usize>, AllocError> {
+    let fails = [0, 2].to_vec(alloc)?;
+    let mut source = MemorySource::new(b"abc".to_vec(alloc)?, 2, fails);
+    Ok(first_other_read(&mut source, &mut [b'-'; 4], reads))
+}
+
 #[test]
-fn the_reads_with_the_named_numbers_fail(rt: HostRuntime) -> Result<(), Fail> {
-    let fails = [0, 2].to_vec(rt.alloc())?;
-    let mut source = MemorySource::new(b"abc".to_vec(rt.alloc())?, 2, fails);
+fn the_reads_with_the_named_numbers_fail(rt: HostRuntime) {
     // the answer, the buffer after the read
     let reads: [(Result<usize, Failed>, &[u8]); 5] = [
         (Err(Failed), b"----"),
@@ -90,36 +98,43 @@ fn the_reads_with_the_named_numbers_fail(rt: HostRuntime) -> Result<(), Fail> {
         (Ok(1), b"cb--"),
         (Ok(0), b"cb--"),
     ];
-    let other = first_other_read(&mut source, &mut [b'-'; 4], &reads);
-    same(&rt, &other, &None, "the reads");
-    Ok(())
+    let other = read_failing(rt.alloc(), &reads);
+    same(&rt, &other, &Ok(None), "the reads");
+}
+
+// The same for a sink whose second write fails.
+fn write_failing(alloc: Global, writes: Writes<'_>) -> Result<Option<usize>, AllocError> {
+    let mut sink = MemorySink::new(alloc, [1].to_vec(alloc)?);
+    Ok(first_other_write(&mut sink, writes))
 }
 
 #[test]
-fn the_writes_with_the_named_numbers_fail(rt: HostRuntime) -> Result<(), Fail> {
-    let mut sink = MemorySink::new(rt.alloc(), [1].to_vec(rt.alloc())?);
+fn the_writes_with_the_named_numbers_fail(rt: HostRuntime) {
     // the piece, the answer, what the sink holds then
     let writes: [(&[u8], Result<(), SinkFault>, &[u8]); 3] = [
         (b"ab", Ok(()), b"ab"),
         (b"cd", Err(SinkFault::Failed), b"ab"),
         (b"ef", Ok(()), b"abef"),
     ];
-    let other = first_other_write(&mut sink, &writes);
-    same(&rt, &other, &None, "the writes");
-    Ok(())
+    let other = write_failing(rt.alloc(), &writes);
+    same(&rt, &other, &Ok(None), "the writes");
+}
+
+// The first read that goes another way than expected, of a reader of three bytes.
+fn read_through(alloc: Global, reads: Reads<'_>) -> Result<Option<usize>, AllocError> {
+    let mut source = ReadSource::new(Cursor::new(b"abc".to_vec(alloc)?));
+    Ok(first_other_read(&mut source, &mut [0u8; 2], reads))
 }
 
 #[test]
-fn a_reader_is_read_to_its_end(rt: HostRuntime) -> Result<(), Fail> {
-    let mut source = ReadSource::new(Cursor::new(b"abc".to_vec(rt.alloc())?));
+fn a_reader_is_read_to_its_end(rt: HostRuntime) {
     let reads: [(Result<usize, Failed>, &[u8]); 3] = [
         (Ok(2), b"ab"),
         (Ok(1), b"cb"),
         (Ok(0), b"cb"),
     ];
-    let other = first_other_read(&mut source, &mut [0u8; 2], &reads);
-    same(&rt, &other, &None, "the reads");
-    Ok(())
+    let other = read_through(rt.alloc(), &reads);
+    same(&rt, &other, &Ok(None), "the reads");
 }
 
 // Writes these bytes through a sink over the writer.
@@ -254,8 +269,10 @@ fn first_other_held<O: Sink>(
     rows: &[(&[u8], Result<(), SinkFault>, &[u8])],
 ) -> Option<usize> {
     for (i, (piece, answer, held)) in rows.iter().enumerate() {
-        let answers = (write_whole(out, *piece), out.pass_on());
-        if answers != (Ok(()), *answer) || out.held() != *held {
+        if write_whole(out, *piece) != Ok(()) {
+            return Some(i);
+        }
+        if out.pass_on() != *answer || out.held() != *held {
             return Some(i);
         }
     }

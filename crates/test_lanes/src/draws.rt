@@ -96,13 +96,15 @@ fn add_sorted(spread: Spread, keys: &mut Vec<u64>) -> Result<(), AllocError> {
 fn count_neighbours(keys: &[u64]) -> (u64, u64) {
     let mut same: u64 = 0;
     let mut next: u64 = 0;
-    for pair in keys.windows(2) {
-        if pair[0] == pair[1] {
+    let mut before = None;
+    for key in keys {
+        if before == Some(*key) {
             same = same.wrapping_add(1);
         }
-        if pair[0].wrapping_add(1) == pair[1] {
+        if before == key.checked_sub(1) && before.is_some() {
             next = next.wrapping_add(1);
         }
+        before = Some(*key);
     }
     (same, next)
 }

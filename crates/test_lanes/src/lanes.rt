@@ -6,6 +6,7 @@ use crate::judging::same;
 use crate::recorders::{Counter, FULL, Recorder, idle_lane};
 use ist_core::{Command, Full, Reply};
 use std::alloc::{AllocError, Global};
+use std::process::Abort;
 use std::sync::Wait;
 use std::sync::atomic::{AtomicU64, Ordering};
 use std::thread::Threads;
@@ -280,6 +281,21 @@ fn no_tasks_give_no_answers(rt: HostRuntime) {
     run_lanes(&rt, &NoGate, &mut none);
 }
 
+// Fails unless so many workers give these answers to these tasks.
+fn gives<R: Threads + Wait + Sync + Abort>(
+    rt: &R,
+    alloc: Global,
+    tasks: &[Task],
+    workers: u32,
+    answers: &[Answer],
+)
+    requires some { 1 ≤ workers }
+    requires at_most { workers ≤ 64 }
+{
+    let given = round_gives(rt, alloc, tasks, workers, answers);
+    same(rt, &given, &Ok(true), workers);
+}
+
 #[test]
 fn answers_come_back_in_line_order(rt: HostRuntime) {
     let tasks = [
@@ -300,11 +316,11 @@ fn answers_come_back_in_line_order(rt: HostRuntime) {
         answer(10, None),
         answer(12, Some(1)),
     ];
-    for workers in [1u32, 2, 3, 7, 64] {
-        assert!(rt; workers >= 1 && workers <= 64);
-        let given = round_gives(&rt, rt.alloc(), &tasks, workers, &answers);
-        same(&rt, &given, &Ok(true), workers);
-    }
+    gives(&rt, rt.alloc(), &tasks, 1, &answers);
+    gives(&rt, rt.alloc(), &tasks, 2, &answers);
+    gives(&rt, rt.alloc(), &tasks, 3, &answers);
+    gives(&rt, rt.alloc(), &tasks, 7, &answers);
+    gives(&rt, rt.alloc(), &tasks, 64, &answers);
 }
 
 // Does a list of this task come back as it went in?

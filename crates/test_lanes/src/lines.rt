@@ -5,7 +5,7 @@ use crate::judging::same;
 use ist_core::{Command, Pair, Reply};
 use plain_map::Plain;
 use std::alloc::{AllocError, Global};
-use std::test::Fail;
+use std::process::Abort;
 use tele_io::{MemorySink, MemorySource, SinkFault};
 use tele_lines::{
     Cause, Item, Line, LineFault, Lines, Version, print_answer, print_bad, print_interval,
@@ -79,111 +79,93 @@ fn first_other_piece(
     Ok(None)
 }
 
+// Fails unless the calls of `next` return these, in whatever pieces the bytes come.
+fn reads(rt: &impl Abort, alloc: Global, bytes: &[u8], calls: &[Next]) {
+    same(
+        rt,
+        &first_other_piece(alloc, bytes, calls),
+        &Ok(None),
+        bytes,
+    );
+}
+
 #[test]
 fn good_lines_come_by_their_numbers_until_the_input_ends(rt: HostRuntime) {
+    let alloc = rt.alloc();
+    let end = Ok(None);
     // the input, what each call of `next` returns
-    let rows: [(&[u8], &[Next]); 6] = [
-        (b"", &[Ok(None), Ok(None)]),
-        (
-            b"P 5 7\nG 5\nR 5\nI 0 10\n",
-            &[
-                put(1, 5, 7),
-                get(2, 5),
-                remove(3, 5),
-                interval(4, 0, 10),
-                Ok(None),
-                Ok(None),
-            ],
-        ),
-        (b"# note\r\n\nG 1", &[get(3, 1), Ok(None)]),
-        (
-            b"I 18446744073709551615 3",
-            &[interval(1, u64::MAX, 3), Ok(None)],
-        ),
-        (
-            b"P 000000000000000000000000000000000000000000000000000000000000000000000000000\
-            5 7\r\n",
-            &[put(1, 5, 7), Ok(None)],
-        ),
-        (
-            b"V 2\nP -1 0\nG 9223372036854775807\n",
-            &[put(2, (1 << 63) - 1, 1 << 63), get(3, u64::MAX), Ok(None)],
-        ),
-    ];
-    for (bytes, calls) in rows {
-        let other = first_other_piece(rt.alloc(), bytes, calls);
-        same(&rt, &other, &Ok(None), "the lines");
-    }
+    reads(&rt, alloc, b"", &[end, end]);
+    let (point, all) = ([put(1, 5, 7), get(2, 5)], interval(4, 0, 10));
+    let calls = [point[0], point[1], remove(3, 5), all, end, end];
+    reads(&rt, alloc, b"P 5 7\nG 5\nR 5\nI 0 10\n", &calls);
+    reads(&rt, alloc, b"# note\r\n\nG 1", &[get(3, 1), end]);
+    let all = interval(1, u64::MAX, 3);
+    reads(&rt, alloc, b"I 18446744073709551615 3", &[all, end]);
+}
+
+#[test]
+fn long_lines_and_signed_numbers_are_read(rt: HostRuntime) {
+    // the input, what each call of `next` returns
+    let long = b"P 000000000000000000000000000000000000000000000000000000000000000000000000000\
+        5 7\r\n";
+    reads(&rt, rt.alloc(), long, &[put(1, 5, 7), Ok(None)]);
+    let signed = b"V 2\nP -1 0\nG 9223372036854775807\n";
+    let calls = [put(2, (1 << 63) - 1, 1 << 63), get(3, u64::MAX), Ok(None)];
+    reads(&rt, rt.alloc(), signed, &calls);
 }
 
 #[test]
 fn a_bad_line_ends_the_reading(rt: HostRuntime) {
+    let alloc = rt.alloc();
     // the input, what each call of `next` returns; the last is returned again and again
-    let rows: [(&[u8], &[Next]); 7] = [
-        (
-            b"P 1 1\nX 2\nP 3 3\n",
-            &[put(1, 1, 1), bad(2, Cause::Letter), bad(2, Cause::Letter)],
-        ),
-        (b"G 1\nV 2\n", &[get(1, 1), bad(2, Cause::Letter)]),
-        (b"P 1", &[bad(1, Cause::Fields), bad(1, Cause::Fields)]),
-        (b"P 1 x\n", &[bad(1, Cause::Number)]),
-        (b"P 18446744073709551616 1\n", &[bad(1, Cause::Number)]),
-        (b"V 2\n\nG 9223372036854775808", &[bad(3, Cause::Number)]),
-        (
-            b"P 0000000000000000000000000000000000000000000000000000000000000000000000000000\
-            5 7\nG 1\n",
-            &[bad(1, Cause::Long), bad(1, Cause::Long)],
-        ),
-    ];
-    for (bytes, calls) in rows {
-        let other = first_other_piece(rt.alloc(), bytes, calls);
-        same(&rt, &other, &Ok(None), "the lines");
-    }
+    let letter = bad(2, Cause::Letter);
+    let calls = [put(1, 1, 1), letter, letter];
+    reads(&rt, alloc, b"P 1 1\nX 2\nP 3 3\n", &calls);
+    reads(&rt, alloc, b"G 1\nV 2\n", &[get(1, 1), letter]);
+    let fields = bad(1, Cause::Fields);
+    reads(&rt, alloc, b"P 1", &[fields, fields]);
+    let number = bad(1, Cause::Number);
+    reads(&rt, alloc, b"P 1 x\n", &[number]);
+    reads(&rt, alloc, b"P 18446744073709551616 1\n", &[number]);
+    let number = bad(3, Cause::Number);
+    reads(&rt, alloc, b"V 2\n\nG 9223372036854775808", &[number]);
+    let long = b"P 0000000000000000000000000000000000000000000000000000000000000000000000000000\
+        5 7\nG 1\n";
+    let cause = bad(1, Cause::Long);
+    reads(&rt, alloc, long, &[cause, cause]);
+}
+
+// What a call of `next` returns if two lines are allowed.
+fn next_of_two(alloc: Global, bytes: &[u8]) -> Result<Next, AllocError> {
+    let mut source = MemorySource::new(bytes.to_vec(alloc)?, 3, Vec::new(alloc));
+    let mut lines = Lines::new(2);
+    Ok(lines.next(&mut source))
 }
 
 #[test]
-fn a_line_beyond_the_limit_is_bad(rt: HostRuntime) -> Result<(), Fail> {
-    // the input, what a call of `next` returns if two lines are allowed
-    let rows: [(&[u8], Next); 2] = [(b"\n\nG 1\n", bad(3, Cause::Lines)), (b"\n\n", Ok(None))];
-    for (bytes, expected) in rows {
-        let mut source = MemorySource::new(bytes.to_vec(rt.alloc())?, 3, Vec::new(rt.alloc()));
-        let mut lines = Lines::new(2);
-        let next = lines.next(&mut source);
-        same(&rt, &next, &expected, "the line");
-    }
-    Ok(())
+fn a_line_beyond_the_limit_is_bad(rt: HostRuntime) {
+    let third = next_of_two(rt.alloc(), b"\n\nG 1\n");
+    same(&rt, &third, &Ok(bad(3, Cause::Lines)), "the third line");
+    let none = next_of_two(rt.alloc(), b"\n\n");
+    same(&rt, &none, &Ok(Ok(None)), "two lines");
+}
+
+// Fails unless the calls of `next` return these, while the bytes come in pieces of this size and these reads fail.
+fn goes_on(rt: &impl Abort, alloc: Global, piece: usize, fails: &[u64], calls: &[Next]) {
+    let other = first_other_line(alloc, b"P 5 7\nG 5", piece.max(1), fails, calls);
+    same(rt, &other, &Ok(None), piece);
 }
 
 #[test]
 fn a_reader_goes_on_after_a_failed_read(rt: HostRuntime) {
+    let alloc = rt.alloc();
+    let (first, second) = (put(1, 5, 7), get(2, 5));
+    let (failed, end) = (Err(LineFault::Read), Ok(None));
     // the size of pieces, which reads fail, what each call of `next` returns
-    let rows: [(usize, &[u64], &[Next]); 3] = [
-        (
-            1,
-            &[3],
-            &[Err(LineFault::Read), put(1, 5, 7), get(2, 5), Ok(None)],
-        ),
-        (
-            3,
-            &[3],
-            &[put(1, 5, 7), Err(LineFault::Read), get(2, 5), Ok(None)],
-        ),
-        (
-            100,
-            &[1, 2],
-            &[
-                put(1, 5, 7),
-                Err(LineFault::Read),
-                Err(LineFault::Read),
-                get(2, 5),
-                Ok(None),
-            ],
-        ),
-    ];
-    for (piece, fails, calls) in rows {
-        let other = first_other_line(rt.alloc(), b"P 5 7\nG 5", piece.max(1), fails, calls);
-        same(&rt, &other, &Ok(None), "the lines");
-    }
+    goes_on(&rt, alloc, 1, &[3], &[failed, first, second, end]);
+    goes_on(&rt, alloc, 3, &[3], &[first, failed, second, end]);
+    let calls = [first, failed, failed, second, end];
+    goes_on(&rt, alloc, 100, &[1, 2], &calls);
 }
 
 #[test]
@@ -217,22 +199,26 @@ fn each_reply_has_its_line(rt: HostRuntime) {
     same(&rt, &out.bytes(), &text, "the text");
 }
 
-#[test]
-fn a_failed_write_leaves_the_lines_before_it(rt: HostRuntime) -> Result<(), Fail> {
+// How the printing of two pairs ends if the write of this number fails, and whether this is written before it.
+fn print_failing(
+    alloc: Global,
+    fails: u64,
+    before: &[u8],
+) -> Result<(Result<(), SinkFault>, bool), AllocError> {
     let pairs = [Pair { key: 1, value: 2 }, Pair { key: 3, value: 4 }];
+    let mut out = MemorySink::new(alloc, [fails].to_vec(alloc)?);
+    let printed = print_interval(&mut out, Version::One, 9, &pairs);
+    Ok((printed, out.bytes() == before))
+}
+
+#[test]
+fn a_failed_write_leaves_the_lines_before_it(rt: HostRuntime) {
     // which write fails, what is written before it
     let rows: [(u64, &[u8]); 3] = [(0, b""), (1, b"9 2\n"), (2, b"9 2\n1 2\n")];
     for (fails, before) in rows {
-        let mut out = MemorySink::new(rt.alloc(), [fails].to_vec(rt.alloc())?);
-        let printed = print_interval(&mut out, Version::One, 9, &pairs);
-        same(
-            &rt,
-            &(printed, out.bytes()),
-            &(Err(SinkFault::Failed), before),
-            "the text",
-        );
+        let printed = print_failing(rt.alloc(), fails, before);
+        same(&rt, &printed, &Ok((Err(SinkFault::Failed), true)), fails);
     }
-    Ok(())
 }
 
 #[test]
@@ -253,26 +239,47 @@ fn a_map_of_one_thread_replies_with_the_value_before(rt: HostRuntime) {
     same(&rt, &map.pairs().len(), &0, "the pairs at the end");
 }
 
-#[test]
-fn a_map_of_one_thread_lists_from_one_key_to_another(rt: HostRuntime) -> Result<(), Fail> {
-    let mut map = Plain::new(rt.alloc());
+// The pairs of the map below as they rise.
+const FOUR: [Pair; 4] = [
+    Pair { key: 1, value: 0 },
+    Pair { key: 5, value: 2 },
+    Pair { key: 9, value: 4 },
+    Pair {
+        key: u64::MAX,
+        value: u64::MAX / 2,
+    },
+];
+
+// The map in which four keys were put, each with half of it as the value.
+fn map_of_four(alloc: Global) -> Result<Plain, AllocError> {
+    let mut map = Plain::new(alloc);
     for key in [9u64, 1, 5, u64::MAX] {
         map.apply(Command::Put {
             key,
             value: key / 2,
         })?;
     }
-    let all = [
-        Pair { key: 1, value: 0 },
-        Pair { key: 5, value: 2 },
-        Pair { key: 9, value: 4 },
-        Pair {
-            key: u64::MAX,
-            value: u64::MAX / 2,
-        },
-    ];
+    Ok(map)
+}
+
+// The first interval whose list isn't the part of the four pairs from number `from` on, to the one before `to`.
+fn first_other_list(
+    alloc: Global,
+    rows: &[(u64, u64, usize, usize)],
+) -> Result<Option<(u64, u64)>, AllocError> {
+    let map = map_of_four(alloc)?;
+    for (first, last, from, to) in rows {
+        if Some(map.list(*first, *last)) != FOUR.get(*from..*to) {
+            return Ok(Some((*first, *last)));
+        }
+    }
+    Ok(None)
+}
+
+#[test]
+fn a_map_of_one_thread_lists_from_one_key_to_another(rt: HostRuntime) {
     // the first key, the last, the part of all pairs that is listed
-    let rows: [(u64, u64, usize, usize); 6] = [
+    let rows = [
         (0, u64::MAX, 0, 4),
         (1, 9, 0, 3),
         (2, 9, 1, 3),
@@ -280,13 +287,6 @@ fn a_map_of_one_thread_lists_from_one_key_to_another(rt: HostRuntime) -> Result<
         (6, 8, 2, 2),
         (9, 1, 0, 0),
     ];
-    for (first, last, from, to) in rows {
-        same(
-            &rt,
-            &Some(map.list(first, last)),
-            &all.get(from..to),
-            (first, last),
-        );
-    }
-    Ok(())
+    let other = first_other_list(rt.alloc(), &rows);
+    same(&rt, &other, &Ok(None), "the lists");
 }
