@@ -8,8 +8,6 @@ mod hands;
 pub mod laws;
 mod running;
 mod scripts;
-#[cfg(test)]
-mod tests;
 
 pub use hands::{Hand, Worker};
 pub use ist_reopen::{MOST_WORDS, ReopenFault};

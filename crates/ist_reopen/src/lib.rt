@@ -9,8 +9,6 @@
 mod faults;
 pub mod laws;
 mod reopening;
-#[cfg(test)]
-mod tests;
 
 pub use faults::{NotReopened, ReopenFault};
 pub use reopening::{MOST_WORDS, open_after, reopen};

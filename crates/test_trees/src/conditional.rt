@@ -2,14 +2,14 @@
 //! threads raise.
 ghost use Rattle.std.specs.Prelude.{◌≡◌, ◌≤◌};
 
+use crate::asking::find;
 use crate::judging::same;
-use crate::openings::two_pairs;
+use crate::openings::two_pairs_and_pass;
 use Asked::{PutIf, RemoveIf};
 use ist_core::{Command, Full, Reply};
 use ist_tree::{OpenFault, Pass, Tree};
 use plain_map::Plain;
 use std::alloc::{AllocError, Global};
-use std::test::Fail;
 use std::thread::{Threads, join};
 
 // A conditional update: of a put the key, the expected value and the new one; of a remove the key and the expected value.
@@ -48,7 +48,7 @@ fn first_wrong_in(tree: &Tree, pass: &mut Pass, rows: &[Row]) -> Option<usize>
     let mut wrong = None;
     for (i, (asked, answer, after)) in rows.iter().enumerate() {
         let told = ask(tree, pass, *asked);
-        let found = tree.find(pass, key_of(*asked));
+        let found = find(tree, pass, key_of(*asked));
         if wrong.is_none() && (told != *answer || found != *after) {
             wrong = Some(i);
         }
@@ -60,13 +60,12 @@ fn first_wrong_in(tree: &Tree, pass: &mut Pass, rows: &[Row]) -> Option<usize>
 fn first_wrong(alloc: Global, words: u32, rows: &[Row]) -> Result<Option<usize>, OpenFault>
     requires few { words ≤ 1000 }
 {
-    let (tree, mut maker) = two_pairs(alloc, words)?;
-    let mut pass = tree.pass(&mut maker);
+    let (tree, mut pass) = two_pairs_and_pass(alloc, words)?;
     Ok(first_wrong_in(&tree, &mut pass, rows))
 }
 
 #[test]
-fn an_update_takes_effect_at_the_expected_value_only(rt: HostRuntime) -> Result<(), Fail> {
+fn an_update_takes_effect_at_the_expected_value_only(rt: HostRuntime) {
     let rows = [
         // a key with a value
         (PutIf(5, Some(8), 10), Ok(Some(7)), Some(7)),
@@ -86,15 +85,14 @@ fn an_update_takes_effect_at_the_expected_value_only(rt: HostRuntime) -> Result<
     ];
     same(
         &rt,
-        &first_wrong(rt.alloc(), 1000, &rows)?,
-        &None,
+        &first_wrong(rt.alloc(), 1000, &rows),
+        &Ok(None),
         "1000 words",
     );
-    Ok(())
 }
 
 #[test]
-fn an_update_that_misses_its_value_needs_no_words(rt: HostRuntime) -> Result<(), Fail> {
+fn an_update_that_misses_its_value_needs_no_words(rt: HostRuntime) {
     let full = Full {
         next: 15,
         asked: 2,
@@ -105,8 +103,12 @@ fn an_update_that_misses_its_value_needs_no_words(rt: HostRuntime) -> Result<(),
         (RemoveIf(6, 10), Ok(None), None),
         (PutIf(5, Some(7), 10), Err(full), Some(7)),
     ];
-    same(&rt, &first_wrong(rt.alloc(), 15, &rows)?, &None, "15 words");
-    Ok(())
+    same(
+        &rt,
+        &first_wrong(rt.alloc(), 15, &rows),
+        &Ok(None),
+        "15 words",
+    );
 }
 
 // How many of so many updates of 20 keys the tree answers otherwise than a plain map. Each third expects another value
@@ -125,11 +127,11 @@ fn unlike_plain_in(
         let key = i.wrapping_mul(7) % 20;
         let has = plain.apply(Command::Get { key })?;
         let expected = if i % 3 == 0 { Some(i) } else { has };
-        let told = tree.put_if(pass, key, expected, i);
+        let told = ask(tree, pass, PutIf(key, expected, i));
         if expected == has {
             plain.apply(Command::Put { key, value: i })?;
         }
-        if told != Ok(has) || tree.find(pass, key) != plain.apply(Command::Get { key })? {
+        if told != Ok(has) || find(tree, pass, key) != plain.apply(Command::Get { key })? {
             unlike = unlike.wrapping_add(1);
         }
     }
@@ -145,16 +147,13 @@ fn unlike_plain(alloc: Global, updates: u64) -> Result<u64, OpenFault> {
 }
 
 #[test]
-fn updates_that_chain_pairs_and_rebuild_rows_are_those_of_a_plain_map(
-    rt: HostRuntime,
-) -> Result<(), Fail> {
+fn updates_that_chain_pairs_and_rebuild_rows_are_those_of_a_plain_map(rt: HostRuntime) {
     same(
         &rt,
-        &unlike_plain(rt.alloc(), 3000)?,
-        &0,
+        &unlike_plain(rt.alloc(), 3000),
+        &Ok(0),
         "replies unlike those of a plain map",
     );
-    Ok(())
 }
 
 // A pass, and how often it raised the counter.
@@ -171,10 +170,10 @@ fn raise(tree: &Tree, pass: Pass, tries: u64) -> Raised
 {
     let mut pass = pass;
     let mut raises: u64 = 0;
-    let mut had = tree.find(&mut pass, 5);
+    let mut had = find(tree, &mut pass, 5);
     for _ in 0..tries {
         let more = had.unwrap_or(0).wrapping_add(1);
-        if let Ok(told) = tree.put_if(&mut pass, 5, had, more) {
+        if let Ok(told) = ask(tree, &mut pass, PutIf(5, had, more)) {
             if told == had {
                 raises = raises.wrapping_add(1);
                 had = Some(more);
@@ -186,12 +185,12 @@ fn raise(tree: &Tree, pass: Pass, tries: u64) -> Raised
     Raised { pass, raises }
 }
 
-// How often two threads raised the counter, and the number that it has then.
+// Whether the counter has the number of its raises by two threads, and whether one of them at least raised it at each try.
 fn raised_by_two<R: Threads + Sync>(
     rt: &R,
     alloc: Global,
     tries: u64,
-) -> Result<(u64, Reply), OpenFault> {
+) -> Result<(bool, bool), OpenFault> {
     let (tree, mut maker) = Tree::open(alloc, 4_000_000, &[])?;
     let one = tree.pass(&mut maker);
     let two = tree.pass(&mut maker);
@@ -208,17 +207,12 @@ fn raised_by_two<R: Threads + Sync>(
     tree.take_back(&mut maker, one.pass);
     tree.take_back(&mut maker, two.pass);
     let mut last = tree.pass(&mut maker);
-    Ok((raises, tree.find(&mut last, 5)))
+    let number = find(&tree, &mut last, 5);
+    Ok((number == Some(raises), raises >= tries))
 }
 
 #[test]
-fn a_counter_has_the_number_of_its_raises(rt: HostRuntime) -> Result<(), Fail> {
-    let (raises, number) = raised_by_two(&rt, rt.alloc(), 50_000)?;
-    same(
-        &rt,
-        &(number, raises >= 50_000),
-        &(Some(raises), true),
-        "the counter",
-    );
-    Ok(())
+fn a_counter_has_the_number_of_its_raises(rt: HostRuntime) {
+    let raised = raised_by_two(&rt, rt.alloc(), 50_000);
+    same(&rt, &raised, &Ok((true, true)), "the counter");
 }

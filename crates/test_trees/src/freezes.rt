@@ -1,13 +1,13 @@
 //! Trees that are frozen whole, while their words suffice and where they don't.
 ghost use Rattle.std.specs.Prelude.{◌≡◌, ◌≤◌, []};
 
+use crate::asking::find;
 use crate::judging::same;
-use crate::openings::{FIVE, NINE, two_pairs};
+use crate::openings::{FIVE, NINE, close_by, two_pairs, two_pairs_and_pass};
 use ist_core::{Full, Pair};
 use ist_rest::WordList;
 use ist_tree::{Maker, OpenFault, Pass, Tree};
 use std::alloc::Global;
-use std::test::Fail;
 
 // How many keys the tree has when it is frozen whole, the first pair and the last one.
 fn frozen_ends(tree: &Tree, pass: &mut Pass) -> Result<Option<(u64, Pair, Pair)>, Full>
@@ -42,8 +42,7 @@ fn frozen_and_closed(tree: Tree, maker: Maker) -> Frozen
     let mut pass = tree.pass(&mut maker);
     let ends = frozen_ends(&tree, &mut pass);
     let refused = pass.rebuild_refused();
-    tree.take_back(&mut maker, pass);
-    let closed = tree.close(maker);
+    let closed = close_by(tree, maker, pass);
     (ends, refused, closed.used(), closed.settled())
 }
 
@@ -54,10 +53,9 @@ fn two_frozen(alloc: Global) -> Result<Frozen, OpenFault> {
 }
 
 #[test]
-fn a_frozen_tree_has_its_pairs_and_the_tree_goes_on_settled(rt: HostRuntime) -> Result<(), Fail> {
+fn a_frozen_tree_has_its_pairs_and_the_tree_goes_on_settled(rt: HostRuntime) {
     let wanted = (Ok(Some((2, FIVE, NINE))), None, 45, true);
-    same(&rt, &two_frozen(rt.alloc())?, &wanted, "two pairs");
-    Ok(())
+    same(&rt, &two_frozen(rt.alloc()), &Ok(wanted), "two pairs");
 }
 
 // How many keys of a tree of so many words are frozen, or why none are, and the refusal that the
@@ -65,8 +63,7 @@ fn a_frozen_tree_has_its_pairs_and_the_tree_goes_on_settled(rt: HostRuntime) -> 
 fn frozen_in(alloc: Global, words: u32) -> Result<(Result<u64, Full>, Option<Full>), OpenFault>
     requires few { words ≤ 1000 }
 {
-    let (tree, mut maker) = two_pairs(alloc, words)?;
-    let mut pass = tree.pass(&mut maker);
+    let (tree, mut pass) = two_pairs_and_pass(alloc, words)?;
     let keys = match tree.freeze(&mut pass) {
         Ok(frozen) => Ok(frozen.keys),
         Err(full) => Err(full),
@@ -75,22 +72,21 @@ fn frozen_in(alloc: Global, words: u32) -> Result<(Result<u64, Full>, Option<Ful
 }
 
 #[test]
-fn a_refused_building_is_kept_and_a_refused_start_is_answered(rt: HostRuntime) -> Result<(), Fail> {
+fn a_refused_building_is_kept_and_a_refused_start_is_answered(rt: HostRuntime) {
     let building = Full {
         next: 29,
         asked: 7,
         words: 29,
     };
-    let built = frozen_in(rt.alloc(), 29)?;
-    same(&rt, &built, &(Ok(2), Some(building)), "29 words");
+    let built = frozen_in(rt.alloc(), 29);
+    same(&rt, &built, &Ok((Ok(2), Some(building))), "29 words");
     let start = Full {
         next: 20,
         asked: 9,
         words: 28,
     };
-    let begun = frozen_in(rt.alloc(), 28)?;
-    same(&rt, &begun, &(Err(start), None), "28 words");
-    Ok(())
+    let begun = frozen_in(rt.alloc(), 28);
+    same(&rt, &begun, &Ok((Err(start), None)), "28 words");
 }
 
 // What a tree has that a second pass freezes after the first, whether both met the same refusal, and what is found at
@@ -112,7 +108,7 @@ fn freeze_twice(tree: &Tree, first: &mut Pass, second: &mut Pass) -> Twice
     let begun = tree.freeze(first).is_ok();
     let ends = frozen_ends(tree, second);
     let alike = second.rebuild_refused() == first.rebuild_refused();
-    (begun, ends, alike, tree.find(second, 9))
+    (begun, ends, alike, find(tree, second, 9))
 }
 
 // The same in a tree of both pairs where the start takes the last words, so that the first pass leaves the rebuild
@@ -129,17 +125,16 @@ fn frozen_twice(alloc: Global) -> Result<(Twice, u64, bool), OpenFault> {
 }
 
 #[test]
-fn a_tree_is_frozen_while_the_rebuild_of_another_stands_still(rt: HostRuntime) -> Result<(), Fail> {
+fn a_tree_is_frozen_while_the_rebuild_of_another_stands_still(rt: HostRuntime) {
     let seen = (true, Ok(Some((2, FIVE, NINE))), true, Some(1));
     // the word of the rebuild at 15
     let wanted = (seen, 124, false);
     same(
         &rt,
-        &frozen_twice(rt.alloc())?,
-        &wanted,
+        &frozen_twice(rt.alloc()),
+        &Ok(wanted),
         "the second freeze",
     );
-    Ok(())
 }
 
 // Freezes a tree of one pair.
@@ -150,8 +145,7 @@ fn one_frozen(alloc: Global) -> Result<Frozen, OpenFault> {
 }
 
 #[test]
-fn a_leaf_is_frozen_as_it_is(rt: HostRuntime) -> Result<(), Fail> {
+fn a_leaf_is_frozen_as_it_is(rt: HostRuntime) {
     let wanted = (Ok(Some((1, FIVE, FIVE))), None, 6, true);
-    same(&rt, &one_frozen(rt.alloc())?, &wanted, "one leaf");
-    Ok(())
+    same(&rt, &one_frozen(rt.alloc()), &Ok(wanted), "one leaf");
 }

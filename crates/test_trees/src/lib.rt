@@ -2,8 +2,8 @@
 //!
 //! Read `openings.rt`, `new_trees.rt`, `closed_trees.rt` and `freezes.rt`, then `shapes.rt`, `rows.rt`,
 //! `rebuilds.rt`, `shortages.rt` and `finds.rt`, and then `shots.rt` with `scans.rt`, `scan_ends.rt` and
-//! `scan_threads.rt`, and `lives.rt`. Stands on `ist_tree`, `ist_scan`, `ist_live`, `test_tools` and
-//! `plain_map`.
+//! `scan_threads.rt`, `lives.rt`, `reopened.rt` and `growing.rt`. Uses `ist_tree`, `ist_scan`, `ist_live`,
+//! `ist_reopen`, `ist_map`, `test_tools` and `plain_map`.
 #![tactic(auto)]
 
 #[cfg(test)]
@@ -17,6 +17,8 @@ mod finds;
 #[cfg(test)]
 mod freezes;
 #[cfg(test)]
+mod growing;
+#[cfg(test)]
 mod judging;
 #[cfg(test)]
 mod lives;
@@ -26,6 +28,8 @@ mod new_trees;
 mod openings;
 #[cfg(test)]
 mod rebuilds;
+#[cfg(test)]
+mod reopened;
 #[cfg(test)]
 mod rows;
 #[cfg(test)]
@@ -44,3 +48,5 @@ mod shortages;
 mod shots;
 #[cfg(test)]
 mod tales;
+#[cfg(test)]
+mod timed_tales;

@@ -2,7 +2,8 @@
 ghost use Rattle.std.specs.Prelude.{◌≡◌, ◌≤◌, [], IfOk};
 
 use ist_core::{Command, Pair};
-use ist_tree::{Maker, OpenFault, Tree};
+use ist_rest::Closed;
+use ist_tree::{Maker, OpenFault, Pass, Tree};
 use plain_map::Plain;
 use std::alloc::{AllocError, Global};
 
@@ -21,6 +22,16 @@ pub(crate) fn two_pairs(alloc: Global, words: u32) -> Result<(Tree, Maker), Open
 {
     let pairs = [FIVE, NINE];
     Tree::open(alloc, words, &pairs)
+}
+
+/// The same, and its first pass.
+pub(crate) fn two_pairs_and_pass(alloc: Global, words: u32) -> Result<(Tree, Pass), OpenFault>
+    requires few { words ≤ 1000 }
+    ensures same_tree { IfOk result (λ t. t.1.tree ≡ t.0) }
+{
+    let (tree, mut maker) = two_pairs(alloc, words)?;
+    let pass = tree.pass(&mut maker);
+    Ok((tree, pass))
 }
 
 /// The map with the keys from `first` to the one before `end`, each with its own number and `more` as the
@@ -55,4 +66,16 @@ pub(crate) fn open_with(
         return Err(OpenFault::Memory);
     }
     Tree::open(alloc, words, pairs)
+}
+
+/// Closes a tree whose only pass this is.
+pub(crate) fn close_by(tree: Tree, maker: Maker, pass: Pass) -> Closed
+    requires same_tree { maker.tree ≡ tree }
+    requires its_tree { pass.tree ≡ tree }
+    requires one_made { maker.made ≡ 1 }
+    requires none_taken { maker.taken ≡ [] }
+{
+    let mut maker = maker;
+    tree.take_back(&mut maker, pass);
+    tree.close(maker)
 }

@@ -3,14 +3,14 @@ ghost use Rattle.std.specs.Prelude.{◌≡◌, ◌≤◌};
 
 use crate::asking::ask;
 use crate::judging::same;
-use crate::openings::{numbered, open_with};
+use crate::openings::{close_by, numbered, open_with};
 use crate::shapes::is_ideal;
 use ist_core::{Command, Pair};
 use ist_rest::Closed;
 use ist_tree::{OpenFault, Pass, Tree};
 use plain_map::Plain;
 use std::alloc::Global;
-use std::test::Fail;
+use std::process::Abort;
 use test_tools::Asked;
 
 // Puts the numbers from 1 to `last` at a key, one after another. Gives whether each found the one before.
@@ -54,8 +54,7 @@ fn closed_after(
     let mut pass = tree.pass(&mut maker);
     let agrees = put_again(&tree, &mut pass, key, key, puts);
     let ample = pass.rebuild_refused().is_none();
-    tree.take_back(&mut maker, pass);
-    Ok((tree.close(maker), agrees && ample))
+    Ok((close_by(tree, maker, pass), agrees && ample))
 }
 
 // What the closed tree is like, which is to have these pairs.
@@ -86,27 +85,37 @@ fn used_by(alloc: Global, keys: u64, key: u64, puts: u64) -> Result<Found, OpenF
     found_in(alloc, &closed, &plain, answered)
 }
 
+// Fails unless a tree of so many keys uses so many words after so many puts of key 1, and then has its top row rebuilt or not.
+fn is_used(rt: &impl Abort, alloc: Global, keys: u64, puts: u64, used: u64, ideal: bool)
+    requires few { (keys ≤ 100000) × (puts ≤ 100000) }
+{
+    let first = Some(Pair {
+        key: 1,
+        value: puts,
+    });
+    let wanted = Found {
+        used,
+        pairs: keys,
+        first,
+        ideal,
+        right: true,
+    };
+    same(
+        rt,
+        &used_by(alloc, keys, 1, puts),
+        &Ok(wanted),
+        (keys, puts),
+    );
+}
+
 #[test]
-fn rows_that_come_due_are_rebuilt_from_the_top_one_down(rt: HostRuntime) -> Result<(), Fail> {
-    // the keys, the key that is put, the puts, the words used: 4 and those of the opening, 11 a put, and for
-    // each rebuild 23 and those of the new inner rows; whether the last put had the top row rebuilt
-    let cases = [
-        (2, 1, 7, 92, false),
-        (2, 1, 8, 133, true),
-        (16, 1, 8, 337, true),
-        (400, 1, 99, 6148, false),
-        (400, 1, 100, 8685, true),
-    ];
-    for (keys, key, puts, used, ideal) in cases {
-        let found = used_by(rt.alloc(), keys, key, puts)?;
-        let wanted = Found {
-            used,
-            pairs: keys,
-            first: Some(Pair { key, value: puts }),
-            ideal,
-            right: true,
-        };
-        same(&rt, &found, &wanted, (keys, puts));
-    }
-    Ok(())
+fn rows_that_come_due_are_rebuilt_from_the_top_one_down(rt: HostRuntime) {
+    let alloc = rt.alloc();
+    // the keys, the puts, the words used: 4 and those of the opening, 11 a put, and for each rebuild 23 and those
+    // of the new inner rows; whether the last put had the top row rebuilt
+    is_used(&rt, alloc, 2, 7, 92, false);
+    is_used(&rt, alloc, 2, 8, 133, true);
+    is_used(&rt, alloc, 16, 8, 337, true);
+    is_used(&rt, alloc, 400, 99, 6148, false);
+    is_used(&rt, alloc, 400, 100, 8685, true);
 }

@@ -8,7 +8,6 @@ use ist_core::Pair;
 use ist_scan::Shot;
 use ist_tree::{OpenFault, Pass, Tree};
 use std::alloc::{AllocError, Global};
-use std::test::Fail;
 use std::thread::{Threads, join};
 use test_tools::Asked;
 
@@ -94,11 +93,11 @@ fn scan(alloc: Global, tree: &Tree, pass: Pass) -> Result<Seen, AllocError>
     Ok(seen)
 }
 
-// Two threads write, and two scan.
+// Two threads write, and two scan. Whether each write was answered, and what each scanner saw, as `Seen` has it.
 fn write_and_scan<R: Threads + Sync>(
     rt: &R,
     alloc: Global,
-) -> Result<(bool, Seen, Seen), OpenFault> {
+) -> Result<(bool, (u64, u64), (u64, u64)), OpenFault> {
     let (tree, mut maker) = Tree::open(alloc, 4_000_000, &[])?;
     let even = tree.pass(&mut maker);
     let odd = tree.pass(&mut maker);
@@ -115,7 +114,12 @@ fn write_and_scan<R: Threads + Sync>(
             requires two { two.tree ≡ tree }
         { write_beside(rt, alloc, &tree, odd, 1, two) },
     );
-    Ok((even && odd, one?, two?))
+    let (one, two) = (one?, two?);
+    Ok((
+        even && odd,
+        (one.taken, one.others),
+        (two.taken, two.others),
+    ))
 }
 
 // One thread writes beside one that scans.
@@ -144,19 +148,10 @@ fn write_beside<R: Threads + Sync>(
 }
 
 #[test]
-fn each_shot_beside_threads_that_put_and_remove_is_one_moment_of_theirs(
-    rt: HostRuntime,
-) -> Result<(), Fail> {
+fn each_shot_beside_threads_that_put_and_remove_is_one_moment_of_theirs(rt: HostRuntime) {
+    let wanted = (true, (40, 0), (40, 0));
     for _ in 0..4 {
-        let (answered, one, two) = write_and_scan(&rt, rt.alloc())?;
-        assert!(rt; answered);
-        same(&rt, &(one.taken, one.others), &(40, 0), "the first scanner");
-        same(
-            &rt,
-            &(two.taken, two.others),
-            &(40, 0),
-            "the second scanner",
-        );
+        let seen = write_and_scan(&rt, rt.alloc());
+        same(&rt, &seen, &Ok(wanted), "the scanners");
     }
-    Ok(())
 }

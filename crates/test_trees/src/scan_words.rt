@@ -3,13 +3,13 @@ ghost use Rattle.std.specs.Prelude.{◌≡◌, ◌≤◌};
 
 use crate::asking::ask;
 use crate::judging::same;
-use crate::openings::{numbered, open_with, two_pairs};
+use crate::openings::{close_by, numbered, open_with, two_pairs_and_pass};
 use ist_core::{Full, Reply};
 use ist_image::needed_words;
 use ist_scan::{Shot, shot_words};
 use ist_tree::{OpenFault, Pass, Tree};
 use std::alloc::Global;
-use std::test::Fail;
+use std::process::Abort;
 use test_tools::Asked::{Find, Put, Remove};
 
 // How many words a shot takes, by the words left before and after it, if one is taken.
@@ -35,8 +35,7 @@ fn words_taken(alloc: Global, keys: u64) -> Result<(u64, u64), OpenFault>
     let (tree, mut maker) = open_with(alloc, 2_000_000, &plain)?;
     let mut pass = tree.pass(&mut maker);
     let taken = room_taken(&tree, &mut pass);
-    tree.take_back(&mut maker, pass);
-    let closed = tree.close(maker);
+    let closed = close_by(tree, maker, pass);
     match taken {
         Some(words) if closed.settled() => {
             Ok((words, closed.used().wrapping_sub(needed_words(keys))))
@@ -45,32 +44,43 @@ fn words_taken(alloc: Global, keys: u64) -> Result<(u64, u64), OpenFault>
     }
 }
 
+// Fails unless a shot of a new tree of so many keys takes so many words.
+fn takes(rt: &impl Abort, alloc: Global, keys: u64, words: u64)
+    requires few { keys ≤ 100000 }
+{
+    same(rt, &words_taken(alloc, keys), &Ok((words, words)), keys);
+}
+
+// Fails unless it is said that it takes so many, and it does.
+fn takes_said(rt: &impl Abort, alloc: Global, keys: u64, words: u64)
+    requires few { keys ≤ 100000 }
+{
+    same(rt, &shot_words(keys), &words, keys);
+    takes(rt, alloc, keys, words);
+}
+
 #[test]
-fn a_shot_takes_the_words_that_are_said(rt: HostRuntime) -> Result<(), Fail> {
+fn a_shot_takes_the_words_that_are_said(rt: HostRuntime) {
+    let alloc = rt.alloc();
     // the keys, and 23 words more than those of the inner rows
-    let cases = [(2, 30), (3, 37), (10, 81), (16, 118), (400, 2526)];
-    for (keys, words) in cases {
-        let taken = (words_taken(rt.alloc(), keys)?, shot_words(keys));
-        same(&rt, &taken, &((words, words), words), keys);
-    }
-    Ok(())
+    takes_said(&rt, alloc, 2, 30);
+    takes_said(&rt, alloc, 3, 37);
+    takes_said(&rt, alloc, 10, 81);
+    takes_said(&rt, alloc, 16, 118);
+    takes_said(&rt, alloc, 400, 2526);
 }
 
 #[test]
-fn so_does_a_shot_of_many_keys(rt: HostRuntime) -> Result<(), Fail> {
+fn so_does_a_shot_of_many_keys(rt: HostRuntime) {
     for keys in [100, 255, 256, 257, 1_000, 95_023] {
-        let words = shot_words(keys);
-        same(&rt, &words_taken(rt.alloc(), keys)?, &(words, words), keys);
+        takes(&rt, rt.alloc(), keys, shot_words(keys));
     }
-    Ok(())
 }
 
 #[test]
-fn an_empty_tree_and_a_leaf_are_shot_without_words(rt: HostRuntime) -> Result<(), Fail> {
-    for keys in [0, 1] {
-        same(&rt, &words_taken(rt.alloc(), keys)?, &(0, 0), keys);
-    }
-    Ok(())
+fn an_empty_tree_and_a_leaf_are_shot_without_words(rt: HostRuntime) {
+    takes(&rt, rt.alloc(), 0, 0);
+    takes(&rt, rt.alloc(), 1, 0);
 }
 
 // What a remove of 9 is told, how many keys a shot then has, and how many words it takes.
@@ -87,16 +97,19 @@ fn remove_and_shoot(tree: &Tree, pass: &mut Pass) -> (Result<Reply, Full>, Resul
 fn shot_of_one_left(
     alloc: Global,
 ) -> Result<(Result<Reply, Full>, Result<u64, Full>, u64), OpenFault> {
-    let (tree, mut maker) = two_pairs(alloc, 100)?;
-    let mut pass = tree.pass(&mut maker);
+    let (tree, mut pass) = two_pairs_and_pass(alloc, 100)?;
     Ok(remove_and_shoot(&tree, &mut pass))
 }
 
 #[test]
-fn one_key_left_below_a_row_costs_the_start_and_the_finish(rt: HostRuntime) -> Result<(), Fail> {
+fn one_key_left_below_a_row_costs_the_start_and_the_finish(rt: HostRuntime) {
     let wanted = (Ok(Some(1)), Ok(1), shot_words(1));
-    same(&rt, &shot_of_one_left(rt.alloc())?, &wanted, "one key left");
-    Ok(())
+    same(
+        &rt,
+        &shot_of_one_left(rt.alloc()),
+        &Ok(wanted),
+        "one key left",
+    );
 }
 
 // How many keys a shot has that is taken if there is room for so many keys, or without a look.
@@ -144,13 +157,12 @@ fn shoot_three(tree: &Tree, pass: &mut Pass, looks: bool) -> Told
 
 // The same of a tree of two pairs and 100 words.
 fn third_shot(alloc: Global, looks: bool) -> Result<Told, OpenFault> {
-    let (tree, mut maker) = two_pairs(alloc, 100)?;
-    let mut pass = tree.pass(&mut maker);
+    let (tree, mut pass) = two_pairs_and_pass(alloc, 100)?;
     Ok(shoot_three(&tree, &mut pass, looks))
 }
 
 #[test]
-fn a_shot_without_room_is_refused_and_puts_go_on(rt: HostRuntime) -> Result<(), Fail> {
+fn a_shot_without_room_is_refused_and_puts_go_on(rt: HostRuntime) {
     let full = Full {
         next: 75,
         asked: 30,
@@ -163,12 +175,16 @@ fn a_shot_without_room_is_refused_and_puts_go_on(rt: HostRuntime) -> Result<(), 
         put: Ok(None),
         find: Ok(Some(1)),
     };
-    same(&rt, &third_shot(rt.alloc(), true)?, &wanted, "with a look");
-    Ok(())
+    same(
+        &rt,
+        &third_shot(rt.alloc(), true),
+        &Ok(wanted),
+        "with a look",
+    );
 }
 
 #[test]
-fn without_the_look_it_is_taken_and_no_put_is(rt: HostRuntime) -> Result<(), Fail> {
+fn without_the_look_it_is_taken_and_no_put_is(rt: HostRuntime) {
     let full = Full {
         next: 96,
         asked: 9,
@@ -183,9 +199,8 @@ fn without_the_look_it_is_taken_and_no_put_is(rt: HostRuntime) -> Result<(), Fai
     };
     same(
         &rt,
-        &third_shot(rt.alloc(), false)?,
-        &wanted,
+        &third_shot(rt.alloc(), false),
+        &Ok(wanted),
         "without a look",
     );
-    Ok(())
 }

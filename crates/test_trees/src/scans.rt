@@ -4,14 +4,12 @@ ghost use Rattle.ist_tree.specs.Freezing.{IsFrozenFor};
 
 use crate::judging::same;
 use crate::shots::{
-    first_wrong, part_of, put_all, put_beside, rebuild_beside, remove_beside, shot_of,
-    sum_and_first_wrong,
+    first_wrong, put_all, put_beside, rebuild_beside, remove_beside, shot_of, sum_and_first_wrong,
 };
 use ist_core::{Full, Pair, Reply};
-use ist_scan::{Shot, Total, list_by_both};
-use ist_tree::{Pass, Tree};
+use ist_scan::{ListFault, Shot, Total, list_by_both};
+use ist_tree::{OpenFault, Pass, Tree};
 use std::alloc::Global;
-use std::test::Fail;
 
 // The keys 0, 10, .. 90 with the values 0, 1, .. 9.
 const TEN: [Pair; 10] = [
@@ -55,27 +53,22 @@ fn read_of(tree: &Tree, pass: &mut Pass, shot: &Shot) -> (u64, [Total; 3], [Tota
 }
 
 // The same of a shot of the ten pairs.
-fn read_of_ten(alloc: Global) -> Result<(u64, [Total; 3], [Total; 3]), Fail> {
+fn read_of_ten(alloc: Global) -> Result<(u64, [Total; 3], [Total; 3]), OpenFault> {
     let (tree, mut pass, shot) = shot_of(alloc, &TEN)?;
     let read = read_of(&tree, &mut pass, &shot);
     Ok(read)
 }
 
 #[test]
-fn ten_readings_are_added_up_between_keys_and_in_bins(rt: HostRuntime) -> Result<(), Fail> {
+fn ten_readings_are_added_up_between_keys_and_in_bins(rt: HostRuntime) {
     let totals = [total(4, 14, 2, 5), Total::of_none(), total(10, 45, 0, 9)];
     let bins = [total(4, 6, 0, 3), total(4, 22, 4, 7), total(2, 17, 8, 9)];
-    same(
-        &rt,
-        &read_of_ten(rt.alloc())?,
-        &(10, totals, bins),
-        "the ten pairs",
-    );
-    Ok(())
+    let wanted = (10, totals, bins);
+    same(&rt, &read_of_ten(rt.alloc()), &Ok(wanted), "the ten pairs");
 }
 
 #[test]
-fn a_list_a_walk_and_a_total_agree_on_each_interval(rt: HostRuntime) -> Result<(), Fail> {
+fn a_list_a_walk_and_a_total_agree_on_each_interval(rt: HostRuntime) {
     // first, last, the part of the ten pairs
     let cases = [
         (0, u64::MAX, 0, 10),
@@ -90,9 +83,8 @@ fn a_list_a_walk_and_a_total_agree_on_each_interval(rt: HostRuntime) -> Result<(
         (50, 20, 5, 5),
         (u64::MAX, 0, 5, 5),
     ];
-    let found = sum_and_first_wrong(rt.alloc(), &TEN, &cases)?;
-    same(&rt, &found, &(45, Ok(None)), "the ten pairs");
-    Ok(())
+    let found = sum_and_first_wrong(rt.alloc(), &TEN, &cases);
+    same(&rt, &found, &Ok((45, None)), "the ten pairs");
 }
 
 // An interval whose list, walk and total aren't those of its part of the pairs, if there is one.
@@ -100,12 +92,9 @@ type Wrong = Option<(u64, u64)>;
 
 // What the removal of key 1 is told beside a shot, and what that shot then lists wrong; how many keys a later shot
 // has, and what that lists wrong.
-fn remove_and_list(
-    alloc: Global,
-    tree: &Tree,
-    pass: &mut Pass,
-    shot: &Shot,
-) -> Result<(Result<Reply, Full>, Wrong, u64, Wrong), Fail>
+type Removed = Result<(Result<Reply, Full>, Wrong, u64, Wrong), ListFault>;
+
+fn remove_and_list(alloc: Global, tree: &Tree, pass: &mut Pass, shot: &Shot) -> Removed
     requires same_tree { pass.old.tree ≡ tree.now }
     requires frozen { IsFrozenFor pass.old shot.now }
 {
@@ -119,18 +108,17 @@ fn remove_and_list(
 }
 
 // The same in a tree of the one pair.
-fn remove_from_one(alloc: Global) -> Result<(Result<Reply, Full>, Wrong, u64, Wrong), Fail> {
+fn remove_from_one(alloc: Global) -> Result<Removed, OpenFault> {
     let (tree, mut pass, shot) = shot_of(alloc, &[ONE])?;
-    remove_and_list(alloc, &tree, &mut pass, &shot)
+    let removed = remove_and_list(alloc, &tree, &mut pass, &shot);
+    Ok(removed)
 }
 
 #[test]
-fn a_shot_keeps_a_key_that_was_removed_since_and_a_new_one_has_none(
-    rt: HostRuntime,
-) -> Result<(), Fail> {
-    let found = remove_from_one(rt.alloc())?;
-    same(&rt, &found, &(Ok(Some(1)), None, 0, None), "the one pair");
-    Ok(())
+fn a_shot_keeps_a_key_that_was_removed_since_and_a_new_one_has_none(rt: HostRuntime) {
+    let wanted = (Ok(Some(1)), None, 0, None);
+    let found = remove_from_one(rt.alloc());
+    same(&rt, &found, &Ok(Ok(wanted)), "the one pair");
 }
 
 // Ten times puts a pair and takes another shot. Gives how many of these were taken.
@@ -152,12 +140,9 @@ fn rebuild_ten(tree: &Tree, pass: &mut Pass, shot: &Shot) -> Result<u64, Full>
 
 // How many further shots were taken, what the first one then lists wrong, and what the last one has at the key that
 // was put.
-fn rebuild_and_read(
-    alloc: Global,
-    tree: &Tree,
-    pass: &mut Pass,
-    shot: &Shot,
-) -> Result<(Result<u64, Full>, Wrong, Total), Fail>
+type Rebuilt = Result<(Result<u64, Full>, Wrong, Total), ListFault>;
+
+fn rebuild_and_read(alloc: Global, tree: &Tree, pass: &mut Pass, shot: &Shot) -> Rebuilt
     requires same_tree { pass.old.tree ≡ tree.now }
     requires frozen { IsFrozenFor pass.old shot.now }
 {
@@ -169,52 +154,55 @@ fn rebuild_and_read(
 }
 
 // The same in a tree of the ten pairs.
-fn rebuild_of_ten(alloc: Global) -> Result<(Result<u64, Full>, Wrong, Total), Fail> {
+fn rebuild_of_ten(alloc: Global) -> Result<Rebuilt, OpenFault> {
     let (tree, mut pass, shot) = shot_of(alloc, &TEN)?;
-    rebuild_and_read(alloc, &tree, &mut pass, &shot)
+    let rebuilt = rebuild_and_read(alloc, &tree, &mut pass, &shot);
+    Ok(rebuilt)
 }
 
 #[test]
-fn a_shot_is_read_as_it_was_after_ten_further_rebuilds(rt: HostRuntime) -> Result<(), Fail> {
-    let found = rebuild_of_ten(rt.alloc())?;
-    same(
-        &rt,
-        &found,
-        &(Ok(10), None, total(1, 109, 109, 109)),
-        "the ten pairs",
-    );
-    Ok(())
+fn a_shot_is_read_as_it_was_after_ten_further_rebuilds(rt: HostRuntime) {
+    let wanted = (Ok(10), None, total(1, 109, 109, 109));
+    let found = rebuild_of_ten(rt.alloc());
+    same(&rt, &found, &Ok(Ok(wanted)), "the ten pairs");
 }
 
-// What two passes list of a shot from key 20 to key 40. One of them put the ten pairs and takes it,
-// and the other learns of both by a note.
-fn list_by_two(
-    alloc: Global,
-    tree: &Tree,
-    taker: &mut Pass,
-    other: &mut Pass,
-) -> Result<(Vec<Pair>, Vec<Pair>), Fail>
+// The first four pairs of a list.
+fn first_four(list: &[Pair]) -> [Option<Pair>; 4] {
+    [
+        list.get(0).copied(),
+        list.get(1).copied(),
+        list.get(2).copied(),
+        list.get(3).copied(),
+    ]
+}
+
+// The first four pairs that each of two passes lists of a shot from key 20 to key 40. One of them put the ten pairs and
+// takes it, and the other learns of both by a note.
+type Lists = Result<[[Option<Pair>; 4]; 2], ListFault>;
+
+fn list_by_two(alloc: Global, tree: &Tree, taker: &mut Pass, other: &mut Pass) -> Lists
     requires same_tree { taker.old.tree ≡ tree.now }
     requires other_tree { other.old.tree ≡ tree.now }
 {
     put_all(tree, taker, &TEN)?;
-    let lists = list_by_both(alloc, tree, taker, other, 20, 40)?;
-    Ok(lists)
+    let (taken, learnt) = list_by_both(alloc, tree, taker, other, 20, 40)?;
+    Ok([first_four(&taken), first_four(&learnt)])
 }
 
 // The same in a new tree.
-fn list_in_new_tree(alloc: Global) -> Result<(Vec<Pair>, Vec<Pair>), Fail> {
+fn list_in_new_tree(alloc: Global) -> Result<Lists, OpenFault> {
     let (tree, mut maker) = Tree::open(alloc, 20_000, &[])?;
     let mut taker = tree.pass(&mut maker);
     let mut other = tree.pass(&mut maker);
-    list_by_two(alloc, &tree, &mut taker, &mut other)
+    let lists = list_by_two(alloc, &tree, &mut taker, &mut other);
+    Ok(lists)
 }
 
 #[test]
-fn two_passes_list_one_shot_alike(rt: HostRuntime) -> Result<(), Fail> {
-    let (taken, learnt) = list_in_new_tree(rt.alloc())?;
-    let part = part_of(rt.alloc(), &TEN, 2, 5)?;
-    same(&rt, &taken, &part, "the pass that took it");
-    same(&rt, &learnt, &part, "the pass that learnt of it");
-    Ok(())
+fn two_passes_list_one_shot_alike(rt: HostRuntime) {
+    let part = [Some(TEN[2]), Some(TEN[3]), Some(TEN[4]), None];
+    let lists = list_in_new_tree(rt.alloc());
+    let of = "the pass that took it, and the one that learnt of it";
+    same(&rt, &lists, &Ok(Ok([part, part])), of);
 }

@@ -3,11 +3,12 @@ ghost use Rattle.std.specs.Prelude.{◌≡◌, ◌≤◌};
 
 use crate::asking::ask;
 use crate::judging::same;
+use crate::openings::close_by;
 use Asked::{Find, Put};
 use ist_core::{Full, Reply};
 use ist_tree::{OpenFault, Pass, Tree};
 use std::alloc::Global;
-use std::test::Fail;
+use std::process::Abort;
 use test_tools::Asked;
 
 // What came of ten puts of 1 to 10, each key with its own number as the value.
@@ -85,8 +86,7 @@ fn outcome_in(alloc: Global, words: u32, with_more: bool) -> Result<Outcome, Ope
     let (tree, mut maker) = Tree::open(alloc, words, &[])?;
     let mut pass = tree.pass(&mut maker);
     let told = put_more(&tree, &mut pass, with_more);
-    tree.take_back(&mut maker, pass);
-    let closed = tree.close(maker);
+    let closed = close_by(tree, maker, pass);
     let agrees = told.agrees && closed.pairs(alloc)?.len() as u64 == told.count;
     Ok(Outcome {
         tenth: told.tenth,
@@ -98,13 +98,20 @@ fn outcome_in(alloc: Global, words: u32, with_more: bool) -> Result<Outcome, Ope
     })
 }
 
+// Whether a tree of so many words agrees with what eleven puts were answered.
+fn agrees_in(alloc: Global, words: u32) -> Result<bool, OpenFault>
+    requires least { 4 ≤ words }
+    requires most { words ≤ 1000 }
+{
+    let outcome = outcome_in(alloc, words, true)?;
+    Ok(outcome.agrees)
+}
+
 #[test]
-fn what_was_answered_stands_in_a_tree_of_any_size(rt: HostRuntime) -> Result<(), Fail> {
+fn what_was_answered_stands_in_a_tree_of_any_size(rt: HostRuntime) {
     for words in 4..259 {
-        let outcome = outcome_in(rt.alloc(), words, true)?;
-        same(&rt, &outcome.agrees, &true, words);
+        same(&rt, &agrees_in(rt.alloc(), words), &Ok(true), words);
     }
-    Ok(())
 }
 
 // The last answer of ten puts, the refused rebuild, the words used, whether the tree is settled, and whether it agrees.
@@ -139,22 +146,50 @@ fn full(next: u64, asked: u64, words: u64) -> Full {
     Full { next, asked, words }
 }
 
+// Fails unless ten puts in a tree of so many words are answered, with this refused rebuild, and leave so many words used and
+// the tree settled or not; and unless an eleventh is refused so.
+fn is_left(
+    rt: &impl Abort,
+    alloc: Global,
+    words: u32,
+    rebuild: Option<Full>,
+    eleventh: Full,
+    used: u64,
+    settled: bool,
+)
+    requires least { 4 ≤ words }
+    requires most { words ≤ 1000 }
+{
+    let wanted = (Ok(None), rebuild, used, settled, true);
+    same(rt, &ten_in(alloc, words), &Ok(wanted), words);
+    let wanted = (Ok(None), Err(eleventh), true);
+    same(rt, &eleven_in(alloc, words), &Ok(wanted), words);
+}
+
+// Fails unless ten puts in a tree of so many words are answered, with this refused rebuild; the same for the rest.
+fn is_unsettled(rt: &impl Abort, alloc: Global, words: u32, rebuild: Full, eleventh: Full)
+    requires least { 4 ≤ words }
+    requires most { words ≤ 1000 }
+{
+    is_left(
+        rt,
+        alloc,
+        words,
+        Some(rebuild),
+        eleventh,
+        rebuild.next,
+        false,
+    );
+}
+
 #[test]
-fn a_refused_rebuild_leaves_the_put_answered(rt: HostRuntime) -> Result<(), Fail> {
-    // the words, the refused rebuild, then a put of 11, the words used without it, settled
-    let cases = [
-        (177, Some(full(177, 5, 177)), full(177, 2, 177), 177, false),
-        (185, Some(full(182, 9, 185)), full(184, 7, 185), 182, false),
-        (191, Some(full(191, 9, 191)), full(191, 9, 191), 191, false),
-        (200, Some(full(200, 7, 200)), full(200, 9, 200), 200, false),
-        (249, Some(full(249, 9, 249)), full(249, 9, 249), 249, false),
-        (258, None, full(258, 2, 258), 258, true),
-    ];
-    for (words, rebuild, eleventh, used, settled) in cases {
-        let wanted = (Ok(None), rebuild, used, settled, true);
-        same(&rt, &ten_in(rt.alloc(), words)?, &wanted, words);
-        let wanted = (Ok(None), Err(eleventh), true);
-        same(&rt, &eleven_in(rt.alloc(), words)?, &wanted, words);
-    }
-    Ok(())
+fn a_refused_rebuild_leaves_the_put_answered(rt: HostRuntime) {
+    let alloc = rt.alloc();
+    // the words, the refused rebuild, whose first free word ends those that are used, then a put of 11
+    is_unsettled(&rt, alloc, 177, full(177, 5, 177), full(177, 2, 177));
+    is_unsettled(&rt, alloc, 185, full(182, 9, 185), full(184, 7, 185));
+    is_unsettled(&rt, alloc, 191, full(191, 9, 191), full(191, 9, 191));
+    is_unsettled(&rt, alloc, 200, full(200, 7, 200), full(200, 9, 200));
+    is_unsettled(&rt, alloc, 249, full(249, 9, 249), full(249, 9, 249));
+    is_left(&rt, alloc, 258, None, full(258, 2, 258), 258, true);
 }

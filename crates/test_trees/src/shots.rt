@@ -7,16 +7,26 @@ use ist_core::{Full, Pair, Reply};
 use ist_scan::{Shot, Total};
 use ist_tree::{OpenFault, Pass, Tree};
 use std::alloc::{AllocError, Global};
-use std::test::Fail;
 use test_tools::Asked;
 
-/// A tree of 20,000 words without pairs, and its first pass.
-pub(crate) fn new_tree(alloc: Global) -> Result<(Tree, Pass), OpenFault>
+/// What a tree lacks that refuses what is made in it first.
+fn too_small(full: Full) -> OpenFault {
+    OpenFault::Small {
+        needed: full.next.wrapping_add(full.asked),
+        words: full.words,
+    }
+}
+
+/// A tree of 20,000 words in which the pairs were put, one after another, and its first pass.
+pub(crate) fn tree_of(alloc: Global, pairs: &[Pair]) -> Result<(Tree, Pass), OpenFault>
     ensures same_tree { IfOk result (λ t. t.1.tree ≡ t.0) }
 {
     let (tree, mut maker) = Tree::open(alloc, 20_000, &[])?;
-    let pass = tree.pass(&mut maker);
-    Ok((tree, pass))
+    let mut pass = tree.pass(&mut maker);
+    match put_all(&tree, &mut pass, pairs) {
+        Ok(()) => Ok((tree, pass)),
+        Err(full) => Err(too_small(full)),
+    }
 }
 
 /// Puts the pairs, one after another, up to the first that is refused.
@@ -30,15 +40,16 @@ pub(crate) fn put_all(tree: &Tree, pass: &mut Pass, pairs: &[Pair]) -> Result<()
     Ok(())
 }
 
-/// A new tree in which the pairs were put, its pass, and a shot of it.
-pub(crate) fn shot_of(alloc: Global, pairs: &[Pair]) -> Result<(Tree, Pass, Shot), Fail>
+/// Such a tree, its pass, and a shot of it.
+pub(crate) fn shot_of(alloc: Global, pairs: &[Pair]) -> Result<(Tree, Pass, Shot), OpenFault>
     ensures same_tree { IfOk result (λ t. t.1.tree ≡ t.0) }
     ensures frozen { IfOk result (λ t. IsFrozenFor t.1 t.2) }
 {
-    let (tree, mut pass) = new_tree(alloc)?;
-    put_all(&tree, &mut pass, pairs)?;
-    let shot = Shot::take(&tree, &mut pass)?;
-    Ok((tree, pass, shot))
+    let (tree, mut pass) = tree_of(alloc, pairs)?;
+    match Shot::take(&tree, &mut pass) {
+        Ok(shot) => Ok((tree, pass, shot)),
+        Err(full) => Err(too_small(full)),
+    }
 }
 
 /// Puts a pair. The shot stays taken.
@@ -138,20 +149,13 @@ pub(crate) fn list_alike(
     }
 }
 
-/// The pairs from number `low` on, to the one before `high`.
-pub(crate) fn part_of(
-    alloc: Global,
-    pairs: &[Pair],
-    low: usize,
-    high: usize,
-) -> Result<Vec<Pair>, AllocError> {
-    let mut part = Vec::new(alloc);
-    for (i, pair) in pairs.iter().enumerate() {
-        if low <= i && i < high {
-            part.push(*pair)?;
-        }
+// Whether the list has the pairs from number `low` on, to the one before `high`.
+fn is_part(list: Option<Vec<Pair>>, pairs: &[Pair], low: usize, high: usize) -> bool {
+    let part = pairs.get(low..high).unwrap_or(&[]);
+    match list {
+        Some(list) => list.as_slice() == part,
+        None => false,
     }
-    Ok(part)
 }
 
 /// The first interval whose list, walk and total aren't those of its part of the pairs. A case has the
@@ -171,8 +175,7 @@ pub(crate) fn first_wrong(
     let mut wrong = None;
     for (first, last, low, high) in cases {
         let found = list_alike(alloc, tree, pass, shot, *first, *last)?;
-        let part = part_of(alloc, pairs, *low, *high)?;
-        if found != Some(part) && wrong.is_none() {
+        if !is_part(found, pairs, *low, *high) && wrong.is_none() {
             wrong = Some((*first, *last));
         }
     }
@@ -184,23 +187,28 @@ pub(crate) fn sum_and_first_wrong(
     alloc: Global,
     pairs: &[Pair],
     cases: &[(u64, u64, usize, usize)],
-) -> Result<(u128, Result<Option<(u64, u64)>, AllocError>), Fail> {
+) -> Result<(u128, Option<(u64, u64)>), OpenFault> {
     let (tree, mut pass, shot) = shot_of(alloc, pairs)?;
     let sum = shot.total(&tree, &mut pass, 0, u64::MAX).sum;
-    let wrong = first_wrong(alloc, &tree, &mut pass, &shot, pairs, cases);
+    let wrong = first_wrong(alloc, &tree, &mut pass, &shot, pairs, cases)?;
     Ok((sum, wrong))
+}
+
+// The total with one more value.
+fn with(total: Total, value: u64) -> Total {
+    Total {
+        keys: total.keys.wrapping_add(1),
+        sum: total.sum.wrapping_add(u128::from(value)),
+        least: Some(total.least.unwrap_or(value).min(value)),
+        greatest: Some(total.greatest.unwrap_or(value).max(value)),
+    }
 }
 
 /// The total of these pairs, by their values alone.
 pub(crate) fn total_of(pairs: &[Pair]) -> Total {
-    let mut sum: u128 = 0;
+    let mut total = Total::of_none();
     for pair in pairs {
-        sum = sum.wrapping_add(u128::from(pair.value));
+        total = with(total, pair.value);
     }
-    Total {
-        keys: pairs.len() as u64,
-        sum,
-        least: pairs.iter().map(|pair| pair.value).min(),
-        greatest: pairs.iter().map(|pair| pair.value).max(),
-    }
+    total
 }

@@ -4,8 +4,8 @@ use crate::judging::same;
 use Asked::{Find, Put, Remove};
 use ist_core::{Pair, Reply};
 use std::alloc::{AllocError, Global};
-use std::test::Fail;
-use test_tools::{Asked, Clock, Misfit, Order, Timed, Told, When, judge_moments};
+use std::process::Abort;
+use test_tools::{Asked, Misfit, Order, Told, judge_moments};
 
 // What a thread was told, in its order.
 fn tale(alloc: Global, replies: &[(Asked, Reply)]) -> Result<Vec<Told>, AllocError> {
@@ -48,46 +48,47 @@ const AT_101: Pair = Pair { key: 1, value: 101 };
 
 const AT_201: Pair = Pair { key: 1, value: 201 };
 
+// Fails unless what two threads were told has an order, with these pairs at the close.
+fn has_order(
+    rt: &impl Abort,
+    alloc: Global,
+    one: &[(Asked, Reply)],
+    two: &[(Asked, Reply)],
+    closing: &[Pair],
+) {
+    same(rt, &judged(alloc, one, two, closing), &Ok(()), "a tale");
+}
+
+// Fails unless it has none, for this reason.
+fn has_none(
+    rt: &impl Abort,
+    alloc: Global,
+    one: &[(Asked, Reply)],
+    two: &[(Asked, Reply)],
+    closing: &[Pair],
+    misfit: Misfit,
+) {
+    let found = judged(alloc, one, two, closing);
+    same(rt, &found, &Err(misfit), misfit);
+}
+
 #[test]
-fn tales_that_have_an_order_are_let_through(rt: HostRuntime) -> Result<(), Fail> {
+fn tales_that_have_an_order_are_let_through(rt: HostRuntime) {
     let alloc = rt.alloc();
     let put_101 = (Put(1, 101), Some(100));
     let put_201 = (Put(1, 201), Some(101));
+    let (early, between) = ((Find(1), Some(100)), (Find(1), Some(101)));
+    let late = (Find(1), Some(201));
     // one after the other, and a find between, before and after
-    judged(
-        alloc,
-        &[put_101, (Find(1), Some(101))],
-        &[put_201],
-        &[AT_201],
-    )?;
-    judged(
-        alloc,
-        &[put_101, (Find(1), Some(201))],
-        &[put_201],
-        &[AT_201],
-    )?;
-    judged(
-        alloc,
-        &[put_101],
-        &[(Find(1), Some(100)), put_201],
-        &[AT_201],
-    )?;
+    has_order(&rt, alloc, &[put_101, between], &[put_201], &[AT_201]);
+    has_order(&rt, alloc, &[put_101, late], &[put_201], &[AT_201]);
+    has_order(&rt, alloc, &[put_101], &[early, put_201], &[AT_201]);
     // a life that ends, and another one
     let gone = (Remove(1), Some(100));
     let anew = (Put(1, 101), None);
-    judged(
-        alloc,
-        &[gone, anew],
-        &[(Find(1), None), (Find(1), Some(101))],
-        &[AT_101],
-    )?;
-    judged(
-        alloc,
-        &[gone],
-        &[(Find(1), Some(100)), (Remove(1), None)],
-        &[],
-    )?;
-    Ok(())
+    let none = (Find(1), None);
+    has_order(&rt, alloc, &[gone, anew], &[none, between], &[AT_101]);
+    has_order(&rt, alloc, &[gone], &[early, (Remove(1), None)], &[]);
 }
 
 #[test]
@@ -95,36 +96,42 @@ fn tales_that_have_no_order_are_refused(rt: HostRuntime) {
     let alloc = rt.alloc();
     let put_101 = (Put(1, 101), Some(100));
     let put_201 = (Put(1, 201), Some(101));
-    let gone = (Remove(1), Some(100));
-    let again = (Remove(1), Some(101));
-    let anew = (Put(1, 101), None);
     let late = (Find(1), Some(101));
     let end = [AT_201];
-    // what each thread was told, the pairs at the close
-    let found = [
-        judged(alloc, &[put_101], &[(Put(1, 201), Some(100))], &end),
-        judged(alloc, &[gone, anew], &[again, anew], &[AT_101]),
-        judged(alloc, &[put_101], &[put_201], &[AT_101]),
-        judged(alloc, &[put_101], &[put_201], &[]),
-        judged(alloc, &[], &[put_201], &end),
-        judged(alloc, &[put_201, put_101], &[], &end),
-        judged(alloc, &[put_101], &[put_201, late], &end),
-        judged(alloc, &[put_101, put_201], &[(Find(1), None)], &end),
-        judged(alloc, &[put_101, put_201], &[(Find(2), Some(101))], &end),
-    ];
-    // what is wrong with each
-    let misfits = [
-        Misfit::ReplacedTwice { value: 100 },
-        Misfit::WrittenTwice { value: 101 },
-        Misfit::NotAtClose,
-        Misfit::NotAtClose,
-        Misfit::OutOfReach,
-        Misfit::OutOfOrder { key: 1, value: 101 },
-        Misfit::OutOfOrder { key: 1, value: 101 },
-        Misfit::NotFound { key: 1 },
-        Misfit::NeverThere { key: 2, value: 101 },
-    ];
-    same(&rt, &found, &misfits.map(Err), "each tale");
+    // what each thread was told, the pairs at the close, what is wrong
+    let misfit = Misfit::ReplacedTwice { value: 100 };
+    let other = (Put(1, 201), Some(100));
+    has_none(&rt, alloc, &[put_101], &[other], &end, misfit);
+    let misfit = Misfit::NotAtClose;
+    has_none(&rt, alloc, &[put_101], &[put_201], &[AT_101], misfit);
+    has_none(&rt, alloc, &[put_101], &[put_201], &[], misfit);
+    has_none(&rt, alloc, &[], &[put_201], &end, Misfit::OutOfReach);
+    let misfit = Misfit::OutOfOrder { key: 1, value: 101 };
+    has_none(&rt, alloc, &[put_201, put_101], &[], &end, misfit);
+    has_none(&rt, alloc, &[put_101], &[put_201, late], &end, misfit);
+}
+
+#[test]
+fn tales_of_what_was_not_there_are_refused(rt: HostRuntime) {
+    let alloc = rt.alloc();
+    let both = [(Put(1, 101), Some(100)), (Put(1, 201), Some(101))];
+    let anew = (Put(1, 101), None);
+    let one = [(Remove(1), Some(100)), anew];
+    let two = [(Remove(1), Some(101)), anew];
+    // what each thread was told, the pairs at the close, what is wrong
+    let misfit = Misfit::WrittenTwice { value: 101 };
+    has_none(&rt, alloc, &one, &two, &[AT_101], misfit);
+    let misfit = Misfit::NotFound { key: 1 };
+    has_none(&rt, alloc, &both, &[(Find(1), None)], &[AT_201], misfit);
+    let misfit = Misfit::NeverThere { key: 2, value: 101 };
+    has_none(
+        &rt,
+        alloc,
+        &both,
+        &[(Find(2), Some(101))],
+        &[AT_201],
+        misfit,
+    );
 }
 
 #[test]
@@ -168,6 +175,17 @@ fn frozen_so(alloc: Global, one: &[Pair], two: &[Pair]) -> Result<(), Misfit> {
     judge_moments(alloc, &order, &threads, &frozen)
 }
 
+// Fails unless this is the judgement of two frozen trees.
+fn is_frozen(
+    rt: &impl Abort,
+    alloc: Global,
+    one: &[Pair],
+    two: &[Pair],
+    wanted: Result<(), Misfit>,
+) {
+    same(rt, &frozen_so(alloc, one, two), &wanted, (one, two));
+}
+
 #[test]
 fn frozen_trees_that_are_no_moments_are_refused(rt: HostRuntime) {
     let alloc = rt.alloc();
@@ -176,139 +194,14 @@ fn frozen_trees_that_are_no_moments_are_refused(rt: HostRuntime) {
     let third = Pair { key: 3, value: 301 };
     let later = Pair { key: 3, value: 302 };
     let none = Pair { key: 3, value: 303 };
-    // two frozen trees
-    let found = [
-        frozen_so(alloc, &[first, third], &[AT_101, second, later]),
-        frozen_so(alloc, &[first], &[first, second]),
-        frozen_so(alloc, &[first, later], &[AT_101, third]),
-        frozen_so(alloc, &[AT_101, third], &[first, later]),
-        frozen_so(alloc, &[none], &[first]),
-    ];
-    // what is wrong with each
-    let misfits = [
-        Ok(()),
-        Err(Misfit::Torn { key: 2 }),
-        Err(Misfit::Crossed),
-        Err(Misfit::Crossed),
-        Err(Misfit::NeverThere { key: 3, value: 303 }),
-    ];
-    same(&rt, &found, &misfits, "each two frozen trees");
-}
-
-// A call with its reply, the time at which it began and the one at which it ended.
-type At = (Asked, Reply, u64, u64);
-
-// What a thread was told, and when.
-fn timed_tale(alloc: Global, calls: &[At]) -> Result<Vec<Timed>, AllocError> {
-    let mut timed = Vec::new(alloc);
-    for (asked, reply, began, ended) in calls {
-        timed.push(Timed {
-            told: Told {
-                asked: *asked,
-                reply: *reply,
-            },
-            when: When {
-                began: *began,
-                ended: *ended,
-            },
-        })?;
-    }
-    Ok(timed)
-}
-
-// The calls without their times.
-fn untimed(alloc: Global, timed: &[Timed]) -> Result<Vec<Told>, AllocError> {
-    let mut told = Vec::new(alloc);
-    for one in timed {
-        told.push(one.told)?;
-    }
-    Ok(told)
-}
-
-// Judges what two threads were told at these times, in a map that had 100 at key 1. They have an order
-// that doesn't keep the times.
-fn timely(alloc: Global, one: &[At], two: &[At], closing: &[Pair]) -> Result<(), Misfit> {
-    let opening = [Pair { key: 1, value: 100 }];
-    let (mut threads, mut told) = (Vec::new(alloc), Vec::new(alloc));
-    for calls in [one, two] {
-        let timed = timed_tale(alloc, calls)?;
-        told.push(untimed(alloc, &timed)?)?;
-        threads.push(timed)?;
-    }
-    let order = Order::of(alloc, &opening, &told, closing)?;
-    order.judge_times(alloc, &threads)
-}
-
-#[test]
-fn calls_side_by_side_may_come_in_any_order(rt: HostRuntime) -> Result<(), Fail> {
-    let alloc = rt.alloc();
-    let put = (Put(1, 101), Some(100), 2, 7);
-    // the find begins before the put ended
-    timely(alloc, &[put], &[(Find(1), Some(100), 6, 9)], &[AT_101])?;
-    timely(alloc, &[put], &[(Find(1), Some(101), 6, 9)], &[AT_101])?;
-    // or ends after the put began
-    timely(alloc, &[put], &[(Find(1), Some(101), 2, 3)], &[AT_101])?;
-    // it finds nothing while the key has one life, then another
-    let gone = (Remove(1), Some(100), 2, 5);
-    let anew = (Put(1, 101), None, 6, 9);
-    let none = (Find(1), None, 4, 7);
-    timely(alloc, &[gone, anew], &[none], &[AT_101])?;
-    Ok(())
-}
-
-#[test]
-fn a_call_that_goes_back_in_time_is_refused(rt: HostRuntime) {
-    let alloc = rt.alloc();
-    let put = (Put(1, 101), Some(100), 2, 5);
-    let gone = (Remove(1), Some(100), 2, 5);
-    let anew = (Put(1, 101), None, 6, 9);
-    let other = (Put(2, 201), None, 2, 5);
-    let kept = Pair { key: 1, value: 100 };
-    let at_2 = Pair { key: 2, value: 201 };
-    // what each thread was told and when, the pairs at the close
-    let found = [
-        // a value that was replaced before
-        timely(alloc, &[put], &[(Find(1), Some(100), 6, 7)], &[AT_101]),
-        // a value that is put later
-        timely(
-            alloc,
-            &[(Find(1), Some(101), 2, 3)],
-            &[(Put(1, 101), Some(100), 4, 5)],
-            &[AT_101],
-        ),
-        // a value that was removed before
-        timely(alloc, &[gone], &[(Find(1), Some(100), 6, 7)], &[]),
-        // nothing, though a value was put before
-        timely(alloc, &[other], &[(Find(2), None, 6, 7)], &[kept, at_2]),
-        // nothing, though the value is removed later
-        timely(
-            alloc,
-            &[(Find(1), None, 2, 3)],
-            &[(Remove(1), Some(100), 4, 5)],
-            &[],
-        ),
-        // the old life, though a new one has begun
-        timely(
-            alloc,
-            &[gone, anew],
-            &[(Find(1), Some(100), 10, 11)],
-            &[AT_101],
-        ),
-        // nothing, though the new life had begun
-        timely(alloc, &[gone, anew], &[(Find(1), None, 10, 11)], &[AT_101]),
-    ];
-    let stale = [1, 1, 1, 2, 1, 1, 1].map(|key| Err(Misfit::Stale { key }));
-    same(&rt, &found, &stale, "each tale");
-}
-
-#[test]
-fn the_clock_orders_calls_as_they_are_made(rt: HostRuntime) {
-    let clock = Clock::new();
-    let (first, beside) = (clock.begin(), clock.begin());
-    let first = clock.end(first);
-    let after = clock.end(clock.begin());
-    let beside = clock.end(beside);
-    let is_apart = first.ended < beside.began || beside.ended < after.began;
-    let found = (first.ended < after.began, is_apart);
-    same(&rt, &found, &(true, false), "before, and apart");
+    // two frozen trees, what is wrong with them
+    let end = [AT_101, second, later];
+    is_frozen(&rt, alloc, &[first, third], &end, Ok(()));
+    let torn = Err(Misfit::Torn { key: 2 });
+    is_frozen(&rt, alloc, &[first], &[first, second], torn);
+    let crossed = Err(Misfit::Crossed);
+    is_frozen(&rt, alloc, &[first, later], &[AT_101, third], crossed);
+    is_frozen(&rt, alloc, &[AT_101, third], &[first, later], crossed);
+    let absent = Err(Misfit::NeverThere { key: 3, value: 303 });
+    is_frozen(&rt, alloc, &[none], &[first], absent);
 }

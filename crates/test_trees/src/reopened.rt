@@ -1,13 +1,16 @@
-//! Trees that run full and are followed by larger ones.
+//! Trees that run full and are followed by larger ones (`ist_reopen`).
 ghost use Rattle.std.specs.Prelude.{◌≡◌, length, IfOk};
 
-use crate::{MOST_WORDS, NotReopened, ReopenFault, open_after, reopen};
+use crate::asking::ask;
+use crate::judging::same;
 use ist_core::Pair;
 use ist_image::Image;
+use ist_reopen::{MOST_WORDS, NotReopened, ReopenFault, open_after, reopen};
 use ist_rest::Closed;
 use ist_tree::{Maker, OpenFault, Pass, Tree};
-use std::alloc::Global;
-use std::test::Fail;
+use std::alloc::{AllocError, Global};
+use std::process::Abort;
+use test_tools::Asked;
 
 // Puts keys from `first` on, each with three times itself as the value. Returns the first that was
 // refused, or `end`.
@@ -16,7 +19,7 @@ fn put_until_full(tree: &Tree, pass: &mut Pass, first: u64, end: u64) -> u64
     ensures same_tree { pass.new.tree ≡ tree.now }
 {
     for key in first..end {
-        if tree.put(pass, key, key.wrapping_mul(3)).is_err() {
+        if ask(tree, pass, Asked::Put(key, key.wrapping_mul(3))).is_err() {
             return key;
         }
     }
@@ -73,16 +76,31 @@ fn put_in_three(alloc: Global, end: u64) -> Result<([u64; 3], Vec<Pair>), Reopen
     Ok(([one, two, three], pairs))
 }
 
-#[test]
-fn puts_go_on_after_a_tree_ran_full_and_no_pair_is_lost(rt: HostRuntime) -> Result<(), Fail> {
-    let ([one, two, three], pairs) = put_in_three(rt.alloc(), 100)?;
-    assert!(rt; 0 < one && one < two && two < 100, "{one} {two}");
-    assert_eq!(rt; (three, pairs.len()), (100, 100));
-    for (key, pair) in (0..100u64).zip(&pairs) {
+// Whether these are the pairs with the keys from 0 on, each with three times its key as the value.
+fn are_threefold(pairs: &[Pair]) -> bool {
+    let mut key = 0u64;
+    for pair in pairs {
         let value = key.wrapping_mul(3);
-        assert_eq!(rt; *pair, Pair { key, value });
+        if *pair != (Pair { key, value }) {
+            return false;
+        }
+        key = key.wrapping_add(1);
     }
-    Ok(())
+    true
+}
+
+// Whether each of the first two trees took a part of 100 keys, how many were put after the third, how many pairs that has, and
+// whether these are right.
+fn see_three(alloc: Global) -> Result<(bool, u64, usize, bool), ReopenFault> {
+    let ([one, two, three], pairs) = put_in_three(alloc, 100)?;
+    let rise = 0 < one && one < two && two < 100;
+    Ok((rise, three, pairs.len(), are_threefold(&pairs)))
+}
+
+#[test]
+fn puts_go_on_after_a_tree_ran_full_and_no_pair_is_lost(rt: HostRuntime) {
+    let seen = see_three(rt.alloc());
+    same(&rt, &seen, &Ok((true, 100, 100, true)), "three trees");
 }
 
 // A tree of 16 words with the pair (5, 7), which is asked to go on with so many words.
@@ -103,29 +121,38 @@ fn used_after(alloc: Global, closed: &Closed, words: u32) -> Result<u64, ReopenF
     Ok(tree.close(maker).used())
 }
 
+// Whether the closed tree has its pair; how many words a tree of so many uses that follows it, or why none does; and the same of 6.
+type Later = (bool, Result<u64, ReopenFault>, Result<u64, ReopenFault>);
+
+fn see_later(alloc: Global, closed: &Closed, words: u32) -> Result<Later, AllocError> {
+    let pairs = [Pair { key: 5, value: 7 }];
+    let has_pair = closed.pairs(alloc)?.as_slice() == pairs.as_slice();
+    let again = used_after(alloc, closed, words);
+    Ok((has_pair, again, used_after(alloc, closed, 6)))
+}
+
+// Why a tree of 16 words isn't followed by one of so many, if it isn't, and what is seen of it later.
+fn see_refused(alloc: Global, words: u32) -> Result<Option<(ReopenFault, Later)>, OpenFault> {
+    let Err(refused) = reopened(alloc, words)? else {
+        return Ok(None);
+    };
+    let later = see_later(alloc, &refused.closed, words)?;
+    Ok(Some((refused.fault, later)))
+}
+
+// Fails unless a tree isn't followed by one of so many words, for this reason, and then again not, but by one of 6.
+fn is_followed_later(rt: &impl Abort, alloc: Global, words: u32, fault: ReopenFault) {
+    let wanted = Some((fault, (true, Err(fault), Ok(6))));
+    same(rt, &see_refused(alloc, words), &Ok(wanted), words);
+}
+
 #[test]
-fn a_closed_tree_that_is_not_followed_can_be_followed_later(rt: HostRuntime) -> Result<(), Fail> {
-    let beyond = MOST_WORDS + 1;
-    // the words that are asked for, and why no tree is opened
-    let cases = [
-        (
-            5,
-            ReopenFault::Small {
-                needed: 6,
-                words: 5,
-            },
-        ),
-        (beyond, ReopenFault::Beyond { words: beyond }),
-    ];
-    for (words, fault) in cases {
-        let Err(refused) = reopened(rt.alloc(), words)? else {
-            panic!(rt; "opened with {words} words");
-        };
-        assert_eq!(rt; refused.fault, fault, "{words} words");
-        let found = refused.closed.pairs(rt.alloc())?;
-        assert_eq!(rt; found.as_slice(), [Pair { key: 5, value: 7 }].as_slice());
-        assert_eq!(rt; used_after(rt.alloc(), &refused.closed, words), Err(fault));
-        assert_eq!(rt; used_after(rt.alloc(), &refused.closed, 6), Ok(6));
-    }
-    Ok(())
+fn a_closed_tree_that_is_not_followed_can_be_followed_later(rt: HostRuntime) {
+    let small = ReopenFault::Small {
+        needed: 6,
+        words: 5,
+    };
+    is_followed_later(&rt, rt.alloc(), 5, small);
+    let words = MOST_WORDS + 1;
+    is_followed_later(&rt, rt.alloc(), words, ReopenFault::Beyond { words });
 }

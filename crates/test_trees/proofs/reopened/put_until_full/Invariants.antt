@@ -1,5 +1,5 @@
 use Rattle.std.proofs.Common.{◌≡◌}
-use Rattle.ist_reopen.proofs.tests.put_until_full.Given as goal
+use Rattle.test_trees.proofs.reopened.put_until_full.Given as goal
 
 -- the pass stays on the tree
 abbrev pub invariant-loop-key : goal.invariant-loop-key
