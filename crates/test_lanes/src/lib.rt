@@ -1,8 +1,7 @@
 //! Bytes in and out, lines, the lanes of a round, and what is drawn from a seed, call by call: only tests.
 //!
-//! Read `bytes.rt` and `lines.rt`; `recorders.rt`, then `lanes.rt`, `meetings.rt` and `stealing.rt`; and
-//! `draws.rt`. Builds on `tele_io`, `tele_lines`, `plain_map`, `tele_lanes`,
-//! `tele_steal` and `test_tools`.
+//! Read `bytes.rt` and `lines.rt`; `recorders.rt`, then `lanes.rt` and `stealing.rt`; and `draws.rt`.
+//! Builds on `tele_io`, `tele_lines`, `plain_map`, `tele_lanes`, `tele_steal` and `test_tools`.
 #![tactic(auto)]
 
 #[cfg(test)]
@@ -15,8 +14,6 @@ mod judging;
 mod lanes;
 #[cfg(test)]
 mod lines;
-#[cfg(test)]
-mod meetings;
 #[cfg(test)]
 mod recorders;
 #[cfg(test)]

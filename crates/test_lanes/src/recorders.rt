@@ -1,4 +1,4 @@
-//! A port that keeps what it is asked, lanes with it, a gate that counts, and a flag that is waited for.
+//! A port that keeps what it is asked, lanes with it, and a gate that counts.
 ghost use Rattle.std.specs.Prelude.{◌≡◌, ◌≤◌, [], List, Option, None, IfOk, length, map};
 ghost use Rattle.std.specs.Option.{option_map};
 ghost use Rattle.ist_core.specs.Replies.{Answered, Refused};
@@ -86,14 +86,4 @@ impl Gate for Counter {
         self.told
             .fetch_add(index.wrapping_add(1).wrapping_mul(1000), Ordering::SeqCst);
     }
-}
-
-/// Returns whether the flag stays down for 100,000,000 turns.
-pub(crate) fn misses(flag: &AtomicU64) -> bool {
-    for turn in 0..100_000_000u32 {
-        if flag.load(Ordering::SeqCst) == 1 {
-            return false;
-        }
-    }
-    true
 }

@@ -1,9 +1,9 @@
-//! What no clause says of stolen lanes: that workers share them, and small runs whole.
+//! What no clause says of stolen lanes: small runs whole.
 ghost use Rattle.std.specs.Prelude.{◌≡◌, [], ◌≤◌, All, None, length, map, IfOk};
 ghost use Rattle.std.specs.List.Sorted.{IsStrictlyIncreasing};
 
 use crate::judging::same;
-use crate::recorders::{Counter, FULL, Recorder, idle_lane, misses};
+use crate::recorders::{Counter, FULL, Recorder, idle_lane};
 use ist_core::Command;
 use std::alloc::{AllocError, Global};
 use std::process::Abort;
@@ -12,27 +12,6 @@ use std::sync::atomic::{AtomicU64, Ordering};
 use std::thread::Threads;
 use tele_lanes::{Gate, Lane, NoGate, Task, Tasks};
 use tele_steal::{Yard, run_stolen};
-
-// waits at the first call of lane 0 until lane 1 made one, for 100,000,000 turns
-#[derive(Drop)]
-struct Meeting {
-    came: [AtomicU64; 2],
-    missed: AtomicU64,
-}
-
-impl Gate for Meeting {
-    fn before(&self, lane: u32, index: u64) {
-        if lane < 2 {
-            let other = 1 - lane as usize;
-            self.came[lane as usize].store(1, Ordering::SeqCst);
-            if misses(&self.came[other]) {
-                self.missed.store(1, Ordering::SeqCst);
-            }
-        }
-    }
-
-    fn after(&self, lane: u32, index: u64) {}
-}
 
 // makes for each i a lane i with `counts[i]` gets of the key i and room for `calls` calls
 fn lanes_of(alloc: Global, counts: &[u32], calls: usize) -> Result<Vec<Lane<Recorder>>, AllocError>
@@ -209,16 +188,4 @@ fn lanes_of_unequal_length_come_back_in_order(rt: HostRuntime) {
     come_back(&rt, rt.alloc(), 2, &counts, calls);
     come_back(&rt, rt.alloc(), 4, &counts, calls);
     come_back(&rt, rt.alloc(), 64, &counts, calls);
-}
-
-#[test]
-fn two_workers_run_two_lanes_beside_each_other(rt: HostRuntime) {
-    let gate = Meeting {
-        came: [AtomicU64::new(0), AtomicU64::new(0)],
-        missed: AtomicU64::new(0),
-    };
-    let back = run_in_yard(&rt, rt.alloc(), &gate, 2, 2, &[1, 1], 1);
-    same(&rt, &back, &Ok(true), "two lanes");
-    let missed = gate.missed.load(Ordering::SeqCst);
-    same(&rt, &missed, &0, "the lanes that waited in vain");
 }
