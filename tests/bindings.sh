@@ -1,5 +1,5 @@
 #!/bin/bash
-# Tests of the tree from C, C++ and Rust: the library that tools/library.sh makes, the three lists of its functions, the programs of
+# Tests of the tree from C, C++ and Rust: the library that tools/library.sh makes, the three lists of its functions, its memory, the programs of
 # bindings/c and bindings/cpp, by themselves, under valgrind and with sanitizers, what tools/install.sh installs, and the package of
 # bindings/rust. What can't be run because a command isn't there is named as skipped, and isn't counted. The last line is
 # 'N passed, M failed'.
@@ -131,6 +131,17 @@ programs_in_cpp() {
     done
 }
 
+# The memory of tables, by itself.
+pools() {
+    there 'the pools of memory' cc || return
+    local options
+    for options in '' -fsanitize=address,undefined -fsanitize=thread; do
+        [ -z "$options" ] || sanitizes "the pools with $options" "${options#*=}" || continue
+        well "pools.c is compiled $options" cc -g $options "${flags[@]}" -Wl,--wrap=malloc,--wrap=realloc,--wrap=free "$here/tests/pools.c" -lpthread -o "$all/pools"
+        well "blocks of pools keep what is written $options" "$all/pools" 3000
+    done
+}
+
 # What tools/install.sh installs, as a package that is unpacked, and programs that know it by pkg-config alone.
 installs() {
     local may=()
@@ -209,6 +220,7 @@ lists
 archive
 version
 programs_in_c
+pools
 programs_in_cpp
 installs
 package_in_rust

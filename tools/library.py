@@ -1,6 +1,7 @@
 #!/usr/bin/env python3
 """Makes libluskadorv.a, for programs in C, C++ and Rust: the library of crates/ist_c, the heap's three functions over malloc, realloc
-and free that the kit brings, and bindings/c/library.c. All names in it are local except `ist_*`.
+and free that the kit brings, and bindings/c/library.c, which has memory for tables between these and malloc. All names in it are local
+except `ist_*`.
 
     python3 tools/library.py [--wait | --no-proof] [FOLDER]
 
@@ -117,7 +118,8 @@ class Library:
         more = ["-DLUSKADORV_UNPROVED"] if is_unproved else []
         include = self.top / "crates" / unproved.CRATE / "include"
         run(os.environ.get("CC", "cc"), "-O2", "-fPIC", *more, f"-I{include}", "-c", self.top / "bindings/c/library.c", "-o", part / "library.o")
-        run("ld", "-r", "-o", part / "luskadorv.o", "--whole-archive", made, heap, part / "library.o")
+        wrapped = [f"--wrap={it}" for it in ("malloc", "realloc", "free")]
+        run("ld", "-r", *wrapped, "-o", part / "luskadorv.o", "--whole-archive", made, heap, part / "library.o")
         run("objcopy", "--wildcard", "--keep-global-symbol=ist_*", part / "luskadorv.o")
         run("ar", "rcsD", part / ARCHIVE, part / "luskadorv.o")
 

@@ -1,5 +1,7 @@
-/* What libluskadorv.a has beside the proved exports of crates/ist_c: the version, the numbers of trees, and the mark of an unproved
- * build. tools/library.py compiles it into the library. It isn't proved. */
+/* What libluskadorv.a has beside the proved exports of crates/ist_c: the version, the numbers of trees, the memory of tables (pools.c), and
+ * the mark of an unproved build. tools/library.py compiles it into the library. It isn't proved. */
+#include "pools.c"
+
 #include "ist.h"
 #include <stdatomic.h>
 
