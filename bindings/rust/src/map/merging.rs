@@ -4,9 +4,8 @@ use super::growing::claim;
 use super::inner::Inner;
 use super::parts::{Part, Parts};
 use super::plans::Aim;
-use super::sizes::SHARE;
+use super::sizes::words_of;
 use crate::Pair;
-use crate::ffi::words_for;
 use crate::shared::Shared;
 use std::sync::atomic::Ordering::Relaxed;
 use std::time::Duration;
@@ -80,7 +79,7 @@ impl Inner {
         let mut next = Some(0);
         while let Some(first) = next {
             let Some((run, keys)) = self.run_from(first) else { return };
-            let words = (SHARE * words_for(keys as u64)).max(u64::from(self.sizes.least_words));
+            let words = words_of(keys as u64).max(u64::from(self.sizes.least_words));
             let (one, last) = (&run[0], &run[run.len() - 1]);
             next = last.last.checked_add(1);
             if (run.len() > 1 || u64::from(one.words) > words) && claim(&run) {

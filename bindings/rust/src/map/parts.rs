@@ -3,7 +3,7 @@
 use super::locked;
 use super::numbers::{Number, Numbers};
 use super::plans::{Plan, Served};
-use super::sizes::SHARE;
+use super::sizes::words_of;
 use super::starts::Starts;
 use crate::ffi::{self, Owner, PassHandle, TreeNumber};
 use crate::shared::Shared;
@@ -263,7 +263,7 @@ pub(super) fn opened(
 ) -> Result<Vec<Shared<Part>>, Error> {
     let mut parts = room_for(count)?;
     let open = |first, last, pairs: Vec<Pair>| {
-        let words = (SHARE * ffi::words_for(pairs.len() as u64)).max(u64::from(words)).min(u64::from(ffi::MOST_WORDS));
+        let words = words_of(pairs.len() as u64).max(u64::from(words)).min(u64::from(ffi::MOST_WORDS));
         Part::open(numbers, (first, last), words as u32, pairs)
     };
     if count == 1 {

@@ -3,6 +3,7 @@
 use super::Map;
 use super::plans::{Aim, Plan, Served};
 use super::sizes::{FIRST_WORDS, Sizes, USUAL};
+use crate::ffi::words_for;
 use std::thread::scope;
 use std::time::Duration;
 
@@ -51,6 +52,15 @@ fn a_part_has_more_keys_while_most_calls_are_reads() {
         for aim in [Aim::Room, Aim::Fit] {
             assert_eq!(Plan::after(&old, aim, keys, 10, &USUAL).count, count, "{keys} keys, {is_read}");
         }
+    }
+}
+
+#[test]
+fn trees_have_three_quarters_more_words_than_their_pairs_take() {
+    let map: Map = (0..50_000).map(|key| (key, 0)).collect();
+    for part in map.inner.directory().parts(0, u64::MAX) {
+        let share = f64::from(part.words) / words_for(part.pairs.len() as u64) as f64;
+        assert!((1.74..=1.75).contains(&share), "{share} of {} pairs", part.pairs.len());
     }
 }
 

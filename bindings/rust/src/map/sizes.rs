@@ -1,12 +1,16 @@
 //! How many words trees have, and when parts are split and merged.
 
+use crate::ffi::words_for;
 use std::time::Duration;
 
 /// How many words the first tree of a map has, if no number is named: 512 KiB.
 pub(super) const FIRST_WORDS: u32 = 1 << 16;
 
-/// A tree has this many times the words that its pairs take, at least.
-pub(super) const SHARE: u64 = 2;
+/// How many words a tree of this many pairs has at least: those that its pairs take, and three quarters more for updates. If there were many more,
+/// updates would use them to rebuild the whole tree, shortly before others follow it.
+pub(super) fn words_of(pairs: u64) -> u64 {
+    7 * words_for(pairs) / 4
+}
 
 /// What a test changes to strain a map.
 pub(super) struct Sizes {
