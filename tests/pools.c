@@ -1,13 +1,15 @@
 /* Threads take blocks of all sizes from the pools of bindings/c/pools.c, write them, let them grow and shrink, and free them. Each block must keep
- * what was written, pages that are free must serve again, and those of an emptied pool must go back to the system.
+ * what was written, pages that are free must serve again, and those of an emptied pool must go back to the system. Processes that are forked meanwhile
+ * have their pools.
  *
  *     cc -Wl,--wrap=malloc,--wrap=realloc,--wrap=free tests/pools.c -lpthread -o out/pools && out/pools [STEPS] */
 #include "../bindings/c/pools.c"
 
 #include <stdio.h>
+#include <sys/wait.h>
 #include <unistd.h>
 
-enum { THREADS = 4, BLOCKS = 30 };
+enum { THREADS = 4, BLOCKS = 30, FORKS = 50 };
 
 struct block {
     unsigned char *at;
@@ -99,10 +101,32 @@ static size_t pools(void) {
     return count;
 }
 
+#ifndef __SANITIZE_THREAD__
+/* Forks while other threads take and free blocks. If a child found the lock held, it would wait for ever: the alarm ends it. */
+static void fork_often(void) {
+    for (int at = 0; at < FORKS; at++) {
+        pid_t child = fork();
+        if (child == 0) {
+            alarm(60);
+            char *block = malloc(MOST / 8);
+            if (block) block[0] = 1;
+            free(block);
+            _exit(block == NULL);
+        }
+        int status = 1;
+        expect(child > 0 && waitpid(child, &status, 0) == child && status == 0, "a child has its pools");
+    }
+}
+#endif
+
 int main(int count, char **words) {
     if (count > 1) steps = atoi(words[1]);
     pthread_t threads[THREADS];
     for (size_t at = 0; at < THREADS; at++) expect(!pthread_create(&threads[at], NULL, change_all, (void *)at), "a thread starts");
+#ifndef __SANITIZE_THREAD__
+    /* (it takes the parent's threads for lost ones of the child) */
+    fork_often();
+#endif
     for (size_t at = 0; at < THREADS; at++) pthread_join(threads[at], NULL);
     expect(are_empty(), "what is freed is joined");
     size_t had = pools(), before = resident();

@@ -41,6 +41,19 @@ static pthread_mutex_t lock = PTHREAD_MUTEX_INITIALIZER;
 /* Held by the lock. The oldest one is first, and is filled first. */
 static struct pool *first;
 
+static void hold(void) {
+    pthread_mutex_lock(&lock);
+}
+
+static void let_go(void) {
+    pthread_mutex_unlock(&lock);
+}
+
+/* A child that another thread's `fork` makes finds the pools whole, as it does with malloc. */
+__attribute__((constructor)) static void be_whole_at_forks(void) {
+    pthread_atfork(hold, let_go, let_go);
+}
+
 static void tag(struct pool *pool, int at, int run) {
     pool->runs[at] = pool->runs[at + abs(run) - 1] = (int16_t)run;
 }
@@ -102,10 +115,10 @@ static void give_back(struct pool *pool, int at) {
 static void *take_anywhere(int pages) {
     struct pool **at = &first;
     void *block = NULL;
-    pthread_mutex_lock(&lock);
+    hold();
     for (; *at && !block; at = &(*at)->next) block = take(*at, pages);
     if (!block && (*at = make_pool())) block = take(*at, pages);
-    pthread_mutex_unlock(&lock);
+    let_go();
     return block;
 }
 
@@ -121,14 +134,14 @@ static size_t room_of(void *block, bool is_freed) {
     /* what a pool has begins with a page */
     if (!block || (uintptr_t)block % PAGE) return 0;
     size_t room = 0;
-    pthread_mutex_lock(&lock);
+    hold();
     struct pool *pool = pool_of(block);
     if (pool) {
         int at = (int)(((uintptr_t)block - (uintptr_t)pool) / PAGE);
         room = (size_t)-pool->runs[at] * PAGE;
         if (is_freed) give_back(pool, at);
     }
-    pthread_mutex_unlock(&lock);
+    let_go();
     return room;
 }
 
