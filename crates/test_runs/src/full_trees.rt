@@ -288,6 +288,11 @@ fn the_last_round_with_point_lines_says_how_many_trees_ran_full(rt: HostRuntime)
     );
     ends(&rt, alloc, b"P 1 1\nP 2 1\nP 3 1\nP 4 1\nI 0 9\nX\n", 3, 1);
     ends(&rt, alloc, b"P 1 1\nP 2 1\nP 3 1\nP 4 1\nX\n", 3, 1);
+}
+
+#[test]
+fn each_round_with_point_lines_takes_the_place_of_the_one_before(rt: HostRuntime) {
+    let alloc = rt.alloc();
     ends(
         &rt,
         alloc,
