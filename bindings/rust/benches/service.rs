@@ -7,7 +7,7 @@
 //! priority (`chrt -f 50 cargo bench ..`) the longest call is told only so: the system stops threads of that priority that never rest.
 //!
 //! A line has millions of calls a second of the time in which the threads didn't rest, the quantiles in microseconds, and the most memory in
-//! MB that the process had from the making of the map on.
+//! MB that the process had from the making of the map on. The line `none` is of calls that do nothing: what it has is the system's.
 
 #[path = "../tests/common/mod.rs"]
 mod common;
@@ -139,6 +139,15 @@ fn measure<C: FnMut(Call) -> Option<u64> + Send>(plan: Plan, callers: Vec<C>) ->
     all
 }
 
+fn by_nothing(plan: Plan) -> Times {
+    let caller = |_| {
+        |call| match call {
+            Call::Get(key) | Call::Put(key) | Call::Remove(key) => Some(key),
+        }
+    };
+    measure(plan, (0..plan.threads).map(caller).collect())
+}
+
 fn by_map(plan: Plan) -> Times {
     let map: Map = plan.pairs().collect();
     let caller = |_| {
@@ -187,7 +196,8 @@ fn main() {
         rests: number(5, 0) == 1,
     };
     println!("keys threads puts removes | map: M calls/s; p50 p99 p99.9 p99.99 longest, us; MB");
-    let ways: [(&str, fn(Plan) -> Times); 2] = [("Map", by_map), ("RwLock<BTreeMap>", by_locked_map)];
+    let ways: [(&str, fn(Plan) -> Times); 3] =
+        [("Map", by_map), ("RwLock<BTreeMap>", by_locked_map), ("none", by_nothing)];
     for (name, way) in ways {
         forget_most_memory();
         let times = way(plan);
