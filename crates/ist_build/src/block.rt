@@ -29,7 +29,7 @@ pub(crate) fn lay(
     leaves: &[u32],
     keys: &[u64],
 ) -> u64
-    requires same_table { who.old.token.table ≡ table.now.table }
+    requires same_table { who.old.token.view.table ≡ table.now.table }
     requires caller { IsCaller who.old }
     requires held { HoldsBlock (now who.old.token.view) who.old.number next.old
         (shape (length leaves.now)) }
@@ -39,7 +39,6 @@ pub(crate) fn lay(
     requires many { length keys.now ≡ length leaves.now }
     requires few { length leaves.now < place_limit }
     requires low { next.old ≤ place_limit }
-    ensures same_table { who.new.token.table ≡ table.now.table }
     ensures written { IsWritten who.old who.new next.old next.new }
     ensures next { next.new ≡ next.old + sum (shape (length leaves.now)) }
     ensures low { next.new ≤ place_limit }
@@ -71,12 +70,11 @@ pub(crate) fn lay(
 fn reserve_shape(table: &TreeTable, who: &mut Caller, size: u64) -> Option<u32>
     ghost sizes: { List ℕ }
     requires sizes { sizes ≡ shape size }
-    requires same_table { who.old.token.table ≡ table.now.table }
+    requires same_table { who.old.token.view.table ≡ table.now.table }
     requires caller { IsCaller who.old }
     requires due { AreNextRows who.old size }
     requires several { 2 ≤ size }
     requires few { size < place_limit }
-    ensures same_table { who.new.token.table ≡ table.now.table }
     ensures caller { IsCaller who.new }
     ensures same { who.new ≡ record who.old { token = who.new.token } }
     ensures reserved { IfSome result (λ base.
@@ -97,14 +95,13 @@ pub(crate) fn build_at_once(
     leaves: &[u32],
     keys: &[u64],
 ) -> Result<u64, Full>
-    requires same_table { who.old.token.table ≡ table.now.table }
+    requires same_table { who.old.token.view.table ≡ table.now.table }
     requires caller { IsCaller who.old }
     requires due { 2 ≤ length leaves.now → AreNextRows who.old (length leaves.now) }
     requires leaves { HaveLeaves (now who.old.token.view) leaves.now }
     requires keys { AreKeysOf (now who.old.token.view) leaves.now keys.now }
     requires many { length keys.now ≡ length leaves.now }
     requires few { length leaves.now < place_limit }
-    ensures same_table { who.new.token.table ≡ table.now.table }
     ensures caller { IsCaller who.new }
     ensures number { who.new.number ≡ who.old.number }
     ensures rows { spares_of who.new ≡ spares_of who.old }

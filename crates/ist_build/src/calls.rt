@@ -41,9 +41,8 @@ fn named(word: u64) -> Ref
 /// Leaves are shared by the old subtree and the new one. The search goes down by the finished counts,
 /// and skips what lies before the leaf.
 pub fn leaf_at(table: &TreeTable, token: &mut TreeToken, target: u32, i: u64) -> Ref
-    requires same_table { token.old.table ≡ table.now.table }
+    requires same_table { token.old.view.table ≡ table.now.table }
     requires finished { HasKeys (now token.old.view) target (i + 1) }
-    ensures same_table { token.new.table ≡ token.old.table }
     ensures seen { GoesOnTo token.old.view token.new.view }
     ensures leaf { (leaves : List PlacedLeaf)
         → HasLeaves (now token.old.view).pieces (Some (InnerAt target)) leaves
@@ -58,9 +57,8 @@ pub fn leaf_at(table: &TreeTable, token: &mut TreeToken, target: u32, i: u64) ->
 /// A row on the way costs one load, and at most four for each slot up to the one that is entered:
 /// its word, what a change in it would take out, the target of a rebuild, and a finished count.
 pub fn leaf_and_loads(table: &TreeTable, token: &mut TreeToken, target: u32, i: u64) -> (Ref, u64)
-    requires same_table { token.old.table ≡ table.now.table }
+    requires same_table { token.old.view.table ≡ table.now.table }
     requires finished { HasKeys (now token.old.view) target (i + 1) }
-    ensures same_table { token.new.table ≡ token.old.table }
     ensures seen { GoesOnTo token.old.view token.new.view }
     ensures leaf { (leaves : List PlacedLeaf)
         → HasLeaves (now token.old.view).pieces (Some (InnerAt target)) leaves
@@ -89,11 +87,10 @@ pub fn build_part(
     start: u64,
     len: u64,
 ) -> Result<Ref, Full>
-    requires same_table { who.old.token.table ≡ table.now.table }
+    requires same_table { who.old.token.view.table ≡ table.now.table }
     requires caller { IsCaller who.old }
     requires refused { HasRefused who.old }
     requires share { MayBuild (now who.old.token.view) target start len }
-    ensures same_table { who.new.token.table ≡ table.now.table }
     ensures caller { IsCaller who.new }
     ensures number { who.new.number ≡ who.old.number }
     ensures rows { spares_of who.new ≡ spares_of who.old }
@@ -122,11 +119,10 @@ pub fn build_part(
 /// first word in this call left too few words for a row of the build; its rows stay held. Never
 /// allocates, always returns.
 pub fn set_root(table: &TreeTable, who: &mut Caller, rebuild: u32) -> Result<Ref, Full>
-    requires same_table { who.old.token.table ≡ table.now.table }
+    requires same_table { who.old.token.view.table ≡ table.now.table }
     requires caller { IsCaller who.old }
     requires refused { HasRefused who.old }
     requires buildable { IsBuildable (now who.old.token.view) rebuild }
-    ensures same_table { who.new.token.table ≡ table.now.table }
     ensures caller { IsCaller who.new }
     ensures number { who.new.number ≡ who.old.number }
     ensures rows { spares_of who.new ≡ spares_of who.old }
@@ -154,12 +150,11 @@ pub fn set_root(table: &TreeTable, who: &mut Caller, rebuild: u32) -> Result<Ref
 /// this call left too few words for a row of a part; the rows of that build stay held. Never allocates,
 /// always returns.
 pub fn fill_parts(table: &TreeTable, who: &mut Caller, rebuild: u32) -> Result<(), Full>
-    requires same_table { who.old.token.table ≡ table.now.table }
+    requires same_table { who.old.token.view.table ≡ table.now.table }
     requires caller { IsCaller who.old }
     requires refused { HasRefused who.old }
     requires buildable { IsBuildable (now who.old.token.view) rebuild }
     requires rooted { IsRooted (now who.old.token.view) rebuild }
-    ensures same_table { who.new.token.table ≡ table.now.table }
     ensures caller { IsCaller who.new }
     ensures number { who.new.number ≡ who.old.number }
     ensures rows { spares_of who.new ≡ spares_of who.old }

@@ -21,9 +21,8 @@ pub(crate) struct Reached {
 // Goes down to the leaf number `i` below a finished node: skips what lies before it by the finished
 // counts, and enters one child per row.
 fn go_down(table: &TreeTable, token: &mut TreeToken, node: u32, i: u64) -> Reached
-    requires same_table { token.old.table ≡ table.now.table }
+    requires same_table { token.old.view.table ≡ table.now.table }
     requires finished { HasKeys (now token.old.view) node (i + 1) }
-    ensures same_table { token.new.table ≡ token.old.table }
     ensures seen { GoesOnTo token.old.view token.new.view }
     ensures read { (leaves : List PlacedLeaf)
         → HasLeaves (now token.old.view).pieces (Some (InnerAt node)) leaves
@@ -64,9 +63,8 @@ fn go_down(table: &TreeTable, token: &mut TreeToken, node: u32, i: u64) -> Reach
 /// Returns the leaf of the key number `i` of a finished target, counted from 0, and how many loads
 /// it took.
 pub(crate) fn leaf_base(table: &TreeTable, token: &mut TreeToken, target: u32, i: u64) -> Reached
-    requires same_table { token.old.table ≡ table.now.table }
+    requires same_table { token.old.view.table ≡ table.now.table }
     requires finished { HasKeys (now token.old.view) target (i + 1) }
-    ensures same_table { token.new.table ≡ token.old.table }
     ensures seen { GoesOnTo token.old.view token.new.view }
     ensures leaf { (leaves : List PlacedLeaf)
         → HasLeaves (now token.old.view).pieces (Some (InnerAt target)) leaves

@@ -28,11 +28,10 @@ use ist_rule::{TreeTable, TreeToken, add, exchange_or_lose, know, load};
 
 // Returns the word in a slot of a shared root.
 fn slot_of(table: &TreeTable, who: &mut Caller, shared: SharedRoot, i: u64) -> u64
-    requires same_table { who.old.token.table ≡ table.now.table }
+    requires same_table { who.old.token.view.table ≡ table.now.table }
     requires ready { IsFreeToBuild who.old }
     requires shared { IsSharedAs (now who.old.token.view) shared }
     requires within { i < shared.degree }
-    ensures same_table { who.new.token.table ≡ table.now.table }
     ensures back { IsBack who.old who.new }
     ensures none { TakesNoWords who.old who.new }
     ensures set { result ≢ unset_word → IsSlotSet (now who.new.token.view) shared.root i }
@@ -59,11 +58,10 @@ fn put_part(
     word: u64,
 ) -> u64
     ghost which: { ℕ × ℕ }
-    requires same_table { token.old.table ≡ table.now.table }
+    requires same_table { token.old.view.table ≡ table.now.table }
     requires within { place < word_count_of table.now }
     requires events { CanExchangeOrLose token.old.view place unset_word word
         (placing token.old.view which.0 which.1 word) (losing token.old.view word) }
-    ensures same_table { token.new.table ≡ token.old.table }
     ensures exchanged { ExchangedOrLost token.old.view (placing token.old.view which.0 which.1 word)
         (losing token.old.view word) place unset_word result token.new.view }
 {
@@ -73,9 +71,8 @@ fn put_part(
 
 // Puts part `i` of a shared root, which was built, into its slot if that is still Unset.
 fn put_slot(table: &TreeTable, who: &mut Caller, shared: SharedRoot, i: u64, word: u64)
-    requires same_table { who.old.token.table ≡ table.now.table }
+    requires same_table { who.old.token.view.table ≡ table.now.table }
     requires made { PartWasMade who.old shared i word }
-    ensures same_table { who.new.token.table ≡ table.now.table }
     ensures put { EndsPart who.old shared i word who.new }
     ensures none { TakesNoWords who.old who.new }
 {
@@ -86,13 +83,12 @@ fn put_slot(table: &TreeTable, who: &mut Caller, shared: SharedRoot, i: u64, wor
 
 // Builds part `i` of a shared root, whose slot was Unset, and returns its word.
 fn build_slot(table: &TreeTable, who: &mut Caller, shared: SharedRoot, i: u64) -> Result<u64, Full>
-    requires same_table { who.old.token.table ≡ table.now.table }
+    requires same_table { who.old.token.view.table ≡ table.now.table }
     requires ready { IsFreeToBuild who.old }
     requires shared { IsSharedAs (now who.old.token.view) shared }
     requires within { i < shared.degree }
     requires unset { WasUnset who.old.token.view who.old.number
         (slot_place shared.root shared.degree i) }
-    ensures same_table { who.new.token.table ≡ table.now.table }
     ensures made { IfOk result (λ word. IsPartMade who.old who.new shared i word) }
     ensures few { let n = sum (shape (part_len shared.keys i)) in
         HasTakenFewIn result n 0 who.old who.new }
@@ -107,11 +103,10 @@ fn build_slot(table: &TreeTable, who: &mut Caller, shared: SharedRoot, i: u64) -
 
 // Builds part `i` of a shared root and puts it in place, if its slot is Unset.
 fn fill_slot(table: &TreeTable, who: &mut Caller, shared: SharedRoot, i: u64) -> Result<(), Full>
-    requires same_table { who.old.token.table ≡ table.now.table }
+    requires same_table { who.old.token.view.table ≡ table.now.table }
     requires ready { IsFreeToBuild who.old }
     requires shared { IsSharedAs (now who.old.token.view) shared }
     requires within { i < shared.degree }
-    ensures same_table { who.new.token.table ≡ table.now.table }
     ensures back { IsBack who.old who.new }
     ensures few { let left = left_for who.new shared in
         HasTakenFewIn result (left_for who.old shared) left who.old who.new }
@@ -131,10 +126,9 @@ fn fill_slot(table: &TreeTable, who: &mut Caller, shared: SharedRoot, i: u64) ->
 // number of slots. It loads the draw word before each draw, so that a draw past the last part is the
 // caller's last.
 fn draw(table: &TreeTable, who: &mut Caller, shared: SharedRoot) -> u64
-    requires same_table { who.old.token.table ≡ table.now.table }
+    requires same_table { who.old.token.view.table ≡ table.now.table }
     requires ready { IsFreeToBuild who.old }
     requires shared { IsSharedAs (now who.old.token.view) shared }
-    ensures same_table { who.new.token.table ≡ table.now.table }
     ensures back { IsBack who.old who.new }
     ensures none { TakesNoWords who.old who.new }
 {
@@ -150,10 +144,9 @@ fn draw(table: &TreeTable, who: &mut Caller, shared: SharedRoot) -> u64
 
 // Draws parts and fills them, as long as there are parts to draw.
 fn fill_drawn(table: &TreeTable, who: &mut Caller, shared: SharedRoot) -> Result<(), Full>
-    requires same_table { who.old.token.table ≡ table.now.table }
+    requires same_table { who.old.token.view.table ≡ table.now.table }
     requires ready { IsFreeToBuild who.old }
     requires shared { IsSharedAs (now who.old.token.view) shared }
-    ensures same_table { who.new.token.table ≡ table.now.table }
     ensures back { IsBack who.old who.new }
     ensures few { let left = left_for who.new shared in
         HasTakenFewIn result (left_for who.old shared) left who.old who.new }
@@ -173,10 +166,9 @@ fn fill_drawn(table: &TreeTable, who: &mut Caller, shared: SharedRoot) -> Result
 
 // Fills each slot that is still Unset.
 fn fill_unset(table: &TreeTable, who: &mut Caller, shared: SharedRoot) -> Result<(), Full>
-    requires same_table { who.old.token.table ≡ table.now.table }
+    requires same_table { who.old.token.view.table ≡ table.now.table }
     requires ready { IsFreeToBuild who.old }
     requires shared { IsSharedAs (now who.old.token.view) shared }
-    ensures same_table { who.new.token.table ≡ table.now.table }
     ensures back { IsBack who.old who.new }
     ensures few { let left = left_for who.new shared in
         HasTakenFewIn result (left_for who.old shared) left who.old who.new }
@@ -193,10 +185,9 @@ fn fill_unset(table: &TreeTable, who: &mut Caller, shared: SharedRoot) -> Result
 
 // Fills a shared root: first the parts that it draws, and then what is left.
 fn fill_shared(table: &TreeTable, who: &mut Caller, shared: SharedRoot) -> Result<(), Full>
-    requires same_table { who.old.token.table ≡ table.now.table }
+    requires same_table { who.old.token.view.table ≡ table.now.table }
     requires ready { IsFreeToBuild who.old }
     requires shared { IsSharedAs (now who.old.token.view) shared }
-    ensures same_table { who.new.token.table ≡ table.now.table }
     ensures back { IsBack who.old who.new }
     ensures few { let left = left_for who.new shared in
         HasTakenFewIn result (left_for who.old shared) left who.old who.new }
@@ -210,13 +201,12 @@ fn fill_shared(table: &TreeTable, who: &mut Caller, shared: SharedRoot) -> Resul
 
 // Returns the shared root of a rebuild.
 fn shared_root(table: &TreeTable, who: &mut Caller, rebuild: u32, target: Target) -> SharedRoot
-    requires same_table { who.old.token.table ≡ table.now.table }
+    requires same_table { who.old.token.view.table ≡ table.now.table }
     requires ready { IsFreeToBuild who.old }
     requires told { IsTold (now who.old.token.view) rebuild target.keys }
     requires target { HasTarget (now who.old.token.view) rebuild target.base }
     requires rooted { IsRooted (now who.old.token.view) rebuild }
     requires many { share_from ≤ target.keys }
-    ensures same_table { who.new.token.table ≡ table.now.table }
     ensures back { IsBack who.old who.new }
     ensures none { TakesNoWords who.old who.new }
     ensures shared { IsSharedAs (now who.new.token.view) result }
@@ -241,13 +231,12 @@ fn shared_root(table: &TreeTable, who: &mut Caller, rebuild: u32, target: Target
 
 // Fills the shared root of a rebuild.
 fn fill_many(table: &TreeTable, who: &mut Caller, rebuild: u32, target: Target) -> Result<(), Full>
-    requires same_table { who.old.token.table ≡ table.now.table }
+    requires same_table { who.old.token.view.table ≡ table.now.table }
     requires ready { IsFreeToBuild who.old }
     requires told { IsTold (now who.old.token.view) rebuild target.keys }
     requires target { HasTarget (now who.old.token.view) rebuild target.base }
     requires rooted { IsRooted (now who.old.token.view) rebuild }
     requires many { share_from ≤ target.keys }
-    ensures same_table { who.new.token.table ≡ table.now.table }
     ensures back { IsBack who.old who.new }
     ensures few { HasTakenFewIn result (parts_words target.keys) 0 who.old who.new }
     ensures filled { IfOk result (λ done. IsBuiltOut (now who.new.token.view) rebuild) }
@@ -265,11 +254,10 @@ fn fill_many(table: &TreeTable, who: &mut Caller, rebuild: u32, target: Target) 
 /// slot that is still Unset, so that it waits for nobody. Returns `Full` if too few words are left for
 /// a row of a part; its rows stay held.
 pub(crate) fn fill_root(table: &TreeTable, who: &mut Caller, rebuild: u32) -> Result<(), Full>
-    requires same_table { who.old.token.table ≡ table.now.table }
+    requires same_table { who.old.token.view.table ≡ table.now.table }
     requires ready { IsFreeToBuild who.old }
     requires buildable { IsBuildable (now who.old.token.view) rebuild }
     requires rooted { IsRooted (now who.old.token.view) rebuild }
-    ensures same_table { who.new.token.table ≡ table.now.table }
     ensures back { IsBack who.old who.new }
     ensures few { (k : ℕ) → IsTold (now who.old.token.view) rebuild k
         → HasTakenFewIn result (parts_words k) 0 who.old who.new }

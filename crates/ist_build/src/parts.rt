@@ -37,10 +37,9 @@ fn read_out(
     leaves: &mut [u32],
     keys: &mut [u64],
 )
-    requires same_table { token.old.table ≡ table.now.table }
+    requires same_table { token.old.view.table ≡ table.now.table }
     requires finished { HasKeys (now token.old.view) target (start + length leaves.old) }
     requires many { length keys.old ≡ length leaves.old }
-    ensures same_table { token.new.table ≡ token.old.table }
     ensures read { HasReadOut token.old.view target start (length leaves.old) leaves.new
         token.new.view }
     ensures many { length keys.new ≡ length leaves.new }
@@ -66,13 +65,12 @@ fn build_read(
     leaves: &mut [u32],
     keys: &mut [u64],
 ) -> Result<u64, Full>
-    requires same_table { who.old.token.table ≡ table.now.table }
+    requires same_table { who.old.token.view.table ≡ table.now.table }
     requires caller { IsCaller who.old }
     requires due { 2 ≤ length leaves.old → AreNextRows who.old (length leaves.old) }
     requires finished { HasKeys (now who.old.token.view) target (start + length leaves.old) }
     requires many { length keys.old ≡ length leaves.old }
     requires few { length leaves.old < place_limit }
-    ensures same_table { who.new.token.table ≡ table.now.table }
     ensures caller { IsCaller who.new }
     ensures number { who.new.number ≡ who.old.number }
     ensures rows { spares_of who.new ≡ spares_of who.old }
@@ -100,12 +98,11 @@ fn build_few(
     start: u64,
     len: u64,
 ) -> Result<u64, Full>
-    requires same_table { who.old.token.table ≡ table.now.table }
+    requires same_table { who.old.token.view.table ≡ table.now.table }
     requires caller { IsCaller who.old }
     requires due { 2 ≤ len → AreNextRows who.old len }
     requires finished { HasKeys (now who.old.token.view) target (start + len) }
     requires few { len ≤ 256 }
-    ensures same_table { who.new.token.table ≡ table.now.table }
     ensures caller { IsCaller who.new }
     ensures number { who.new.number ≡ who.old.number }
     ensures rows { spares_of who.new ≡ spares_of who.old }
@@ -140,12 +137,11 @@ fn build_many(
     start: u64,
     len: u64,
 ) -> Result<u64, Full>
-    requires same_table { who.old.token.table ≡ table.now.table }
+    requires same_table { who.old.token.view.table ≡ table.now.table }
     requires caller { IsCaller who.old }
     requires due { 2 ≤ len → AreNextRows who.old len }
     requires finished { HasKeys (now who.old.token.view) target (start + len) }
     requires few { len ≤ 16388 }
-    ensures same_table { who.new.token.table ≡ table.now.table }
     ensures caller { IsCaller who.new }
     ensures number { who.new.number ≡ who.old.number }
     ensures rows { spares_of who.new ≡ spares_of who.old }
@@ -185,11 +181,10 @@ pub(crate) fn build_share(
     start: u64,
     len: u64,
 ) -> Result<u64, Full>
-    requires same_table { who.old.token.table ≡ table.now.table }
+    requires same_table { who.old.token.view.table ≡ table.now.table }
     requires caller { IsCaller who.old }
     requires refused { HasRefused who.old }
     requires share { MayBuild (now who.old.token.view) target start len }
-    ensures same_table { who.new.token.table ≡ table.now.table }
     ensures caller { IsCaller who.new }
     ensures number { who.new.number ≡ who.old.number }
     ensures rows { spares_of who.new ≡ spares_of who.old }

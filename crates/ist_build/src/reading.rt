@@ -32,10 +32,9 @@ fn passed_word(
     degree: u64,
     index: u64,
 ) -> (u64, u64)
-    requires same_table { token.old.table ≡ table.now.table }
+    requires same_table { token.old.view.table ≡ table.now.table }
     requires slots { HasSlots token.old.view node degree }
     requires within { index < degree }
-    ensures same_table { token.new.table ≡ token.old.table }
     ensures seen { GoesOnTo token.old.view token.new.view }
     ensures frozen { IsFrozen token.new.view.log node index result.0 }
     ensures counted { token.new.view.loaded ≡ token.old.view.loaded + result.1 }
@@ -54,9 +53,8 @@ fn passed_word(
 
 // Returns the number of keys with which the node is finished.
 pub(crate) fn keys_of(table: &TreeTable, token: &mut TreeToken, node: u32) -> u64
-    requires same_table { token.old.table ≡ table.now.table }
+    requires same_table { token.old.view.table ≡ table.now.table }
     requires finished { IsFinished (now token.old.view) node }
-    ensures same_table { token.new.table ≡ token.old.table }
     ensures seen { GoesOnTo token.old.view token.new.view }
     ensures finished { IsFinishedWith (now token.new.view) node result }
     ensures counted { token.new.view.loaded ≡ token.old.view.loaded + 1 }
@@ -76,10 +74,9 @@ pub(crate) fn look_below(
     degree: u64,
     index: u64,
 ) -> (FinishedChild, u64)
-    requires same_table { token.old.table ≡ table.now.table }
+    requires same_table { token.old.view.table ≡ table.now.table }
     requires slots { HasSlots token.old.view node degree }
     requires within { index < degree }
-    ensures same_table { token.new.table ≡ token.old.table }
     ensures seen { GoesOnTo token.old.view token.new.view }
     ensures under { IsUnder token.new.view node index result.0 }
     ensures counted { token.new.view.loaded ≡ token.old.view.loaded + result.1 }
@@ -130,9 +127,8 @@ fn take_leaf(base: u32, into: &mut [u32], at: Cursor) -> Cursor
 
 // Returns the number of slots of the finished node.
 pub(crate) fn degree_of(table: &TreeTable, token: &mut TreeToken, node: u32) -> u64
-    requires same_table { token.old.table ≡ table.now.table }
+    requires same_table { token.old.view.table ≡ table.now.table }
     requires finished { IsFinished (now token.old.view) node }
-    ensures same_table { token.new.table ≡ token.old.table }
     ensures seen { GoesOnTo token.old.view token.new.view }
     ensures slots { HasSlots token.new.view node result }
     ensures counted { token.new.view.loaded ≡ token.old.view.loaded + 1 }
@@ -152,11 +148,10 @@ fn read_slot(
     into: &mut [u32],
     at: Cursor,
 ) -> Cursor
-    requires same_table { token.old.table ≡ table.now.table }
+    requires same_table { token.old.view.table ≡ table.now.table }
     requires slots { HasSlots token.old.view node degree }
     requires index_within { index < degree }
     requires within { at.count ≤ length into.old }
-    ensures same_table { token.new.table ≡ token.old.table }
     ensures seen { GoesOnTo token.old.view token.new.view }
     ensures within { result.count ≤ length into.new }
     ensures read { (word : ℕ) (leaves : List PlacedLeaf)
@@ -190,10 +185,9 @@ pub(crate) fn read_leaves(
     into: &mut [u32],
     at: Cursor,
 ) -> Cursor
-    requires same_table { token.old.table ≡ table.now.table }
+    requires same_table { token.old.view.table ≡ table.now.table }
     requires finished { IsFinished (now token.old.view) node }
     requires within { at.count ≤ length into.old }
-    ensures same_table { token.new.table ≡ token.old.table }
     ensures seen { GoesOnTo token.old.view token.new.view }
     ensures within { result.count ≤ length into.new }
     ensures read { (leaves : List PlacedLeaf)

@@ -29,10 +29,9 @@ use ist_rule::{TreeTable, TreeToken, exchange, exchange_or_lose, know, load};
 
 // Returns the word in a rebuild's root field.
 fn root_of(table: &TreeTable, who: &mut Caller, rebuild: u32) -> u64
-    requires same_table { who.old.token.table ≡ table.now.table }
+    requires same_table { who.old.token.view.table ≡ table.now.table }
     requires ready { IsFreeToBuild who.old }
     requires buildable { IsBuildable (now who.old.token.view) rebuild }
-    ensures same_table { who.new.token.table ≡ table.now.table }
     ensures back { IsBack who.old who.new }
     ensures none { TakesNoWords who.old who.new }
     ensures set { result ≢ unset_word → HasRoot (now who.new.token.view) rebuild result }
@@ -50,12 +49,11 @@ fn root_of(table: &TreeTable, who: &mut Caller, rebuild: u32) -> u64
 // Builds a root over the leaves of a finished target with two keys or more, and returns its word: the
 // whole ideal subtree, or from `SHARE_FROM` keys on only its top row.
 fn build_root(table: &TreeTable, who: &mut Caller, target: u32, keys: u64) -> Result<u64, Full>
-    requires same_table { who.old.token.table ≡ table.now.table }
+    requires same_table { who.old.token.view.table ≡ table.now.table }
     requires caller { IsCaller who.old }
     requires refused { HasRefused who.old }
     requires target { IsTarget (now who.old.token.view) target keys }
     requires several { 2 ≤ keys }
-    ensures same_table { who.new.token.table ≡ table.now.table }
     ensures caller { IsCaller who.new }
     ensures number { who.new.number ≡ who.old.number }
     ensures rows { spares_of who.new ≡ spares_of who.old }
@@ -78,9 +76,8 @@ fn build_root(table: &TreeTable, who: &mut Caller, target: u32, keys: u64) -> Re
 // Puts a root that was built in place, if the rebuild has none yet, and returns the root that it then
 // has.
 fn put_root(table: &TreeTable, who: &mut Caller, rebuild: u32, word: u64) -> u64
-    requires same_table { who.old.token.table ≡ table.now.table }
+    requires same_table { who.old.token.view.table ≡ table.now.table }
     requires made { RootWasMade who.old rebuild word }
-    ensures same_table { who.new.token.table ≡ table.now.table }
     ensures put { EndsRoot who.old rebuild word who.new result }
     ensures none { TakesNoWords who.old who.new }
 {
@@ -94,13 +91,12 @@ fn put_root(table: &TreeTable, who: &mut Caller, rebuild: u32, word: u64) -> u64
 
 // Builds a root of inner rows and puts it in place, and returns the root that the rebuild then has.
 fn set_rows(table: &TreeTable, who: &mut Caller, rebuild: u32, target: Target) -> Result<u64, Full>
-    requires same_table { who.old.token.table ≡ table.now.table }
+    requires same_table { who.old.token.view.table ≡ table.now.table }
     requires ready { IsFreeToBuild who.old }
     requires told { IsTold (now who.old.token.view) rebuild target.keys }
     requires target { HasTarget (now who.old.token.view) rebuild target.base }
     requires several { 2 ≤ target.keys }
     requires unset { WasUnset who.old.token.view who.old.number (rebuild + rebuild_root_offset) }
-    ensures same_table { who.new.token.table ≡ table.now.table }
     ensures back { IsBack who.old who.new }
     ensures few { HasTakenFewIn result (root_words target.keys) 0 who.old who.new }
     ensures root { IfOk result (λ word. HasRoot (now who.new.token.view) rebuild word) }
@@ -114,10 +110,9 @@ fn set_rows(table: &TreeTable, who: &mut Caller, rebuild: u32, target: Target) -
 
 // Returns the root over no key or over one, which has no rows.
 fn small_root(table: &TreeTable, token: &mut TreeToken, target: u32, keys: u64) -> u64
-    requires same_table { token.old.table ≡ table.now.table }
+    requires same_table { token.old.view.table ≡ table.now.table }
     requires finished { IsFinishedWith (now token.old.view) target keys }
     requires few { keys < 2 }
-    ensures same_table { token.new.table ≡ token.old.table }
     ensures seen { GoesOnTo token.old.view token.new.view }
     ensures root { (leaves : List PlacedLeaf)
         → HasLeaves (now token.old.view).pieces (Some (InnerAt target)) leaves
@@ -133,12 +128,11 @@ fn small_root(table: &TreeTable, token: &mut TreeToken, target: u32, keys: u64) 
 
 // Puts a root without rows in place, and returns the root that the rebuild then has.
 fn set_small(table: &TreeTable, who: &mut Caller, rebuild: u32, target: Target) -> u64
-    requires same_table { who.old.token.table ≡ table.now.table }
+    requires same_table { who.old.token.view.table ≡ table.now.table }
     requires ready { IsFreeToBuild who.old }
     requires told { IsTold (now who.old.token.view) rebuild target.keys }
     requires target { HasTarget (now who.old.token.view) rebuild target.base }
     requires few { target.keys < 2 }
-    ensures same_table { who.new.token.table ≡ table.now.table }
     ensures back { IsBack who.old who.new }
     ensures none { TakesNoWords who.old who.new }
     ensures root { HasRoot (now who.new.token.view) rebuild result }
@@ -160,10 +154,9 @@ fn set_small(table: &TreeTable, who: &mut Caller, rebuild: u32, target: Target) 
 /// first, that root is returned, and what this caller built is lost. Returns `Full` if too few words
 /// are left for a row of the build; its rows stay held.
 pub(crate) fn place_root(table: &TreeTable, who: &mut Caller, rebuild: u32) -> Result<u64, Full>
-    requires same_table { who.old.token.table ≡ table.now.table }
+    requires same_table { who.old.token.view.table ≡ table.now.table }
     requires ready { IsFreeToBuild who.old }
     requires buildable { IsBuildable (now who.old.token.view) rebuild }
-    ensures same_table { who.new.token.table ≡ table.now.table }
     ensures back { IsBack who.old who.new }
     ensures few { (k : ℕ) → IsTold (now who.old.token.view) rebuild k
         → HasTakenFewIn result (root_words k) 0 who.old who.new }

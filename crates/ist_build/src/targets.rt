@@ -19,10 +19,9 @@ pub(crate) struct Target {
 
 // Finds the target of a started rebuild, which is finished.
 pub(crate) fn find_target(table: &TreeTable, who: &mut Caller, rebuild: u32) -> Target
-    requires same_table { who.old.token.table ≡ table.now.table }
+    requires same_table { who.old.token.view.table ≡ table.now.table }
     requires ready { IsFreeToBuild who.old }
     requires buildable { IsBuildable (now who.old.token.view) rebuild }
-    ensures same_table { who.new.token.table ≡ table.now.table }
     ensures back { IsBack who.old who.new }
     ensures seen { GoesOnTo who.old.token.view who.new.token.view }
     ensures told { IsTold (now who.new.token.view) rebuild result.keys }

@@ -24,9 +24,8 @@ use ist_rule::{TreeTable, TreeToken, know};
 
 // Returns the key number `i` of a finished target, counted from 0.
 fn key_at(table: &TreeTable, token: &mut TreeToken, target: u32, i: u64) -> u64
-    requires same_table { token.old.table ≡ table.now.table }
+    requires same_table { token.old.view.table ≡ table.now.table }
     requires finished { HasKeys (now token.old.view) target (i + 1) }
-    ensures same_table { token.new.table ≡ token.old.table }
     ensures seen { GoesOnTo token.old.view token.new.view }
     ensures key { (leaves : List PlacedLeaf)
         → HasLeaves (now token.old.view).pieces (Some (InnerAt target)) leaves
@@ -46,7 +45,7 @@ fn begin_top(
     keys: u64,
     degree: u64,
 ) -> Result<u32, Full>
-    requires same_table { who.old.token.table ≡ table.now.table }
+    requires same_table { who.old.token.view.table ≡ table.now.table }
     requires caller { IsCaller who.old }
     requires refused { HasRefused who.old }
     requires target { IsTarget (now who.old.token.view) target keys }
@@ -54,7 +53,6 @@ fn begin_top(
     requires degree_is { degree ≡ degree_of keys }
     requires some { 1 ≤ degree }
     requires small { degree < place_limit }
-    ensures same_table { who.new.token.table ≡ table.now.table }
     ensures begun { IfOk result (λ base. IsTopMidway who.old target keys base degree 0 who.new) }
     ensures few { HasTakenFewIn result (inner_words degree) 0 who.old who.new }
     ensures refused { IfErr result (λ full. IsTopRowRefused who.old (word_count_of table.now) keys full
@@ -74,12 +72,11 @@ pub(crate) fn build_top(
     target: u32,
     keys: u64,
 ) -> Result<u64, Full>
-    requires same_table { who.old.token.table ≡ table.now.table }
+    requires same_table { who.old.token.view.table ≡ table.now.table }
     requires caller { IsCaller who.old }
     requires refused { HasRefused who.old }
     requires target { IsTarget (now who.old.token.view) target keys }
     requires many { share_from ≤ keys }
-    ensures same_table { who.new.token.table ≡ table.now.table }
     ensures caller { IsCaller who.new }
     ensures number { who.new.number ≡ who.old.number }
     ensures rows { spares_of who.new ≡ spares_of who.old }

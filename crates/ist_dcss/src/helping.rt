@@ -50,10 +50,9 @@ fn side_offset(decision: Decision) -> u64
 
 // Loads a word of the change's row.
 fn field(table: &TreeTable, token: &mut TreeToken, change: u32, offset: u64) -> u64
-    requires same_table { token.old.table ≡ table.now.table }
+    requires same_table { token.old.view.table ≡ table.now.table }
     requires may_help { MayHelp token.old.view change }
     requires within { offset < change_words }
-    ensures same_table { token.new.table ≡ token.old.table }
     ensures went { WentOn (Serves change) token.old.view token.new.view }
     ensures search { KeepsSearch token.old.view token.new.view }
     ensures field { IsField token.new.view change offset result }
@@ -64,9 +63,8 @@ fn field(table: &TreeTable, token: &mut TreeToken, change: u32, offset: u64) -> 
 
 // Looks at the node, decides the change by what it saw, and returns the decision that holds.
 fn decide(table: &TreeTable, token: &mut TreeToken, change: u32) -> Decision
-    requires same_table { token.old.table ≡ table.now.table }
+    requires same_table { token.old.view.table ≡ table.now.table }
     requires may_help { MayHelp token.old.view change }
-    ensures same_table { token.new.table ≡ token.old.table }
     ensures went { WentOn (Serves change) token.old.view token.new.view }
     ensures search { KeepsSearch token.old.view token.new.view }
     ensures decided { IsDecided token.new.view change (is_yes result) }
@@ -90,9 +88,8 @@ fn decide(table: &TreeTable, token: &mut TreeToken, change: u32) -> Decision
 
 // Returns the place of the change's slot.
 fn slot_of(table: &TreeTable, token: &mut TreeToken, change: u32) -> u64
-    requires same_table { token.old.table ≡ table.now.table }
+    requires same_table { token.old.view.table ≡ table.now.table }
     requires may_help { MayHelp token.old.view change }
-    ensures same_table { token.new.table ≡ token.old.table }
     ensures went { WentOn (Serves change) token.old.view token.new.view }
     ensures search { KeepsSearch token.old.view token.new.view }
     ensures slot { IsSlotOf token.new.view change result }
@@ -104,10 +101,9 @@ fn slot_of(table: &TreeTable, token: &mut TreeToken, change: u32) -> u64
 
 // Takes a decided change out of its slot, if no one has done so.
 fn resolve(table: &TreeTable, token: &mut TreeToken, change: u32, decision: Decision)
-    requires same_table { token.old.table ≡ table.now.table }
+    requires same_table { token.old.view.table ≡ table.now.table }
     requires may_help { MayHelp token.old.view change }
     requires decided { IsDecided token.old.view change (is_yes decision) }
-    ensures same_table { token.new.table ≡ token.old.table }
     ensures went { WentOn (Serves change) token.old.view token.new.view }
     ensures search { KeepsSearch token.old.view token.new.view }
     ensures out { IsOut token.new.view change }
@@ -126,9 +122,8 @@ fn resolve(table: &TreeTable, token: &mut TreeToken, change: u32, decision: Deci
 /// Returns `Yes` only if its node was open at a step after the installing, and `No` only if the
 /// node wasn't open at one. Takes a bounded number of steps.
 pub fn help(table: &TreeTable, token: &mut TreeToken, change: u32) -> Decision
-    requires same_table { token.old.table ≡ table.now.table }
+    requires same_table { token.old.view.table ≡ table.now.table }
     requires may_help { MayHelp token.old.view change }
-    ensures same_table { token.new.table ≡ token.old.table }
     ensures went { WentOn (Serves change) token.old.view token.new.view }
     ensures search { KeepsSearch token.old.view token.new.view }
     ensures decided { IsDecided token.new.view change (is_yes result) }

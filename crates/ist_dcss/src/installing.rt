@@ -13,10 +13,9 @@ use ist_rule::{TreeTable, TreeToken, exchange, know, load};
 // Loads a word of a row that the caller holds and has filled.
 fn own_word(table: &TreeTable, token: &mut TreeToken, base: u32, offset: u64) -> u64
     ghost words: { List ℕ }
-    requires same_table { token.old.table ≡ table.now.table }
+    requires same_table { token.old.view.table ≡ table.now.table }
     requires filled { HasFilled token.old.view base words }
     requires within { offset < length words }
-    ensures same_table { token.new.table ≡ token.old.table }
     ensures seen { GoesOnTo token.old.view token.new.view }
     ensures value { slice_get words offset ≡ Some result }
 {
@@ -34,9 +33,8 @@ struct InstallAim {
 // Reads from the filled row of a change what its install aims at.
 fn aim_of(table: &TreeTable, token: &mut TreeToken, change: u32) -> InstallAim
     ghost filling: { Filling }
-    requires same_table { token.old.table ≡ table.now.table }
+    requires same_table { token.old.view.table ≡ table.now.table }
     requires may_install { IsInstallable token.old.view change filling }
-    ensures same_table { token.new.table ≡ token.old.table }
     ensures aimed { IsAimed token.old.view filling result.place result.from token.new.view }
 {
     let node = own_word(table, token, change, CHANGE_NODE_OFFSET);
@@ -53,9 +51,9 @@ fn aim_of(table: &TreeTable, token: &mut TreeToken, change: u32) -> InstallAim
 /// slot held; no word changes, and the rows stay held.
 pub fn install(table: &TreeTable, token: &mut TreeToken, change: u32) -> Installed
     ghost filling: { Filling }
-    requires same_table { token.old.table ≡ table.now.table }
+    requires same_table { token.old.view.table ≡ table.now.table }
     requires may_install { IsInstallable token.old.view change filling }
-    ensures same_table { token.new.table ≡ token.old.table }
+    ensures same_table { token.new.view.table ≡ token.old.view.table }
     ensures yes { result ≡ Yes → IsInstalled token.old.view change filling token.new.view }
     ensures other { (word : ℕ) → result ≡ Other word
         → IsOther token.old.view change filling word token.new.view }

@@ -26,9 +26,8 @@ pub(crate) fn status_place(node: u64) -> u64
 /// open again (`laws::nodes_close_once`). If it is open, none of the caller's changes on it was
 /// decided no.
 pub fn is_open(table: &TreeTable, token: &mut TreeToken, node: u32) -> bool
-    requires same_table { token.old.table ≡ table.now.table }
+    requires same_table { token.old.view.table ≡ table.now.table }
     requires node { IsNode (now token.old.view) node }
-    ensures same_table { token.new.table ≡ token.old.table }
     ensures seen { GoesOnTo token.old.view token.new.view }
     ensures open { IsTrue result ↔ IsOpen (now token.new.view) node }
     ensures unrefused { (number : ℕ) → IsTrue result

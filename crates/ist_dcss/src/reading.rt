@@ -21,9 +21,8 @@ pub fn change_in(word: u64) -> Option<u32>
 
 /// Returns the node that a rebuild replaces or will replace, by one load.
 pub fn target_of(table: &TreeTable, token: &mut TreeToken, rebuild: u32) -> u32
-    requires same_table { token.old.table ≡ table.now.table }
+    requires same_table { token.old.view.table ≡ table.now.table }
     requires published { IsRebuildRow (now token.old.view) rebuild }
-    ensures same_table { token.new.table ≡ token.old.table }
     ensures seen { GoesOnTo token.old.view token.new.view }
     ensures target { HasTarget (now token.new.view) rebuild result }
     ensures counted { token.new.view.loaded ≡ token.old.view.loaded + 1 }

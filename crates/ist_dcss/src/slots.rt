@@ -9,9 +9,8 @@ use ist_rule::{TreeTable, TreeToken, know, load};
 
 /// Returns the place of slot `index` of the node. The anchor has one slot, in a word of its own.
 pub fn slot_at(table: &TreeTable, token: &mut TreeToken, node: u64, index: u64) -> u64
-    requires same_table { token.old.table ≡ table.now.table }
+    requires same_table { token.old.view.table ≡ table.now.table }
     requires slot { IsSlot token.old.view node index }
-    ensures same_table { token.new.table ≡ token.old.table }
     ensures seen { GoesOnTo token.old.view token.new.view }
     ensures place { result ≡ place_of_slot (now token.new.view) node index }
 {

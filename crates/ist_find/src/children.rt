@@ -25,9 +25,8 @@ pub(crate) fn place_in_row(
     node: u32,
     key: u64,
 ) -> Counted<Place>
-    requires same_table { token.old.table ≡ table.now.table }
+    requires same_table { token.old.view.table ≡ table.now.table }
     requires row { IsRow token.old.view node }
-    ensures same_table { token.new.table ≡ token.old.table }
     ensures seen { GoesOnTo token.old.view token.new.view }
     ensures at { let place = result.value in
         IsSlotForKey token.new.view node key place.index place.count }
@@ -59,11 +58,10 @@ pub(crate) fn slot_of_row(
     count: u64,
     index: u64,
 ) -> u64
-    requires same_table { token.old.table ≡ table.now.table }
+    requires same_table { token.old.view.table ≡ table.now.table }
     requires row { IsRow token.old.view node }
     requires count { count ≡ length (keys_at token.old.view node) }
     requires within { index ≤ count }
-    ensures same_table { token.new.table ≡ token.old.table }
     ensures seen { GoesOnTo token.old.view token.new.view }
     ensures loads { token.new.view.loaded ≡ token.old.view.loaded + 1 }
     ensures word { SlotHolds (now token.new.view) node index result }
@@ -81,9 +79,8 @@ pub(crate) fn slot_of_row(
 ///
 /// Source: Perl, Itai and Avni, "Interpolation search", CACM 1978.
 pub fn child_at(table: &TreeTable, token: &mut TreeToken, node: u32, key: u64) -> Child
-    requires same_table { token.old.table ≡ table.now.table }
+    requires same_table { token.old.view.table ≡ table.now.table }
     requires row { IsRow token.old.view node }
-    ensures same_table { token.new.table ≡ token.old.table }
     ensures index { IsChildFor (now token.new.view) node key result.index }
     ensures word { SlotHolds (now token.new.view) node result.index result.word }
     ensures seen { GoesOnTo token.old.view token.new.view }
@@ -99,9 +96,8 @@ pub fn child_at(table: &TreeTable, token: &mut TreeToken, node: u32, key: u64) -
 // The same, with its loads.
 #[inline(always)]
 fn child_and_loads(table: &TreeTable, token: &mut TreeToken, node: u32, key: u64) -> Counted<Child>
-    requires same_table { token.old.table ≡ table.now.table }
+    requires same_table { token.old.view.table ≡ table.now.table }
     requires row { IsRow token.old.view node }
-    ensures same_table { token.new.table ≡ token.old.table }
     ensures index { IsChildFor (now token.new.view) node key result.value.index }
     ensures word { SlotHolds (now token.new.view) node result.value.index result.value.word }
     ensures seen { GoesOnTo token.old.view token.new.view }
@@ -130,10 +126,9 @@ pub(crate) fn slot_for(
     node: u32,
     key: u64,
 ) -> Counted<Child>
-    requires same_table { token.old.table ≡ table.now.table }
+    requires same_table { token.old.view.table ≡ table.now.table }
     requires node { IsNode (now token.old.view) node }
     requires top { node ≡ anchor → MayWalk token.old.view }
-    ensures same_table { token.new.table ≡ token.old.table }
     ensures index { IsChildFor (now token.new.view) node key result.value.index }
     ensures word { SlotHolds (now token.new.view) node result.value.index result.value.word }
     ensures seen { GoesOnTo token.old.view token.new.view }
@@ -163,10 +158,9 @@ pub(crate) fn read_child(
     node: u32,
     key: u64,
 ) -> Counted<Look>
-    requires same_table { token.old.table ≡ table.now.table }
+    requires same_table { token.old.view.table ≡ table.now.table }
     requires node { IsNode (now token.old.view) node }
     requires top { node ≡ anchor → MayWalk token.old.view }
-    ensures same_table { token.new.table ≡ token.old.table }
     ensures read { let look = result.value in ReadsChild token.old.view token.new.view node key
         look.index result.loads (ref_meant look.reference) }
 {

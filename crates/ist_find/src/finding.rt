@@ -21,10 +21,9 @@ use ist_rule::{TreeTable, TreeToken, begin_search, know};
 // ignore the number of loads pay nothing for it.
 #[inline(always)]
 fn look_at(table: &TreeTable, token: &mut TreeToken, node: u32, key: u64) -> Counted<Look>
-    requires same_table { token.old.table ≡ table.now.table }
+    requires same_table { token.old.view.table ≡ table.now.table }
     requires come { Came token.old.view key node }
     requires top { node ≡ anchor → MayWalk token.old.view }
-    ensures same_table { token.new.table ≡ token.old.table }
     ensures looked { let look = result.value in LooksAtChild token.old.view token.new.view node key
         look.index result.loads (ref_meant look.reference) }
 {
@@ -42,8 +41,7 @@ fn look_at(table: &TreeTable, token: &mut TreeToken, node: u32, key: u64) -> Cou
 /// the node in which it ends. It makes at most 10 loads, plus for each of these rows 12 and the
 /// distance of the guess from the child for the key.
 pub fn find_from_anchor(table: &TreeTable, token: &mut TreeToken, key: u64) -> Found
-    requires same_table { token.old.table ≡ table.now.table }
-    ensures same_table { token.new.table ≡ token.old.table }
+    requires same_table { token.old.view.table ≡ table.now.table }
     ensures seen { HasSearched token.old.view token.new.view }
     ensures value { let w = token.new.view in
         HasPosition w.start w.words token.old.view.log w.log key result.value }
@@ -57,8 +55,7 @@ pub fn find_from_anchor(table: &TreeTable, token: &mut TreeToken, key: u64) -> F
 
 /// The same search, which also returns how many words it loaded.
 pub fn find_and_loads(table: &TreeTable, token: &mut TreeToken, key: u64) -> Counted<Found>
-    requires same_table { token.old.table ≡ table.now.table }
-    ensures same_table { token.new.table ≡ token.old.table }
+    requires same_table { token.old.view.table ≡ table.now.table }
     ensures seen { HasSearched token.old.view token.new.view }
     ensures value { let w = token.new.view in
         HasPosition w.start w.words token.old.view.log w.log key result.value.value }

@@ -14,9 +14,8 @@ use ist_rule::{TreeTable, TreeToken, know, load};
 
 /// Returns how many keys an inner row has.
 pub(crate) fn key_count(table: &TreeTable, token: &mut TreeToken, node: u32) -> u64
-    requires same_table { token.old.table ≡ table.now.table }
+    requires same_table { token.old.view.table ≡ table.now.table }
     requires row { IsRow token.old.view node }
-    ensures same_table { token.new.table ≡ token.old.table }
     ensures seen { GoesOnTo token.old.view token.new.view }
     ensures loads { token.new.view.loaded ≡ token.old.view.loaded + 1 }
     ensures value { result ≡ length (keys_at token.old.view node) }
@@ -29,10 +28,9 @@ pub(crate) fn key_count(table: &TreeTable, token: &mut TreeToken, node: u32) -> 
 
 /// Returns key `j` of an inner row, counted from 0.
 pub(crate) fn key_at(table: &TreeTable, token: &mut TreeToken, node: u32, j: u64) -> u64
-    requires same_table { token.old.table ≡ table.now.table }
+    requires same_table { token.old.view.table ≡ table.now.table }
     requires row { IsRow token.old.view node }
     requires within { j < length (keys_at token.old.view node) }
-    ensures same_table { token.new.table ≡ token.old.table }
     ensures seen { GoesOnTo token.old.view token.new.view }
     ensures loads { token.new.view.loaded ≡ token.old.view.loaded + 1 }
     ensures value { result ≡ slice_index (keys_at token.old.view node) j }
@@ -50,11 +48,10 @@ struct EndKeys {
 
 // The keys at both ends of a row that has keys.
 fn end_keys(table: &TreeTable, token: &mut TreeToken, node: u32, count: u64) -> EndKeys
-    requires same_table { token.old.table ≡ table.now.table }
+    requires same_table { token.old.view.table ≡ table.now.table }
     requires row { IsRow token.old.view node }
     requires count { count ≡ length (keys_at token.old.view node) }
     requires some { 1 ≤ count }
-    ensures same_table { token.new.table ≡ token.old.table }
     ensures seen { GoesOnTo token.old.view token.new.view }
     ensures loads { token.new.view.loaded ≡ token.old.view.loaded + 2 }
     ensures first { result.first ≡ slice_index (keys_at token.old.view node) 0 }
@@ -68,10 +65,9 @@ fn end_keys(table: &TreeTable, token: &mut TreeToken, node: u32, count: u64) -> 
 
 // How many keys of a row are at most `key`, found by a look at each.
 fn count_through(table: &TreeTable, token: &mut TreeToken, node: u32, count: u64, key: u64) -> u64
-    requires same_table { token.old.table ≡ table.now.table }
+    requires same_table { token.old.view.table ≡ table.now.table }
     requires row { IsRow token.old.view node }
     requires count { count ≡ length (keys_at token.old.view node) }
-    ensures same_table { token.new.table ≡ token.old.table }
     ensures seen { GoesOnTo token.old.view token.new.view }
     ensures loads { token.new.view.loaded ≡ token.old.view.loaded + count }
     ensures value { result ≡ child_count (keys_at token.old.view node) key }
@@ -95,7 +91,7 @@ fn gallop_from(
     from: u64,
     key: u64,
 ) -> Counted<u64>
-    requires same_table { token.old.table ≡ table.now.table }
+    requires same_table { token.old.view.table ≡ table.now.table }
     requires row { IsRow token.old.view node }
     requires count { count ≡ length (keys_at token.old.view node) }
     requires fits { count < place_limit }
@@ -104,7 +100,6 @@ fn gallop_from(
     requires first { slice_index (keys_at token.old.view node) 0 ≤ key }
     requires last { let keys = keys_at token.old.view node in
         key < slice_index keys (length keys - 1) }
-    ensures same_table { token.new.table ≡ token.old.table }
     ensures finds { FindsChild token.old.view token.new.view node key count from 0 result.value
         result.loads }
 {
@@ -131,12 +126,11 @@ fn child_among_many(
     count: u64,
     key: u64,
 ) -> Counted<u64>
-    requires same_table { token.old.table ≡ table.now.table }
+    requires same_table { token.old.view.table ≡ table.now.table }
     requires row { IsRow token.old.view node }
     requires count { count ≡ length (keys_at token.old.view node) }
     requires fits { count < place_limit }
     requires many { 4 < count }
-    ensures same_table { token.new.table ≡ token.old.table }
     ensures finds { let guess = guess_in (keys_at token.old.view node) key in
         FindsChild token.old.view token.new.view node key count guess 2 result.value result.loads }
 {
@@ -166,11 +160,10 @@ pub(crate) fn child_for(
     count: u64,
     key: u64,
 ) -> Counted<u64>
-    requires same_table { token.old.table ≡ table.now.table }
+    requires same_table { token.old.view.table ≡ table.now.table }
     requires row { IsRow token.old.view node }
     requires count { count ≡ length (keys_at token.old.view node) }
     requires fits { count < place_limit }
-    ensures same_table { token.new.table ≡ token.old.table }
     ensures finds { let guess = guess_in (keys_at token.old.view node) key in
         FindsChild token.old.view token.new.view node key count guess 2 result.value result.loads }
 {

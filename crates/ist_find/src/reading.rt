@@ -32,10 +32,9 @@ fn side_offset(decision: u64) -> u64
 // What the slot of the change at `base` reads as: `to` if the change was decided yes at the first
 // step of this call, and otherwise `from`.
 fn side(table: &TreeTable, token: &mut TreeToken, word: u64, base: u32) -> u64
-    requires same_table { token.old.table ≡ table.now.table }
+    requires same_table { token.old.view.table ≡ table.now.table }
     requires change { ref_of word ≡ Some (ChangeAt base) }
     requires row { SeesChange token.old.view base }
-    ensures same_table { token.new.table ≡ token.old.table }
     ensures side { TellsSide token.old.view token.new.view word result }
     ensures loads { token.new.view.loaded ≡ token.old.view.loaded + 2 }
 {
@@ -47,9 +46,8 @@ fn side(table: &TreeTable, token: &mut TreeToken, word: u64, base: u32) -> u64
 
 /// What the word of a slot reads as after its change, if it names one, is followed.
 pub(crate) fn past_change(table: &TreeTable, token: &mut TreeToken, word: u64) -> Counted<u64>
-    requires same_table { token.old.table ≡ table.now.table }
+    requires same_table { token.old.view.table ≡ table.now.table }
     requires names { Names token.old.view (ref_of word) }
-    ensures same_table { token.new.table ≡ token.old.table }
     ensures side { TellsSide token.old.view token.new.view word result.value }
     ensures counted { token.new.view.loaded ≡ token.old.view.loaded + result.loads }
     ensures loads { result.loads ≤ 2 }
@@ -91,10 +89,9 @@ fn named(word: u64) -> Ref
 
 // The target of the rebuild at `base`.
 fn target(table: &TreeTable, token: &mut TreeToken, word: u64, base: u32) -> Ref
-    requires same_table { token.old.table ≡ table.now.table }
+    requires same_table { token.old.view.table ≡ table.now.table }
     requires rebuild { ref_of word ≡ Some (RebuildAt base) }
     requires row { SeesRebuild token.old.view base }
-    ensures same_table { token.new.table ≡ token.old.table }
     ensures target { TellsTarget token.old.view token.new.view word (ref_meant result) }
     ensures loads { token.new.view.loaded ≡ token.old.view.loaded + 1 }
 {
@@ -108,10 +105,9 @@ fn target(table: &TreeTable, token: &mut TreeToken, word: u64, base: u32) -> Ref
 
 /// What such a word reads as after its rebuild, if it names one, is followed too.
 pub(crate) fn past_rebuild(table: &TreeTable, token: &mut TreeToken, word: u64) -> Counted<Ref>
-    requires same_table { token.old.table ≡ table.now.table }
+    requires same_table { token.old.view.table ≡ table.now.table }
     requires names { Names token.old.view (ref_of word) }
     requires plain { IsPlain (ref_of word) }
-    ensures same_table { token.new.table ≡ token.old.table }
     ensures target { TellsTarget token.old.view token.new.view word (ref_meant result.value) }
     ensures counted { token.new.view.loaded ≡ token.old.view.loaded + result.loads }
     ensures loads { result.loads ≤ 1 }
@@ -142,9 +138,8 @@ pub(crate) fn leaf_in(reference: Ref) -> Option<u32>
 
 // The value that the leaf gives the key.
 fn leaf_value(table: &TreeTable, token: &mut TreeToken, base: u32, key: u64) -> Counted<Option<u64>>
-    requires same_table { token.old.table ≡ table.now.table }
+    requires same_table { token.old.view.table ≡ table.now.table }
     requires leaf { SeesLeaf token.old.view base }
-    ensures same_table { token.new.table ≡ token.old.table }
     ensures value { TellsValue token.old.view token.new.view key (LeafAt base) result.value }
     ensures counted { token.new.view.loaded ≡ token.old.view.loaded + result.loads }
     ensures loads { result.loads ≤ 2 }
@@ -171,9 +166,8 @@ pub(crate) fn value_in(
     reference: Ref,
     key: u64,
 ) -> Counted<Option<u64>>
-    requires same_table { token.old.table ≡ table.now.table }
+    requires same_table { token.old.view.table ≡ table.now.table }
     requires end { IsEnd token.old.view (ref_meant reference) }
-    ensures same_table { token.new.table ≡ token.old.table }
     ensures value { TellsValue token.old.view token.new.view key (ref_meant reference) result.value }
     ensures counted { token.new.view.loaded ≡ token.old.view.loaded + result.loads }
     ensures loads { result.loads ≤ 2 }

@@ -28,10 +28,9 @@ use ist_rule::{TreeTable, TreeToken, know, load};
 
 // The least key from `first` on that isn't below the child's keys.
 fn first_of(table: &TreeTable, token: &mut TreeToken, node: u32, index: u64, first: u64) -> u64
-    requires same_table { token.old.table ≡ table.now.table }
+    requires same_table { token.old.view.table ≡ table.now.table }
     requires row { IsRow token.old.view node }
     requires within { index ≤ length (keys_at token.old.view node) }
-    ensures same_table { token.new.table ≡ token.old.table }
     ensures seen { GoesOnTo token.old.view token.new.view }
     ensures loads { token.new.view.loaded ≤ token.old.view.loaded + 1 }
     ensures low { first ≤ result }
@@ -59,13 +58,12 @@ pub(crate) fn last_of(
     key: u64,
     last: u64,
 ) -> u64
-    requires same_table { token.old.table ≡ table.now.table }
+    requires same_table { token.old.view.table ≡ table.now.table }
     requires row { IsRow token.old.view node }
     requires count { count ≡ length (keys_at token.old.view node) }
     requires within { index ≤ length (keys_at token.old.view node) }
     requires below { index < length (keys_at token.old.view node)
         → key < slice_index (keys_at token.old.view node) index }
-    ensures same_table { token.new.table ≡ token.old.table }
     ensures seen { GoesOnTo token.old.view token.new.view }
     ensures loads { token.new.view.loaded ≤ token.old.view.loaded + 1 }
     ensures high { result ≤ last }
@@ -94,12 +92,11 @@ fn row_ends(
     key: u64,
     ends: KeyRange,
 ) -> KeyRange
-    requires same_table { token.old.table ≡ table.now.table }
+    requires same_table { token.old.view.table ≡ table.now.table }
     requires row { IsRow token.old.view node }
     requires child { index ≡ child_count (keys_at token.old.view node) key }
     requires first { ends.first ≤ key }
     requires last { key ≤ ends.last }
-    ensures same_table { token.new.table ≡ token.old.table }
     ensures seen { GoesOnTo token.old.view token.new.view }
     ensures loads { token.new.view.loaded ≤ token.old.view.loaded + 3 }
     ensures low { ends.first ≤ result.first }
@@ -129,13 +126,12 @@ fn shared_ends(
     key: u64,
     ends: KeyRange,
 ) -> KeyRange
-    requires same_table { token.old.table ≡ table.now.table }
+    requires same_table { token.old.view.table ≡ table.now.table }
     requires node { IsNode (now token.old.view) node }
     requires child { IsChildFor (now token.old.view) node key index }
     requires first { ends.first ≤ key }
     requires last { key ≤ ends.last }
     requires edges { EndAtEdges (now token.old.view) ends.first ends.last }
-    ensures same_table { token.new.table ≡ token.old.table }
     ensures seen { GoesOnTo token.old.view token.new.view }
     ensures loads { token.new.view.loaded ≤ token.old.view.loaded + 3 }
     ensures anchor_loads { node ≡ anchor → token.new.view.loaded ≡ token.old.view.loaded }
@@ -165,13 +161,12 @@ fn look_for_all(
     key: u64,
     ends: KeyRange,
 ) -> SharedSlot
-    requires same_table { token.old.table ≡ table.now.table }
+    requires same_table { token.old.view.table ≡ table.now.table }
     requires come { AllCome token.old.view ends.first ends.last node }
     requires top { node ≡ anchor → MayWalk token.old.view }
     requires first { ends.first ≤ key }
     requires last { key ≤ ends.last }
     requires edges { EndAtEdges (now token.old.view) ends.first ends.last }
-    ensures same_table { token.new.table ≡ token.old.table }
     ensures looked { let shared = result.ends in LooksForAll token.old.view token.new.view node key
         ends.first ends.last result.index shared.first shared.last (ref_meant result.reference) }
 {
@@ -190,9 +185,8 @@ fn look_for_all(
 /// and gives no other key one.
 #[inline(always)]
 pub fn leaf_pair(table: &TreeTable, token: &mut TreeToken, base: u32) -> Pair
-    requires same_table { token.old.table ≡ table.now.table }
+    requires same_table { token.old.view.table ≡ table.now.table }
     requires leaf { SeesLeaf token.old.view base }
-    ensures same_table { token.new.table ≡ token.old.table }
     ensures seen { GoesOnTo token.old.view token.new.view }
     ensures pair { IsPairOf (now token.old.view) base result }
     ensures loads { token.new.view.loaded ≡ token.old.view.loaded + 2 }
@@ -208,9 +202,8 @@ pub fn leaf_pair(table: &TreeTable, token: &mut TreeToken, base: u32) -> Pair
 
 // The pair in the slot, if it holds a leaf.
 pub(crate) fn end_pair(table: &TreeTable, token: &mut TreeToken, reference: Ref) -> Option<Pair>
-    requires same_table { token.old.table ≡ table.now.table }
+    requires same_table { token.old.view.table ≡ table.now.table }
     requires end { IsEnd token.old.view (ref_meant reference) }
-    ensures same_table { token.new.table ≡ token.old.table }
     ensures seen { GoesOnTo token.old.view token.new.view }
     ensures loads { token.new.view.loaded ≤ token.old.view.loaded + 2 }
     ensures values { (k : ℕ) → TellsValue token.old.view token.new.view k (ref_meant reference)
@@ -249,10 +242,9 @@ pub(crate) fn pair_within(pair: Option<Pair>, ends: KeyRange) -> Option<Pair>
 /// rows. Never blocks. With the load by which a search begins, its bound on loads is the bound of
 /// `find_from_anchor`, plus three for each row.
 pub fn find_span(table: &TreeTable, token: &mut TreeToken, key: u64) -> Span
-    requires same_table { token.old.table ≡ table.now.table }
+    requires same_table { token.old.view.table ≡ table.now.table }
     requires begun { HasBegunSearch token.old.view }
     requires may_walk { MayWalk token.old.view }
-    ensures same_table { token.new.table ≡ token.old.table }
     ensures seen { GoesOnTo token.old.view token.new.view }
     ensures first { result.first ≤ key }
     ensures last { key ≤ result.last }

@@ -29,9 +29,8 @@ struct SlotRead {
 
 // The slot of a node for the key. The anchor has no keys, and one slot.
 fn first_slot(table: &TreeTable, token: &mut TreeToken, node: u32, key: u64) -> Place
-    requires same_table { token.old.table ≡ table.now.table }
+    requires same_table { token.old.view.table ≡ table.now.table }
     requires node { IsNode (now token.old.view) node }
-    ensures same_table { token.new.table ≡ token.old.table }
     ensures seen { GoesOnTo token.old.view token.new.view }
     ensures loads { token.new.view.loaded ≤ token.old.view.loaded + starting token.old.view node key }
     ensures at { IsSlotForKey token.new.view node key result.index result.count }
@@ -53,10 +52,9 @@ fn slot_end(
     from: u64,
     last: u64,
 ) -> u64
-    requires same_table { token.old.table ≡ table.now.table }
+    requires same_table { token.old.view.table ≡ table.now.table }
     requires at { IsSlotForKey token.old.view node from place.index place.count }
     requires some { from ≤ last }
-    ensures same_table { token.new.table ≡ token.old.table }
     ensures seen { GoesOnTo token.old.view token.new.view }
     ensures loads { token.new.view.loaded ≤ token.old.view.loaded + 1 }
     ensures ends { SlotEnds token.old.view node from result last place.index place.count }
@@ -71,12 +69,11 @@ fn slot_end(
 
 // The word in a slot of a node.
 fn slot_word(table: &TreeTable, token: &mut TreeToken, node: u32, place: Place) -> u64
-    requires same_table { token.old.table ≡ table.now.table }
+    requires same_table { token.old.view.table ≡ table.now.table }
     requires node { IsNode (now token.old.view) node }
     requires count { place.count ≡ length (keys_at token.old.view node) }
     requires within { place.index ≤ place.count }
     requires top { node ≡ anchor → MayWalk token.old.view }
-    ensures same_table { token.new.table ≡ token.old.table }
     ensures seen { GoesOnTo token.old.view token.new.view }
     ensures loads { token.new.view.loaded ≡ token.old.view.loaded + 1 }
     ensures holds { SlotHolds (now token.new.view) node place.index result }
@@ -90,12 +87,11 @@ fn slot_word(table: &TreeTable, token: &mut TreeToken, node: u32, place: Place) 
 
 // What a slot of a node reads as, by loads that are a look for each key of that slot.
 fn read_slot(table: &TreeTable, token: &mut TreeToken, node: u32, place: Place) -> Ref
-    requires same_table { token.old.table ≡ table.now.table }
+    requires same_table { token.old.view.table ≡ table.now.table }
     requires node { IsNode (now token.old.view) node }
     requires count { place.count ≡ length (keys_at token.old.view node) }
     requires within { place.index ≤ place.count }
     requires top { node ≡ anchor → MayWalk token.old.view }
-    ensures same_table { token.new.table ≡ token.old.table }
     ensures seen { GoesOnTo token.old.view token.new.view }
     ensures loads { token.new.view.loaded ≤ token.old.view.loaded + 4 }
     ensures found { IsFoundAs token.new.view (ref_meant result) }
@@ -120,11 +116,10 @@ fn read_from(
     from: u64,
     last: u64,
 ) -> SlotRead
-    requires same_table { token.old.table ≡ table.now.table }
+    requires same_table { token.old.view.table ≡ table.now.table }
     requires at { IsSlotForKey token.old.view node from place.index place.count }
     requires some { from ≤ last }
     requires top { node ≡ anchor → MayWalk token.old.view }
-    ensures same_table { token.new.table ≡ token.old.table }
     ensures read { HasReadSlot token.old.view token.new.view node from result.to last
         place.index place.count (ref_meant result.reference) }
 {
@@ -155,9 +150,8 @@ fn sweep_end(
     read: SlotRead,
     found: &mut Vec<Pair>,
 ) -> Result<(), AllocError>
-    requires same_table { token.old.table ≡ table.now.table }
+    requires same_table { token.old.view.table ≡ table.now.table }
     requires end { IsEnd token.old.view (ref_meant read.reference) }
-    ensures same_table { token.new.table ≡ token.old.table }
     ensures seen { GoesOnTo token.old.view token.new.view }
     ensures read { OnOk result (HasReadEnd token.old.view token.new.view from read.to
         (ref_meant read.reference) found.old.items found.new.items) }
@@ -180,10 +174,9 @@ fn sweep_slot(
     read: SlotRead,
     found: &mut Vec<Pair>,
 ) -> Result<(), AllocError>
-    requires same_table { token.old.table ≡ table.now.table }
+    requires same_table { token.old.view.table ≡ table.now.table }
     requires below { LeadsBelow token.old.view node from read.to (ref_meant read.reference) }
     requires some { from ≤ read.to }
-    ensures same_table { token.new.table ≡ token.old.table }
     ensures seen { GoesOnTo token.old.view token.new.view }
     ensures swept { OnOk result (HasSweptSlot token.old.view token.new.view from read.to
         (ref_meant read.reference) found.old.items found.new.items) }
@@ -205,11 +198,10 @@ fn sweep_below(
     last: u64,
     found: &mut Vec<Pair>,
 ) -> Result<(), AllocError>
-    requires same_table { token.old.table ≡ table.now.table }
+    requires same_table { token.old.view.table ≡ table.now.table }
     requires led { WereLed token.old.view first last node }
     requires some { first ≤ last }
     requires top { node ≡ anchor → MayWalk token.old.view }
-    ensures same_table { token.new.table ≡ token.old.table }
     ensures seen { GoesOnTo token.old.view token.new.view }
     ensures swept { OnOk result (HasSwept token.old.view token.new.view first (last + 1) last node 0
         (starting token.old.view node first) found.old.items found.new.items) }
@@ -244,10 +236,9 @@ pub fn sweep(
     last: u64,
     found: &mut Vec<Pair>,
 ) -> Result<(), AllocError>
-    requires same_table { token.old.table ≡ table.now.table }
+    requires same_table { token.old.view.table ≡ table.now.table }
     requires may_walk { MayWalk token.old.view }
     requires some { first ≤ last }
-    ensures same_table { token.new.table ≡ token.old.table }
     ensures seen { GoesOnTo token.old.view token.new.view }
     ensures swept { OnOk result (SweptBetween token.old.view token.new.view first last
         found.old.items found.new.items) }

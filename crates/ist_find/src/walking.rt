@@ -20,10 +20,9 @@ use ist_rule::{TreeTable, TreeToken, know};
 /// which may name a change or a rebuild, ends the walk: the search has come as far as the node. The
 /// word is never Unset.
 pub fn step_down(table: &TreeTable, token: &mut TreeToken, node: u32, key: u64) -> Child
-    requires same_table { token.old.table ≡ table.now.table }
+    requires same_table { token.old.view.table ≡ table.now.table }
     requires come { Came token.old.view key node }
     requires top { node ≡ anchor → MayWalk token.old.view }
-    ensures same_table { token.new.table ≡ token.old.table }
     ensures index { IsChildFor (now token.new.view) node key result.index }
     ensures word { SlotHolds (now token.new.view) node result.index result.word }
     ensures seen { GoesOnTo token.old.view token.new.view }

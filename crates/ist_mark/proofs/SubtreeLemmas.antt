@@ -1,5 +1,5 @@
 -- The rows of a subtree, and steps of marking it, as callers go on. Serves each function.
-use Rattle.std.proofs.Common.{◌≡◌, ℕ, refl, sym, ap, ◌∙◌, subst}
+use Rattle.std.proofs.Common.{◌≡◌, ℕ, sym, ap, ◌∙◌, subst}
 use Rattle.ist_core.specs.declared.events.Event.{Event}
 use Rattle.ist_core.specs.declared.events.Event.TheVariants.{Reserve, Install, Okay, Decide, Resolve, Mark, Pass, Finish, Root, Place, Lose}
 use Rattle.ist_core.specs.Logs.{Log, Passes}
@@ -146,7 +146,6 @@ pub mark_more : (node : ℕ) (a b c : TokenFace) → HasMarked node a b → HasM
     → HasMarked node a c
 mark_more node a b c first second =
     record {
-      same_table = second.same_table ∙ first.same_table;
       went = marked_more node a.view b.view c.view first.went second.went;
       search = keeps_more a.view b.view c.view first.search second.search;
     }
@@ -156,7 +155,6 @@ pub mark_lower : (node child : ℕ) (a b c : TokenFace) → HasMarked node a b
     → LiesUnder (now b.view) b.view.log node child → HasMarked child b c → HasMarked node a c
 mark_lower node child a b c first under second =
     record {
-      same_table = second.same_table ∙ first.same_table;
       went = marked_lower node child a.view b.view c.view first.went under second.went;
       search = keeps_more a.view b.view c.view first.search second.search;
     }
@@ -165,31 +163,30 @@ mark_lower node child a b c first under second =
 pub mark_same : (node : ℕ) (a : TokenFace) → IsSound a.view → HasMarked node a a
 mark_same node a s =
     record {
-      same_table = refl;
       went = went_same (Marks a.view node) a.view s;
       search = keeps_same a.view;
     }
 
 -- and so has one that made loads
-pub mark_loads : (node : ℕ) (a b : TokenFace) → b.table ≡ a.table → GoesOnTo a.view b.view
-    → HasMarked node a b
-mark_loads node a b same g =
+pub mark_loads : (node : ℕ) (a b : TokenFace) → GoesOnTo a.view b.view → HasMarked node a b
+mark_loads node a b g =
     record {
-      same_table = same;
       went = goes_on_went (Marks b.view node) a.view b.view g;
       search = goes_on_keeps a.view b.view g;
     }
 
 -- and one that helped a change which it met in a slot of the node
 pub mark_help : (node base : ℕ) (a b c : TokenFace) → HasMarked node a b → IsMetAt b.view node base
-    → c.table ≡ b.table → WentOn (Serves base) b.view c.view → KeepsSearch b.view c.view
-    → HasMarked node a c
-mark_help node base a b c first met same went search =
+    → WentOn (Serves base) b.view c.view → KeepsSearch b.view c.view → HasMarked node a c
+mark_help node base a b c first met went search =
     record {
-      same_table = same ∙ first.same_table;
       went = marked_help node base a.view b.view c.view first.went met went;
       search = keeps_more a.view b.view c.view first.search search;
     }
+
+-- the token of a caller that only marked is of its table still
+pub mark_table : (node : ℕ) (a b : TokenFace) → HasMarked node a b → b.view.table ≡ a.view.table
+mark_table node a b h = ap (λ (v : View). v.table) h.went.same
 
 -- a node that may be marked may be marked still
 pub may_mark_on : (node : ℕ) (a b : TokenFace) → HasMarked node a b → MayMark a.view node

@@ -40,7 +40,6 @@ pub record IsMetAt (v : View) (node change : ℕ) : Type 0 where
 
 -- the caller only marked: it has made steps of marking the subtree of the node, and kept its search
 pub record HasMarked (node : ℕ) (old new : TokenFace) : Type 0 where
-  pub same_table : new.table ≡ old.table
   pub went : WentOn (Marks new.view node) old.view new.view
   pub search : KeepsSearch old.view new.view
 

@@ -14,7 +14,7 @@ use ist_rule::{TreeTable, TreeToken, know};
 // Passes a slot of the node, marks what hangs below it, and returns how many keys that has.
 #[cycle(marking)]
 fn count_slot(table: &TreeTable, token: &mut TreeToken, node: u32, degree: u64, index: u64) -> u64
-    requires same_table { token.old.table ≡ table.now.table }
+    requires same_table { token.old.view.table ≡ table.now.table }
     requires may_pass { MayPass token.old.view node degree }
     requires within { index < degree }
     ensures marked { HasMarked node token.old token.new }
@@ -34,9 +34,8 @@ fn count_slot(table: &TreeTable, token: &mut TreeToken, node: u32, degree: u64, 
 /// return the same number. Helps what others install there, and always returns.
 #[cycle(marking)]
 pub fn mark_and_count(table: &TreeTable, token: &mut TreeToken, node: u32) -> u64
-    requires same_table { token.old.table ≡ table.now.table }
+    requires same_table { token.old.view.table ≡ table.now.table }
     requires may_mark { MayMark token.old.view node }
-    ensures same_table { token.new.table ≡ token.old.table }
     ensures went { WentOn (Marks token.new.view node) token.old.view token.new.view }
     ensures search { KeepsSearch token.old.view token.new.view }
     ensures finished { IsFinishedWith (now token.new.view) node result }

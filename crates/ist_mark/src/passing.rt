@@ -13,7 +13,7 @@ use ist_rule::{TreeTable, TreeToken, know, load_pass};
 // Loads a slot of the node and returns its word. The slot is then passed, unless the word is a
 // change's.
 fn look(table: &TreeTable, token: &mut TreeToken, node: u32, degree: u64, index: u64) -> u64
-    requires same_table { token.old.table ≡ table.now.table }
+    requires same_table { token.old.view.table ≡ table.now.table }
     requires may_pass { MayPass token.old.view node degree }
     requires within { index < degree }
     ensures marked { HasMarked node token.old token.new }
@@ -31,7 +31,7 @@ fn look(table: &TreeTable, token: &mut TreeToken, node: u32, degree: u64, index:
 // Passes a slot of the node, and returns its word. Helps each change that it meets there. Helping
 // resolves the change, so that there are few.
 fn pass(table: &TreeTable, token: &mut TreeToken, node: u32, degree: u64, index: u64) -> u64
-    requires same_table { token.old.table ≡ table.now.table }
+    requires same_table { token.old.view.table ≡ table.now.table }
     requires may_pass { MayPass token.old.view node degree }
     requires within { index < degree }
     ensures marked { HasMarked node token.old token.new }
@@ -55,7 +55,7 @@ pub(crate) fn pass_slot(
     degree: u64,
     index: u64,
 ) -> PassedChild
-    requires same_table { token.old.table ≡ table.now.table }
+    requires same_table { token.old.view.table ≡ table.now.table }
     requires may_pass { MayPass token.old.view node degree }
     requires within { index < degree }
     ensures marked { HasMarked node token.old token.new }

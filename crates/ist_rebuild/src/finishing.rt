@@ -43,10 +43,9 @@ enum Tried {
 
 /// Gives the rebuild its root, and fills the root's parts.
 pub(crate) fn build_out(table: &TreeTable, who: &mut Caller, rebuild: u32) -> Result<(), Full>
-    requires same_table { who.old.token.table ≡ table.now.table }
+    requires same_table { who.old.token.view.table ≡ table.now.table }
     requires ready { IsReady who.old }
     requires buildable { IsBuildable (now who.old.token.view) rebuild }
-    ensures same_table { who.new.token.table ≡ table.now.table }
     ensures helped { HasHelped who.old who.new }
     ensures few { (k : ℕ) → IsTold (now who.old.token.view) rebuild k
         → HasTakenFewIn result (sum (shape k)) 0 who.old who.new }
@@ -81,11 +80,10 @@ fn finish_words(plan: PlannedFinish, owner: u32) -> [u64; 9]
 
 // Fills the caller's change row as the finish of the plan, and returns it.
 fn prepare(table: &TreeTable, who: &mut Caller, plan: PlannedFinish) -> Result<u32, Full>
-    requires same_table { who.old.token.table ≡ table.now.table }
+    requires same_table { who.old.token.view.table ≡ table.now.table }
     requires ready { IsReady who.old }
     requires plan { IsPlan who.old.token.view plan }
     requires unrefused { IsUnrefused (now who.old.token.view) who.old.number plan.parent }
-    ensures same_table { who.new.token.table ≡ table.now.table }
     ensures helped { HasHelped who.old who.new }
     ensures few { let n = wanting who.old.change change_words in
         HasTakenFewIn result n 0 who.old who.new }
@@ -105,11 +103,10 @@ fn prepare(table: &TreeTable, who: &mut Caller, plan: PlannedFinish) -> Result<u
 
 // Installs the prepared finish and helps it, if the slot holds the rebuild.
 fn carry(table: &TreeTable, who: &mut Caller, plan: PlannedFinish, change: u32) -> Tried
-    requires same_table { who.old.token.table ≡ table.now.table }
+    requires same_table { who.old.token.view.table ≡ table.now.table }
     requires ready { IsReady who.old }
     requires plan { IsPlan who.old.token.view plan }
     requires prepared { IsPrepared who.old plan change }
-    ensures same_table { who.new.token.table ≡ table.now.table }
     ensures helped { HasHelped who.old who.new }
     ensures none { TakesNoWords who.old who.new }
     ensures held { (word : ℕ) → result ≡ Other word → who.new.change ≡ who.old.change }
@@ -142,7 +139,7 @@ fn conclude(
     plan: PlannedFinish,
     tried: Tried,
 ) -> Option<Helped>
-    requires same_table { who.old.token.table ≡ table.now.table }
+    requires same_table { who.old.token.view.table ≡ table.now.table }
     requires ready { IsReady who.old }
     requires plan { IsPlan who.old.token.view plan }
     requires yes { tried ≡ Yes → IsReplaced (now who.old.token.view) plan.rebuild }
@@ -150,7 +147,6 @@ fn conclude(
     requires other { (word : ℕ) → tried ≡ Other word
         → SlotHolds (now who.old.token.view) plan.parent plan.index word }
     requires differs { (word : ℕ) → tried ≡ Other word → word ≢ word_of (RebuildAt plan.rebuild) }
-    ensures same_table { who.new.token.table ≡ table.now.table }
     ensures helped { HasHelped who.old who.new }
     ensures none { TakesNoWords who.old who.new }
     ensures held { who.new.change ≡ who.old.change }
@@ -182,10 +178,9 @@ fn try_finish(
     who: &mut Caller,
     plan: PlannedFinish,
 ) -> Result<Option<Helped>, Full>
-    requires same_table { who.old.token.table ≡ table.now.table }
+    requires same_table { who.old.token.view.table ≡ table.now.table }
     requires ready { IsReady who.old }
     requires plan { IsPlan who.old.token.view plan }
-    ensures same_table { who.new.token.table ≡ table.now.table }
     ensures helped { HasHelped who.old who.new }
     ensures few { let n = wanting who.old.change change_words in
         HasTakenFewIn result n 0 who.old who.new }
@@ -215,10 +210,9 @@ pub(crate) fn finish(
     who: &mut Caller,
     plan: PlannedFinish,
 ) -> Result<Helped, Full>
-    requires same_table { who.old.token.table ≡ table.now.table }
+    requires same_table { who.old.token.view.table ≡ table.now.table }
     requires ready { IsReady who.old }
     requires plan { IsPlan who.old.token.view plan }
-    ensures same_table { who.new.token.table ≡ table.now.table }
     ensures helped { HasHelped who.old who.new }
     ensures few { let n = wanting who.old.change change_words in
         HasTakenFewIn result n 0 who.old who.new }

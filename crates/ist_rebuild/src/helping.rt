@@ -23,10 +23,9 @@ use ist_rule::{TreeTable, know};
 
 // Marks the target of a started rebuild, and counts its keys; then the rebuild may be built.
 fn mark_target(table: &TreeTable, who: &mut Caller, rebuild: u32)
-    requires same_table { who.old.token.table ≡ table.now.table }
+    requires same_table { who.old.token.view.table ≡ table.now.table }
     requires ready { IsReady who.old }
     requires started { IsStarted (now who.old.token.view) rebuild }
-    ensures same_table { who.new.token.table ≡ table.now.table }
     ensures helped { HasHelped who.old who.new }
     ensures none { TakesNoWords who.old who.new }
     ensures buildable { IsBuildable (now who.new.token.view) rebuild }
@@ -50,10 +49,9 @@ fn mark_target(table: &TreeTable, who: &mut Caller, rebuild: u32)
 /// Source: Brown, Prokopec and Alistarh, "Non-Blocking Interpolation Search Trees with
 /// Doubly-Logarithmic Running Time", PPoPP 2020.
 pub fn help_rebuild(table: &TreeTable, who: &mut Caller, rebuild: u32) -> Result<Helped, Full>
-    requires same_table { who.old.token.table ≡ table.now.table }
+    requires same_table { who.old.token.view.table ≡ table.now.table }
     requires ready { IsReady who.old }
     requires started { IsStarted (now who.old.token.view) rebuild }
-    ensures same_table { who.new.token.table ≡ table.now.table }
     ensures helped { HasHelped who.old who.new }
     ensures few { (k : ℕ) → IsTold (now who.old.token.view) rebuild k
         → HasTakenFewIn result (sum (shape k) + change_words) 0 who.old who.new }

@@ -42,10 +42,9 @@ pub(crate) enum SiteWord {
 
 // Loads a word of the rebuild's row.
 fn field(table: &TreeTable, token: &mut TreeToken, rebuild: u32, offset: u64) -> u64
-    requires same_table { token.old.table ≡ table.now.table }
+    requires same_table { token.old.view.table ≡ table.now.table }
     requires published { IsRebuildRow (now token.old.view) rebuild }
     requires within { offset < rebuild_words }
-    ensures same_table { token.new.table ≡ token.old.table }
     ensures seen { GoesOnTo token.old.view token.new.view }
     ensures field { IsWordOf (now token.new.view) rebuild offset result }
 {
@@ -55,10 +54,9 @@ fn field(table: &TreeTable, token: &mut TreeToken, rebuild: u32, offset: u64) ->
 
 /// Returns what the finish of a started rebuild will do, once its root is built.
 pub(crate) fn plan_of(table: &TreeTable, token: &mut TreeToken, rebuild: u32) -> PlannedFinish
-    requires same_table { token.old.table ≡ table.now.table }
+    requires same_table { token.old.view.table ≡ table.now.table }
     requires started { IsStarted (now token.old.view) rebuild }
     requires built { IsBuiltOut (now token.old.view) rebuild }
-    ensures same_table { token.new.table ≡ token.old.table }
     ensures seen { GoesOnTo token.old.view token.new.view }
     ensures rebuild { result.rebuild ≡ rebuild }
     ensures plan { IsPlan token.new.view result }
@@ -103,10 +101,9 @@ pub(crate) fn meet(word: u64, rebuild: u32) -> SiteWord
 
 // Loads the word in the slot of the rebuild, which isn't the anchor's.
 fn slot_word(table: &TreeTable, token: &mut TreeToken, plan: PlannedFinish) -> u64
-    requires same_table { token.old.table ≡ table.now.table }
+    requires same_table { token.old.view.table ≡ table.now.table }
     requires plan { IsPlan token.old.view plan }
     requires other { plan.parent ≢ anchor }
-    ensures same_table { token.new.table ≡ token.old.table }
     ensures seen { GoesOnTo token.old.view token.new.view }
     ensures holds { SlotHolds (now token.new.view) plan.parent plan.index result }
 {
@@ -120,11 +117,10 @@ fn slot_word(table: &TreeTable, token: &mut TreeToken, plan: PlannedFinish) -> u
 /// Returns what became of a rebuild whose parent isn't open, by a last load of its slot, after
 /// helping the changes that are there. Each help resolves one, so that there are few.
 pub(crate) fn settle(table: &TreeTable, who: &mut Caller, plan: PlannedFinish) -> Helped
-    requires same_table { who.old.token.table ≡ table.now.table }
+    requires same_table { who.old.token.view.table ≡ table.now.table }
     requires ready { IsReady who.old }
     requires plan { IsPlan who.old.token.view plan }
     requires closed { ¬ (IsOpen (now who.old.token.view) plan.parent) }
-    ensures same_table { who.new.token.table ≡ table.now.table }
     ensures helped { HasHelped who.old who.new }
     ensures none { TakesNoWords who.old who.new }
     ensures held { who.new.change ≡ who.old.change }

@@ -25,10 +25,9 @@ pub(crate) struct StartRows {
 
 // Reserves the rows of a start, if the caller doesn't hold them.
 fn reserve_rows(table: &TreeTable, who: &mut Caller) -> Result<StartRows, Full>
-    requires same_table { who.old.token.table ≡ table.now.table }
+    requires same_table { who.old.token.view.table ≡ table.now.table }
     requires caller { IsCaller who.old }
     requires quiet { IsQuiet who.old }
-    ensures same_table { who.new.token.table ≡ table.now.table }
     ensures reserved { HasReserved who.old who.new }
     ensures rows { IfOk result (λ rows. HasStartRows who.new rows.rebuild rows.change) }
     ensures full { IfErr result (λ full.
@@ -52,11 +51,10 @@ fn fill_rows(
     index: u64,
     target: u32,
 )
-    requires same_table { who.old.token.table ≡ table.now.table }
+    requires same_table { who.old.token.view.table ≡ table.now.table }
     requires caller { IsCaller who.old }
     requires rows { HasStartRows who.old rows.rebuild rows.change }
     requires target { IsGoodBase target }
-    ensures same_table { who.new.token.table ≡ table.now.table }
     ensures caller { IsCaller who.new }
     ensures filled { who.new ≡ filled_start who.old rows.rebuild rows.change parent index target }
 {
@@ -81,12 +79,11 @@ pub(crate) fn prepare(
     index: u64,
     target: u32,
 ) -> Result<StartRows, Full>
-    requires same_table { who.old.token.table ≡ table.now.table }
+    requires same_table { who.old.token.view.table ≡ table.now.table }
     requires caller { IsCaller who.old }
     requires quiet { IsQuiet who.old }
     requires may_start { MayStart who.old.token.view parent index target }
     requires unrefused { IsUnrefused (now who.old.token.view) who.old.number parent }
-    ensures same_table { who.new.token.table ≡ table.now.table }
     ensures reserved { HasReserved who.old who.new }
     ensures ready { let number = who.new.number in
         IfOk result (λ rows. IsStartReady who.new rows.rebuild rows.change

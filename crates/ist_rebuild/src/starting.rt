@@ -39,11 +39,10 @@ struct FilledStart {
 // Installs the change whose rows are filled, and helps it until it is out of its slot.
 fn put_in(table: &TreeTable, who: &mut Caller, plan: FilledStart) -> Started
     ghost filling: { Filling }
-    requires same_table { who.old.token.table ≡ table.now.table }
+    requires same_table { who.old.token.view.table ≡ table.now.table }
     requires ready { IsStartReady who.old plan.rows.rebuild plan.rows.change filling }
     requires filled { let number = who.old.number in filling
         ≡ start_filling number plan.parent plan.index plan.target plan.rows.rebuild }
-    ensures same_table { who.new.token.table ≡ table.now.table }
     ensures begun { HasBegun plan.target who.old who.new }
     ensures none { TakesNoWords who.old who.new }
     ensures told { TellsStart who.old who.new plan.parent plan.index plan.target (Ok result) }
@@ -66,11 +65,10 @@ fn put_in(table: &TreeTable, who: &mut Caller, plan: FilledStart) -> Started
 
 // Returns whether the parent is open.
 fn parent_is_open(table: &TreeTable, who: &mut Caller, parent: u32, index: u64, target: u32) -> bool
-    requires same_table { who.old.token.table ≡ table.now.table }
+    requires same_table { who.old.token.view.table ≡ table.now.table }
     requires caller { IsCaller who.old }
     requires quiet { IsQuiet who.old }
     requires may_start { MayStart who.old.token.view parent index target }
-    ensures same_table { who.new.token.table ≡ table.now.table }
     ensures reserved { HasReserved who.old who.new }
     ensures may_start { MayStart who.new.token.view parent index target }
     ensures open { IsTrue result → IsUnrefused (now who.new.token.view) who.new.number parent }
@@ -89,12 +87,11 @@ fn start_open(
     index: u64,
     target: u32,
 ) -> Result<Started, Full>
-    requires same_table { who.old.token.table ≡ table.now.table }
+    requires same_table { who.old.token.view.table ≡ table.now.table }
     requires caller { IsCaller who.old }
     requires quiet { IsQuiet who.old }
     requires may_start { MayStart who.old.token.view parent index target }
     requires unrefused { IsUnrefused (now who.old.token.view) who.old.number parent }
-    ensures same_table { who.new.token.table ≡ table.now.table }
     ensures begun { HasBegun target who.old who.new }
     ensures few { HasTakenFew (needed who.old) 0 who.old who.new }
     ensures told { TellsStart who.old who.new parent index target result }
@@ -131,11 +128,10 @@ pub fn start(
     index: u64,
     target: u32,
 ) -> Result<Started, Full>
-    requires same_table { who.old.token.table ≡ table.now.table }
+    requires same_table { who.old.token.view.table ≡ table.now.table }
     requires caller { IsCaller who.old }
     requires quiet { IsQuiet who.old }
     requires may_start { MayStart who.old.token.view parent index target }
-    ensures same_table { who.new.token.table ≡ table.now.table }
     ensures caller { IsCaller who.new }
     ensures number { who.new.number ≡ who.old.number }
     ensures fresh { KeepsFresh who.old who.new }

@@ -128,6 +128,11 @@ pub read_again : (v : View) (next : ℕ) (u : View) (found : ℕ) (w : View) →
 read_again v next u found w r looked =
     record { before = u; seen = read_on v next u r; looked = looked }
 
+-- the token is still of its table
+pub read_table : (v : View) (next : ℕ) (w : View) → HasReadNext v next w → w.table ≡ v.table
+read_table v next w r =
+    ap (λ (x : View). x.table) r.looked.view ∙ ap (λ (x : View). x.table) r.seen.same
+
 -- the first free word never falls on the way
 next_on : (v w : View) (place word : ℕ) → Looked v place word w → (now v).next ≤ (now w).next
 next_on v w place word l =

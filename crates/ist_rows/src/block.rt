@@ -15,13 +15,12 @@ use ist_rule::{TreeTable, TreeToken, exchange_all, know, load, word_count};
 // caller's Reserve, so fewer words are free than before.
 fn take_all(table: &TreeTable, token: &mut TreeToken, number: u32, asked: u64) -> Option<u32>
     ghost sizes: { List ℕ }
-    requires same_table { token.old.table ≡ table.now.table }
+    requires same_table { token.old.view.table ≡ table.now.table }
     requires caller { token.old.view.who ≡ CallerOf number }
     requires fair { MayTakeAll token.old.view number sizes }
     requires several { 1 ≤ length sizes }
     requires asked { asked ≡ sum sizes }
     requires small { asked < 2 ^ 32 }
-    ensures same_table { token.new.table ≡ table.now.table }
     ensures reserved { IfSome result (λ base.
         ReservedAll token.old.view number base sizes token.new.view) }
     ensures none { result ≡ None →
@@ -54,13 +53,12 @@ fn take_all(table: &TreeTable, token: &mut TreeToken, number: u32, asked: u64) -
 /// reserve, allocates nothing, and always returns.
 pub fn reserve_block(table: &TreeTable, who: &mut Caller, asked: u64) -> Option<u32>
     ghost sizes: { List ℕ }
-    requires same_table { who.old.token.table ≡ table.now.table }
+    requires same_table { who.old.token.view.table ≡ table.now.table }
     requires caller { IsCaller who.old }
     requires next { AreNext who.old sizes }
     requires several { 1 ≤ length sizes }
     requires asked { asked ≡ sum sizes }
     requires small { asked < 2 ^ 32 }
-    ensures same_table { who.new.token.table ≡ table.now.table }
     ensures caller { IsCaller who.new }
     ensures same { who.new ≡ record who.old { token = who.new.token } }
     ensures reserved { IfSome result (λ base.

@@ -13,10 +13,10 @@ use ist_rule::{TreeTable, know, load_past};
 /// The row is lost: it is never published, and its words are never reserved again. The next pair row
 /// that the caller reserves is a fresh one.
 pub fn drop_pair(table: &TreeTable, who: &mut Caller, node: u32)
-    requires same_table { who.old.token.table ≡ table.now.table }
+    requires same_table { who.old.token.view.table ≡ table.now.table }
     requires caller { IsCaller who.old }
     requires below { HasPairBelow who.old node }
-    ensures same_table { who.new.token.table ≡ table.now.table }
+    ensures same_table { who.new.token.view.table ≡ table.now.table }
     ensures caller { IsCaller who.new }
     ensures number { who.new.number ≡ who.old.number }
     ensures rows { spares_of who.new ≡ without_row Pair (spares_of who.old) }

@@ -17,13 +17,13 @@ use ist_rule::{TreeTable, TreeToken, add, know, split};
 /// The caller holds no row, has made no call and no event, and has the maker's start pairs, log and
 /// stamp. The entering is the last event of that log; all else that the maker knew is as it was.
 pub fn enter(table: &TreeTable, maker: &mut TreeToken) -> Caller
-    requires same_table { maker.old.table ≡ table.now.table }
+    requires same_table { maker.old.view.table ≡ table.now.table }
     requires maker { maker.old.view.who ≡ Maker }
     requires given { maker.old.view.given ≡ maker.old.view.made }
     requires few { maker.old.view.made < caller_limit }
     ensures caller { IsCaller result }
-    ensures same_table { result.token.table ≡ table.now.table }
-    ensures maker_table { maker.new.table ≡ table.now.table }
+    ensures same_table { result.token.view.table ≡ table.now.table }
+    ensures maker_table { maker.new.view.table ≡ table.now.table }
     ensures number { result.number ≡ maker.old.view.made }
     ensures no_rows { spares_of result ≡ no_spares }
     ensures holds_none { held_by (now result.token.view) result.number ≡ [] }

@@ -11,10 +11,9 @@ use ist_rule::{TreeTable, know, store};
 
 /// Stores a word into a row that the caller holds, `at` places after its base.
 pub fn fill(table: &TreeTable, who: &mut Caller, base: u32, at: u64, word: u64)
-    requires same_table { who.old.token.table ≡ table.now.table }
+    requires same_table { who.old.token.view.table ≡ table.now.table }
     requires caller { IsCaller who.old }
     requires held { HoldsPlace who.old base at }
-    ensures same_table { who.new.token.table ≡ table.now.table }
     ensures caller { IsCaller who.new }
     ensures stored { let view = storing who.old.token.view (base + at) word in
         who.new ≡ record who.old { token = record who.old.token { view = view } } }
@@ -27,11 +26,10 @@ pub fn fill(table: &TreeTable, who: &mut Caller, base: u32, at: u64, word: u64)
 /// Stores the words into the row of this kind that the caller holds, from its base on. Nothing else
 /// of the caller changes.
 pub fn fill_row(table: &TreeTable, who: &mut Caller, kind: Kind, base: u32, words: &[u64])
-    requires same_table { who.old.token.table ≡ table.now.table }
+    requires same_table { who.old.token.view.table ≡ table.now.table }
     requires caller { IsCaller who.old }
     requires row { row_of kind (spares_of who.old) ≡ Some base }
     requires within { length words.now ≤ kind_words kind }
-    ensures same_table { who.new.token.table ≡ table.now.table }
     ensures caller { IsCaller who.new }
     ensures stored { who.new ≡ filled_with who.old base words.now }
 {

@@ -16,11 +16,10 @@ use ist_rule::{TreeTable, TreeToken, exchange, know, load, word_count};
 // Takes a fresh row from the front of the free words. Each further turn met another caller's
 // Reserve, so fewer words are free than before.
 fn take(table: &TreeTable, token: &mut TreeToken, number: u32, size: u64) -> Result<u32, Full>
-    requires same_table { token.old.table ≡ table.now.table }
+    requires same_table { token.old.view.table ≡ table.now.table }
     requires caller { token.old.view.who ≡ CallerOf number }
     requires fair { MayTake token.old.view number size }
     requires small { size < 2 ^ 32 }
-    ensures same_table { token.new.table ≡ table.now.table }
     ensures reserved { IfOk result (λ base. Reserved token.old.view number base size token.new.view) }
     ensures full { IfErr result (λ full.
         IsFull token.old.view (word_count_of table.now) size full token.new.view) }
@@ -53,9 +52,9 @@ fn take(table: &TreeTable, token: &mut TreeToken, number: u32, size: u64) -> Res
 /// `next` with `next + asked > words`, it returns `Full` and reserves nothing. Retries while others
 /// reserve, and always returns.
 pub fn reserve(table: &TreeTable, who: &mut Caller, kind: Kind) -> Result<u32, Full>
-    requires same_table { who.old.token.table ≡ table.now.table }
+    requires same_table { who.old.token.view.table ≡ table.now.table }
     requires caller { IsCaller who.old }
-    ensures same_table { who.new.token.table ≡ table.now.table }
+    ensures same_table { who.new.token.view.table ≡ table.now.table }
     ensures caller { IsCaller who.new }
     ensures number { who.new.number ≡ who.old.number }
     ensures held { IfSome (row_of kind (spares_of who.old)) (λ base.
@@ -79,11 +78,10 @@ pub fn reserve(table: &TreeTable, who: &mut Caller, kind: Kind) -> Result<u32, F
 /// `Full`. The build is then refused: nothing is reserved, and the rows that it has stay held.
 /// Retries while others reserve, and always returns.
 pub fn reserve_inner(table: &TreeTable, who: &mut Caller, degree: u64) -> Result<u32, Full>
-    requires same_table { who.old.token.table ≡ table.now.table }
+    requires same_table { who.old.token.view.table ≡ table.now.table }
     requires caller { IsCaller who.old }
     requires next { IsNext who.old (inner_words degree) }
     requires small { degree < place_limit }
-    ensures same_table { who.new.token.table ≡ table.now.table }
     ensures caller { IsCaller who.new }
     ensures number { who.new.number ≡ who.old.number }
     ensures rows { spares_of who.new ≡ spares_of who.old }

@@ -140,9 +140,9 @@ exchanges_moves k slots id me place old new event live can =
 
 -- a seat that made an exchange is sound, of the same table
 pub exchanged_sound : (v : View) (event : Event) (place old found : ℕ) (w : View)
-    → Exchanged v event place old found w → IsSound w × (w.words ≡ v.words)
+    → Exchanged v event place old found w → IsSound w × (w.words ≡ v.words) × (w.table ≡ v.table)
 exchanged_sound v event place old found w e =
     ⊎_elim
-    (λ hit. let l = e.0 hit.1 in (l.sound, ap (λ y. y.words) l.view))
-    (λ miss. let l = e.1 miss.1 in (l.sound, ap (λ y. y.words) l.view))
+    (λ hit. let l = e.0 hit.1 in (l.sound, ap (λ y. y.words) l.view, ap (λ y. y.table) l.view))
+    (λ miss. let l = e.1 miss.1 in (l.sound, ap (λ y. y.words) l.view, ap (λ y. y.table) l.view))
     (eqb_tells found old)

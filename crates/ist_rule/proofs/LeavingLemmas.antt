@@ -149,15 +149,15 @@ exchanges_or_loses_moves k slots id me place old new events live can s r _ mine 
 -- a seat that made an exchange that is an event either way is sound, of the same table
 pub exchanged_or_lost_sound : (v : View) (event lost : Event) (place old found : ℕ) (w : View)
     → ExchangedOrLost v event lost place old found w
-    → IsSound w × (w.words ≡ v.words)
+    → IsSound w × (w.words ≡ v.words) × (w.table ≡ v.table)
 exchanged_or_lost_sound v event lost place old found w e =
     ⊎_elim
-    (λ hit. let l = e.0 hit.1 in (l.sound, ap (λ y. y.words) l.view))
-    (λ miss. let l = e.1 miss.1 in (l.sound, ap (λ y. y.words) l.view))
+    (λ hit. let l = e.0 hit.1 in (l.sound, ap (λ y. y.words) l.view, ap (λ y. y.table) l.view))
+    (λ miss. let l = e.1 miss.1 in (l.sound, ap (λ y. y.words) l.view, ap (λ y. y.table) l.view))
     (eqb_tells found old)
 
 -- a seat that made a load that may be an event stays sound
 pub loaded_as_sound : (v : View) (named : Naming) (place word : ℕ) (w : View)
-    → LoadedAs v named place word w → IsSound w × (w.words ≡ v.words)
-loaded_as_sound v named place word w (as_event event l e) = (l.sound, ap (λ y. y.words) l.view)
-loaded_as_sound v named place word w (as_load l e) = (l.sound, ap (λ y. y.words) l.view)
+    → LoadedAs v named place word w → IsSound w × (w.words ≡ v.words) × (w.table ≡ v.table)
+loaded_as_sound v named place word w (as_event event l e) = (l.sound, ap (λ y. y.words) l.view, ap (λ y. y.table) l.view)
+loaded_as_sound v named place word w (as_load l e) = (l.sound, ap (λ y. y.words) l.view, ap (λ y. y.table) l.view)

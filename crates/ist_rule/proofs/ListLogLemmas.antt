@@ -163,10 +163,10 @@ enabled_before first (event ∷ more) log h = (enabled_before first more (event 
 
 -- a seat that made such an exchange is sound, of the same table
 pub exchanged_all_sound : (v : View) (events : List Event) (place old found : ℕ) (w : View)
-    → ExchangedAll v events place old found w → IsSound w × (w.words ≡ v.words)
+    → ExchangedAll v events place old found w → IsSound w × (w.words ≡ v.words) × (w.table ≡ v.table)
 exchanged_all_sound v events place old found w e =
     ⊎_elim
     (λ hit. let l = e.0 hit.1 in
-    (l.sound, ap (λ y. y.words) l.view))
-    (λ miss. let l = e.1 miss.1 in (l.sound, ap (λ y. y.words) l.view))
+    (l.sound, ap (λ y. y.words) l.view, ap (λ y. y.table) l.view))
+    (λ miss. let l = e.1 miss.1 in (l.sound, ap (λ y. y.words) l.view, ap (λ y. y.table) l.view))
     (eqb_tells found old)

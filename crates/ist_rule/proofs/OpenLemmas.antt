@@ -2,13 +2,15 @@
 use Rattle.std.proofs.Common.{◌≡◌, ◌≢◌, ℕ, zero, suc, List, [], ◌∷◌, refl, sym, ap, ◌∙◌, subst, arith}
 use mathlib.Core.Option.{some, some-injective, some-ne-none}
 use lib.ListN.{get_elem?}
-use Rattle.atomic_table.specs.Table.{opening, Final, Seen}
+use mathlib.Core.Option as maybe
+use Rattle.atomic_table.specs.Table.{opening, step, keeps, Allows, Final, Seen}
 use Rattle.ist_core.specs.declared.pairs.Pair.{Pair}
 use Rattle.ist_core.specs.StartLayout.{start}
 use Rattle.ist_core.specs.Elements.{Each}
 use Rattle.ist_core.specs.Images.{IsImage}
 use Rattle.ist_core.specs.Lawful.{CanOpen, Lawful, state_of}
 use Rattle.ist_core.specs.Logs.{Log}
+use Rattle.ist_rule.specs.declared.view.TableName.{TableName}
 use Rattle.ist_rule.specs.declared.view.View.{View}
 use Rattle.ist_rule.specs.declared.view.About.{About}
 use Rattle.ist_core.specs.declared.events.Event.{Event}
@@ -22,10 +24,13 @@ use Rattle.ist_rule.specs.Speaking.{no_later}
 use Rattle.ist_rule.proofs.EventLemmas.{Authored, authored, by_maker, by_caller}
 use Rattle.ist_rule.proofs.HeldLemmas.{idle_between}
 use Rattle.ist_rule.proofs.SpeakLemmas.{none_linear, working_linear}
-use Rattle.ist_rule.specs.Rule.{IsHeard, KeepsCalls, its_own, noted, IsWellMade, IsTrueIn, IsRetired, Fits, Kept, opened_view, first_view}
+use Rattle.ist_rule.specs.Rule.{IsHeard, KeepsCalls, its_own, noted, IsWellMade, IsTrueIn, IsRetired, IsSound, Fits, Kept, no_table, opened_view, first_view}
 use Rattle.ist_rule.specs.Seating.{HasImage, IsLast, IsNewMaker}
+use Rattle.ist_rule.specs.Playing.{Seated, names}
+use Rattle.ist_rule.proofs.LookLemmas.{quiet}
+use Rattle.ist_rule.proofs.TimedLemmas.{timed_view}
 use Rattle.ist_rule.proofs.ViewPartLemmas.{well_made_plain}
-use Rattle.ist_rule.proofs.WhoLemmas.{maker_caller}
+use Rattle.ist_rule.proofs.WhoLemmas.{maker_caller, maker_live}
 use Rattle.ist_rule.proofs.SoundViewLemmas.{as_view}
 
 maker_keeps : (number : ℕ) (w : Who) → KeepsCalls number w → w ≡ Maker → ⊥
@@ -33,9 +38,10 @@ maker_keeps number _ its_own e = maker_caller number (sym e)
 maker_keeps number _ noted e = absurd (cc)
 
 -- the first view by itself
-first_well_made : (pairs : List Pair) (words : ℕ) → IsWellMade pairs words (opened_view pairs words)
-first_well_made pairs words =
-    well_made_plain pairs words (opened_view pairs words) Maker []
+first_well_made : (table : TableName) (pairs : List Pair) (words : ℕ)
+    → IsWellMade pairs words (opened_view table pairs words)
+first_well_made table pairs words =
+    well_made_plain pairs words (opened_view table pairs words) Maker []
     (λ number keeps. absurd (maker_keeps number Maker keeps refl)) tt
     record {
       spoken = λ number is. absurd (maker_caller number is);
@@ -44,8 +50,9 @@ first_well_made pairs words =
     }
 
 -- the first view and the empty log
-first_true : (pairs : List Pair) (words : ℕ) → IsTrueIn pairs words [] (opened_view pairs words)
-first_true pairs words =
+first_true : (table : TableName) (pairs : List Pair) (words : ℕ)
+    → IsTrueIn pairs words [] (opened_view table pairs words)
+first_true table pairs words =
     record {
       low = λ number is. absurd (maker_caller number is);
       made = λ _. (refl, omega arith, omega arith);
@@ -74,8 +81,8 @@ opens k words can image =
             words_is = refl;
             later = no_more;
             owns = λ h i who. absurd i;
-            well_made = first_well_made k.start.value.items k.words;
-            is_true = first_true k.start.value.items k.words;
+            well_made = first_well_made no_table k.start.value.items k.words;
+            is_true = first_true no_table k.start.value.items k.words;
           };
       apart = λ i j u x at bt named same. (only v j x bt).1 ∙ sym (only v i u at).1;
       unborn = λ i u at maker number above j x bt is. maker_caller number
@@ -95,6 +102,80 @@ opens k words can image =
         heard = λ i u at live. subst (IsHeard []) (only v i u at).0
             record { later = no_later; silent = λ _ n above. tt; taken = tt };
       };
+    }
+
+-- ---- the table's name
+
+-- a view fits as well with another name of its table
+fits_named : (k : About) (log : Log) (image : List ℕ) (v : View) (table : TableName)
+    → Fits k log image v → Fits k log image (record v { table = table })
+fits_named k log image v table f =
+    let m = f.well_made in
+    let t = f.is_true in
+    record {
+      start_is = f.start_is;
+      words_is = f.words_is;
+      later = f.later;
+      owns = f.owns;
+      well_made = record {
+        stands = m.stands;
+        stamps = m.stamps;
+        recalls = m.recalls;
+        in_order = m.in_order;
+        since = m.since;
+        olds = m.olds;
+        taken_stand = m.taken_stand;
+        taken_seen = m.taken_seen;
+        taken_once = m.taken_once;
+        taken_given = m.taken_given;
+        maker_takes = m.maker_takes;
+        in_none = m.in_none;
+        moments = m.moments;
+      };
+      is_true = record {
+        low = t.low;
+        made = t.made;
+        idle = t.idle;
+        fresh = t.fresh;
+        call = t.call;
+        taken = t.taken;
+      };
+    }
+
+-- a load at which a seat learns which table it is of keeps the rule
+pub names_moves : (k : About) (slots id : ℕ) (me : Seated) (table : TableName) → me.0.who ≢ Spent
+    → Allows (Kept k) slots id me 0 (λ n. n) (names table (step slots 0 0 0 maybe.none) me)
+names_moves k slots id me table live s r _ mine fits =
+    let v = me.0 in
+    let w : View = record v { table = table } in
+    let h = r.timed.heard id v mine live in (
+      w,
+      keeps,
+      tt,
+      quiet k s r id v w mine live refl refl refl
+          (fits_named k r.log s.words v table (r.seats id v mine live)) r.moments
+          (timed_view k r.log r.moments s.views id w r.timed
+          record { later = h.later; silent = h.silent; taken = h.taken }) 0,
+      (refl, refl),
+    )
+
+-- a new table's token knows its table, and else what the first view knows
+pub named_view : (table : TableName) (k : About) (pairs : List Pair) (v w : View)
+    → w ≡ record v { table = table } → v ≡ first_view k → k.start.value.items ≡ pairs
+    → w ≡ opened_view table pairs k.words
+named_view table k pairs v w named first same =
+    named ∙ ap (λ (x : View). record x { table = table }) first
+    ∙ ap (λ p. opened_view table p k.words) same
+
+-- the first view with its table's name is sound
+pub opened_sound : (table : TableName) (pairs : List Pair) (words : ℕ) → CanOpen pairs words
+    → IsSound (opened_view table pairs words)
+opened_sound table pairs words can =
+    record {
+      lawful = record { opens = can; enabled = tt };
+      live = maker_live;
+      well_made = first_well_made table pairs words;
+      is_true = first_true table pairs words;
     }
 
 -- an event is made by the maker or by a caller

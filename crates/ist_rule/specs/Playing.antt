@@ -4,6 +4,7 @@ use Rattle.atomic_table.specs.Table.{Me, Step}
 use Rattle.ist_core.specs.declared.calls.Call.{Call}
 use Rattle.ist_core.specs.declared.commands.Command.{Command}
 use Rattle.ist_core.specs.declared.events.Event.{Event}
+use Rattle.ist_rule.specs.declared.view.TableName.{TableName}
 use Rattle.ist_rule.specs.declared.view.View.{View}
 use Rattle.ist_rule.specs.Learning.{Looked, LoggedAdd, LoadedAs, Naming, Exchanged, ExchangedOrLost, Turned, TurnedAt, storing, beginning, searching, beginning_read, ending, giving_up}
 use Rattle.ist_rule.specs.Several.{ExchangedAll}
@@ -23,6 +24,10 @@ looks step me found you = Looked me.0 step.word found you.0 × (you.1 ≡ me.1)
 -- a store
 abbrev pub stores : Told
 stores step me stored you = (you.0 ≡ storing me.0 step.word stored) × (you.1 ≡ me.1)
+
+-- a load at which the seat learns which table it is of
+abbrev pub names : TableName → Told
+names table step me found you = (you.0 ≡ record me.0 { table = table }) × (you.1 ≡ me.1)
 
 -- an exchange, which is the event if it finds the first number
 abbrev pub exchanges : Event → Told

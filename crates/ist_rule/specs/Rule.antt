@@ -9,6 +9,7 @@ use Rattle.ist_core.specs.Elements.{Among, Each, Distinct}
 use Rattle.ist_core.specs.Images.{IsImage}
 use Rattle.ist_core.specs.Logs.{Log, GoesOn}
 use Rattle.ist_core.specs.Lawful.{Lawful, state_of}
+use Rattle.ist_rule.specs.declared.view.TableName.{TableName}
 use Rattle.ist_rule.specs.declared.view.View.{View}
 use Rattle.ist_rule.specs.declared.view.OwnWord.{OwnWord}
 use Rattle.ist_core.specs.declared.loads.Load.{Load}
@@ -173,10 +174,24 @@ pub record Kept (k : About) (s : T.State (Unit {0}) View) : Type 0 where
 
 -- ---- a new table
 
--- the view of the first seat, which is the maker's
-abbrev pub opened_view : List Pair → ℕ → View
-opened_view pairs words =
+-- a name that says nothing
+abbrev pub no_table : TableName
+no_table =
     record {
+      words = 0;
+      slots = 0;
+      views_name = 0;
+      atom = 0;
+      block = 0;
+      offset = 0;
+      slot_names = [];
+    }
+
+-- the view of the first seat, which is the maker's
+abbrev pub opened_view : TableName → List Pair → ℕ → View
+opened_view table pairs words =
+    record {
+      table = table;
       start = pairs;
       words = words;
       who = Maker;
@@ -195,6 +210,6 @@ opened_view pairs words =
       taken = [];
     }
 
--- the same, by what the table is given
+-- the same, by what the table is given, before it has a name
 abbrev pub first_view : About → View
-first_view k = opened_view k.start.value.items k.words
+first_view k = opened_view no_table k.start.value.items k.words

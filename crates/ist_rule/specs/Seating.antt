@@ -17,7 +17,7 @@ use Rattle.ist_core.specs.Changes.{changes_of, map_after_entries}
 use Rattle.ist_core.specs.Map.{map_of}
 use Rattle.laws_real_time.specs.Moments.{Moments}
 use Rattle.laws_real_time.specs.Joining.{LinearizesTo}
-use Rattle.ist_rule.specs.Rule.{HasView, IsWellMade, IsTrueIn, IsHeard, Kept}
+use Rattle.ist_rule.specs.Rule.{no_table, HasView, IsWellMade, IsTrueIn, IsHeard, Kept}
 
 -- ---- splitting
 
@@ -101,6 +101,7 @@ joined v w =
 abbrev pub gone : View
 gone =
     record {
+      table = no_table;
       start = [];
       words = 0;
       who = Spent;

@@ -16,10 +16,9 @@ use std::marker::Brand;
 /// Begins a call of the token's caller, with this command or with none.
 pub fn begin_call(table: &TreeTable, token: &mut TreeToken, command: Option<Command>)
     ghost asked: { Option CommandOf }
-    requires same_table { token.old.table ≡ table.now.table }
+    requires same_table { token.old.view.table ≡ table.now.table }
     requires may_begin { CanBegin token.old.view }
     requires asked { command ≡ asked }
-    ensures same_table { token.new.table ≡ token.old.table }
     ensures begun { TurnedAt token.old.view (beginning token.old.view command) token.new.view }
 {
     let _ = command;
@@ -30,8 +29,7 @@ pub fn begin_call(table: &TreeTable, token: &mut TreeToken, command: Option<Comm
 /// Begins a search: clears the view's loads, notes the log's length and adds 1 to its `searches`. A
 /// walk may begin then, by `load_top`.
 pub fn begin_search(table: &TreeTable, token: &mut TreeToken)
-    requires same_table { token.old.table ≡ table.now.table }
-    ensures same_table { token.new.table ≡ token.old.table }
+    requires same_table { token.old.view.table ≡ table.now.table }
     ensures begun { Turned token.old.view (searching token.old.view) token.new.view }
     ensures may_walk { MayWalk token.new.view }
 {
@@ -42,9 +40,8 @@ pub fn begin_search(table: &TreeTable, token: &mut TreeToken)
 /// Begins a read of the token's caller, which is in no call: a search whose beginning has its place among
 /// the moments of all calls.
 pub fn begin_read(table: &TreeTable, token: &mut TreeToken)
-    requires same_table { token.old.table ≡ table.now.table }
+    requires same_table { token.old.view.table ≡ table.now.table }
     requires may_begin { CanBegin token.old.view }
-    ensures same_table { token.new.table ≡ token.old.table }
     ensures begun { TurnedAt token.old.view (beginning_read token.old.view) token.new.view }
     ensures may_walk { MayWalk token.new.view }
 {
@@ -55,9 +52,8 @@ pub fn begin_read(table: &TreeTable, token: &mut TreeToken)
 /// Returns the first free word at this step, which has its place among the moments of all calls. The
 /// token's caller is in no call.
 pub fn glance(table: &TreeTable, token: &mut TreeToken) -> u64
-    requires same_table { token.old.table ≡ table.now.table }
+    requires same_table { token.old.view.table ≡ table.now.table }
     requires may_begin { CanBegin token.old.view }
-    ensures same_table { token.new.table ≡ token.old.table }
     ensures glanced { Glanced token.old.view next_place result token.new.view }
 {
     // No event: a load of word 0, which is a read of its own. Meets whoever reserves a row.
@@ -68,10 +64,9 @@ pub fn glance(table: &TreeTable, token: &mut TreeToken) -> u64
 /// next stamp, at the position that is shown for it.
 pub fn end_call(table: &TreeTable, token: &mut TreeToken, reply: Reply)
     ghost call: { CallOf }
-    requires same_table { token.old.table ≡ table.now.table }
+    requires same_table { token.old.view.table ≡ table.now.table }
     requires may_end { CanEnd token.old.view call }
     requires reply { reply ≡ call.reply }
-    ensures same_table { token.new.table ≡ token.old.table }
     ensures ended { TurnedAt token.old.view (ending token.old.view call) token.new.view }
 {
     let _ = reply;
@@ -81,9 +76,8 @@ pub fn end_call(table: &TreeTable, token: &mut TreeToken, reply: Reply)
 
 /// Ends the token's call without a reply. The token's calls stay as they were.
 pub fn give_up(table: &TreeTable, token: &mut TreeToken)
-    requires same_table { token.old.table ≡ table.now.table }
+    requires same_table { token.old.view.table ≡ table.now.table }
     requires may_give_up { CanGiveUp token.old.view }
-    ensures same_table { token.new.table ≡ token.old.table }
     ensures given_up { TurnedAt token.old.view (giving_up token.old.view) token.new.view }
 {
     // No event: a load of word 0, to give up a call. It sees what others did up to here.

@@ -14,6 +14,7 @@ use crate::view::About;
 use atomic_table::{Closed, Table};
 use ist_core::Pair;
 use std::alloc::{AllocError, Global};
+use std::marker::Brand;
 use std::snapshot::Snapshot;
 
 /// Makes a table of these words, and the maker's token, which has seen nothing yet.
@@ -28,8 +29,7 @@ pub fn open_table(
     requires image { IsImage (start pairs.now.items (length image.items)) image.items }
     ensures words { IfOk result (λ t. word_count_of t.0 ≡ length image.items) }
     ensures start { IfOk result (λ t. t.0.start ≡ pairs.now.items) }
-    ensures same_table { IfOk result (λ t. t.1.table ≡ t.0.table) }
-    ensures token { IfOk result (λ t. t.1.view ≡ opened_view pairs.now.items (length image.items)) }
+    ensures token { IfOk result (λ t. t.1.view ≡ opened_view t.0.table pairs.now.items (length image.items)) }
 {
     open_table_over(alloc, image.as_slice(), pairs)
 }
@@ -47,22 +47,23 @@ pub fn open_table_over(
     requires image { IsImage (start pairs.now.items (length image.now)) image.now }
     ensures words { IfOk result (λ t. word_count_of t.0 ≡ length image.now) }
     ensures start { IfOk result (λ t. t.0.start ≡ pairs.now.items) }
-    ensures same_table { IfOk result (λ t. t.1.table ≡ t.0.table) }
-    ensures token { IfOk result (λ t. t.1.view ≡ opened_view pairs.now.items (length image.now)) }
+    ensures token { IfOk result (λ t. t.1.view ≡ opened_view t.0.table pairs.now.items (length image.now)) }
     ensures first { (v : View) → IsNewMaker v → HasImage v (start v.start v.words) }
 {
     let about = About {
         start: Snapshot::of(pairs),
         words: image.len() as u64,
     };
-    let (table, seat) = Table::of_words(alloc, image, &about)?;
+    let (table, mut seat) = Table::of_words(alloc, image, &about)?;
+    // No event: a load of word 0, at which the token's view learns which table it is of.
+    table.shared.load::<Brand>(&mut seat, 0);
     Ok((TreeTable { table }, TreeToken { seat }))
 }
 
 /// Gives the caller what holds of each token's view. It costs nothing.
 pub fn know(token: &TreeToken)
     ensures sound { IsSound token.now.view }
-    ensures words { token.now.view.words ≡ token.now.table.words }
+    ensures words { token.now.view.words ≡ token.now.view.table.words }
 {
     let _ = &token.seat;
 }
@@ -71,7 +72,7 @@ pub fn know(token: &TreeToken)
 ///
 /// They are the image of a lawful log that goes on from the token's own by events of others.
 pub fn close(table: TreeTable, token: TreeToken) -> Closed<(), Global>
-    requires same_table { token.table ≡ table.table }
+    requires same_table { token.view.table ≡ table.table }
     ensures full { IsFull result.words × IsFull result.slots }
     ensures counts { (slots_len result.words ≡ word_count_of table) × (slots_len result.slots ≡ 0) }
     ensures words { IsLast token.view (slots_items result.words) }

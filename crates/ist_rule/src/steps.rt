@@ -14,10 +14,9 @@ use std::marker::Brand;
 
 /// Returns the word at the place at this step. The place isn't the anchor's slot.
 pub fn load(table: &TreeTable, token: &mut TreeToken, place: u64) -> u64
-    requires same_table { token.old.table ≡ table.now.table }
+    requires same_table { token.old.view.table ≡ table.now.table }
     requires within { place < word_count_of table.now }
     requires no_walk { place ≢ anchor_slot_place }
-    ensures same_table { token.new.table ≡ token.old.table }
     ensures looked { Looked token.old.view place result token.new.view }
 {
     // No event. The token's log takes in what others did up to here.
@@ -32,9 +31,8 @@ pub fn load(table: &TreeTable, token: &mut TreeToken, place: u64) -> u64
 /// It is the first load since a search or a read was begun, which the view's `searches` counts. So no
 /// walk begins uncounted.
 pub fn load_top(table: &TreeTable, token: &mut TreeToken) -> u64
-    requires same_table { token.old.table ≡ table.now.table }
+    requires same_table { token.old.view.table ≡ table.now.table }
     requires may_walk { MayWalk token.old.view }
-    ensures same_table { token.new.table ≡ token.old.table }
     ensures looked { Looked token.old.view anchor_slot_place result token.new.view }
 {
     // No event. Meets an install in the slot, and what a helper leaves there.
@@ -46,10 +44,9 @@ pub fn load_top(table: &TreeTable, token: &mut TreeToken) -> u64
 
 /// Stores a word into a row that the token's caller holds.
 pub fn store(table: &TreeTable, token: &mut TreeToken, place: u64, word: u64)
-    requires same_table { token.old.table ≡ table.now.table }
+    requires same_table { token.old.view.table ≡ table.now.table }
     requires within { place < word_count_of table.now }
     requires own { IsOwn token.old.view place }
-    ensures same_table { token.new.table ≡ token.old.table }
     ensures stored { token.new.view ≡ storing token.old.view place word }
 {
     // No event. Meets no other's step: only the row's caller uses it.
@@ -63,10 +60,9 @@ pub fn store(table: &TreeTable, token: &mut TreeToken, place: u64, word: u64)
 /// step. The step is the event that is named for that word: the last of the token's log.
 pub fn add(table: &TreeTable, token: &mut TreeToken, place: u64) -> u64
     ghost event: { ℕ → Event }
-    requires same_table { token.old.table ≡ table.now.table }
+    requires same_table { token.old.view.table ≡ table.now.table }
     requires within { place < word_count_of table.now }
     requires event { CanAdd token.old.view place event }
-    ensures same_table { token.new.table ≡ token.old.table }
     ensures added { LoggedAdd token.old.view event place result token.new.view }
 {
     // Enter, Count or Draw, as `event` says for the word found. Meets another's add at the place.
@@ -82,10 +78,9 @@ pub fn add(table: &TreeTable, token: &mut TreeToken, place: u64) -> u64
 /// word changes, and the step is a load.
 pub fn exchange(table: &TreeTable, token: &mut TreeToken, place: u64, old: u64, new: u64) -> u64
     ghost event: { Event }
-    requires same_table { token.old.table ≡ table.now.table }
+    requires same_table { token.old.view.table ≡ table.now.table }
     requires within { place < word_count_of table.now }
     requires event { CanExchange token.old.view place old new event }
-    ensures same_table { token.new.table ≡ token.old.table }
     ensures exchanged { Exchanged token.old.view event place old result token.new.view }
 {
     // The step sees three words, and a Decide and a Mark may exchange the same words, so the caller
@@ -104,10 +99,9 @@ pub fn exchange(table: &TreeTable, token: &mut TreeToken, place: u64, old: u64, 
 /// a load.
 pub fn exchange_all(table: &TreeTable, token: &mut TreeToken, place: u64, old: u64, new: u64) -> u64
     ghost events: { List Event }
-    requires same_table { token.old.table ≡ table.now.table }
+    requires same_table { token.old.view.table ≡ table.now.table }
     requires within { place < word_count_of table.now }
     requires events { CanExchangeAll token.old.view place old new events }
-    ensures same_table { token.new.table ≡ token.old.table }
     ensures exchanged { ExchangedAll token.old.view events place old result token.new.view }
 {
     // All of `events` if `old` is found, and otherwise no event. Meets another's write of the word.
@@ -130,10 +124,9 @@ pub fn exchange_or_lose(
     new: u64,
 ) -> u64
     ghost events: { Event × Event }
-    requires same_table { token.old.table ≡ table.now.table }
+    requires same_table { token.old.view.table ≡ table.now.table }
     requires within { place < word_count_of table.now }
     requires events { CanExchangeOrLose token.old.view place old new events.0 events.1 }
-    ensures same_table { token.new.table ≡ token.old.table }
     ensures exchanged { ExchangedEitherWay token.old.view events place old result token.new.view }
 {
     // Root or Place if `old` is found, and otherwise Lose. Meets another's Root or Place.

@@ -17,11 +17,11 @@ pub struct TreeTable {
 
 impl Model for TreeTable {
     ghost use Rattle.std.specs.Prelude.{◌≡◌, ◌≤◌, ◌^◌};
-    ghost use Rattle.ist_rule.specs.Faces.{TableFace};
+    ghost use Rattle.ist_rule.specs.Faces.{TableFace, name_of};
 
     ghost Value = { TableFace };
 
-    ghost view = { λ t. record { table = t.table.shared.table_id; start = t.table.shared.key.start.value.items } };
+    ghost view = { λ t. record { table = name_of t.table.shared.table_id; start = t.table.shared.key.start.value.items } };
 
     ghost invariant = { λ t. (t.table.shared.table_id.words ≡ t.table.shared.key.words)
         × (4 ≤ t.table.shared.key.words) × (t.table.shared.key.words ≤ 2 ^ 28)
@@ -30,7 +30,7 @@ impl Model for TreeTable {
 
 /// The token by which one thread steps on the words. It has no bytes.
 ///
-/// Contracts see its table and what the token knows.
+/// Contracts see what the token knows, which table it is of included.
 #[derive(Drop)]
 pub struct TreeToken {
     pub(crate) seat: Seat<(), View>,
@@ -39,14 +39,15 @@ pub struct TreeToken {
 impl Model for TreeToken {
     ghost use Rattle.std.specs.Prelude.{◌≡◌, []};
     ghost use Rattle.ist_rule.specs.Rule.{IsSound};
-    ghost use Rattle.ist_rule.specs.Faces.{TokenFace};
+    ghost use Rattle.ist_rule.specs.Faces.{TokenFace, name_of};
 
     ghost Value = { TokenFace };
 
-    ghost view = { λ s. record { table = s.seat.table_id; view = s.seat.me.0 } };
+    ghost view = { λ s. record { view = s.seat.me.0 } };
 
     ghost invariant = { λ s. (s.seat.me.1 ≡ []) × IsSound s.seat.me.0
-        × (s.seat.me.0.words ≡ s.seat.table_id.words) };
+        × (s.seat.me.0.words ≡ s.seat.table_id.words)
+        × (s.seat.me.0.table ≡ name_of s.seat.table_id) };
 }
 
 /// Returns how many words the table has.

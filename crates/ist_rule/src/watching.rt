@@ -16,10 +16,9 @@ use std::marker::Brand;
 // The row and the index are parameters only to name the event.
 fn load_as(table: &TreeTable, token: &mut TreeToken, place: u64, row: u32, index: u64) -> u64
     ghost event: { Naming }
-    requires same_table { token.old.table ≡ table.now.table }
+    requires same_table { token.old.view.table ≡ table.now.table }
     requires within { place < word_count_of table.now }
     requires event { CanLoadAs token.old.view place event }
-    ensures same_table { token.new.table ≡ token.old.table }
     ensures loaded { LoadedAs token.old.view event place result token.new.view }
 {
     let _ = (row, index);
@@ -35,9 +34,8 @@ fn load_as(table: &TreeTable, token: &mut TreeToken, place: u64, row: u32, index
 /// If it is 0 and the change is undecided at this step, the step is the Okay of the change: the
 /// caller has seen the node open after the installing. Meets the mark of the node.
 pub fn load_okay(table: &TreeTable, token: &mut TreeToken, change: u32, place: u64) -> u64
-    requires same_table { token.old.table ≡ table.now.table }
+    requires same_table { token.old.view.table ≡ table.now.table }
     requires may_load { CanLoadOkay token.old.view change place }
-    ensures same_table { token.new.table ≡ token.old.table }
     ensures seen { LoadedOkay token.old.view change place result token.new.view }
 {
     know(token);
@@ -49,9 +47,8 @@ pub fn load_okay(table: &TreeTable, token: &mut TreeToken, change: u32, place: u
 /// If the node is marked at this step and not finished, and the word is neither a change nor Unset,
 /// the step is the Pass of the slot: it is frozen from then on. Meets an installing in it.
 pub fn load_pass(table: &TreeTable, token: &mut TreeToken, node: u32, index: u64, place: u64) -> u64
-    requires same_table { token.old.table ≡ table.now.table }
+    requires same_table { token.old.view.table ≡ table.now.table }
     requires may_load { CanLoadPass token.old.view node index place }
-    ensures same_table { token.new.table ≡ token.old.table }
     ensures seen { LoadedPass token.old.view node index place result token.new.view }
 {
     know(token);
@@ -61,9 +58,8 @@ pub fn load_pass(table: &TreeTable, token: &mut TreeToken, node: u32, index: u64
 /// Loads the status of an inner row above the held pair row `pair`, which this step loses: a Lose.
 /// Meets no other's step.
 pub fn load_past(table: &TreeTable, token: &mut TreeToken, pair: u32, node: u32) -> u64
-    requires same_table { token.old.table ≡ table.now.table }
+    requires same_table { token.old.view.table ≡ table.now.table }
     requires may_load { CanLoadPast token.old.view pair node }
-    ensures same_table { token.new.table ≡ token.old.table }
     ensures seen { LoadedPast token.old.view pair node result token.new.view }
 {
     know(token);

@@ -129,7 +129,6 @@ module _ (who : Caller) (key : ℕ) (value : Option ℕ) (b w : View) (s : IsSou
 
   -- and ended it
   module _ (token : TokenFace) (refused : Option Full) (all : IsPassWith who refused)
-      (same_table : token.table ≡ who.token.table)
       (ended : TurnedAt w (ending w (found_call w value)) token.view) where
     -- the view after the find
     abbrev x : View
@@ -201,8 +200,8 @@ module _ (who : Caller) (key : ℕ) (value : Option ℕ) (b w : View) (s : IsSou
         }
       where
         tree_same : (face_as token who.number refused).tree ≡ (pass_face who refused).tree
-        tree_same = ap₂ (λ t (y : View). record { table = t; start = y.start; words = y.words })
-            same_table x_is
+        tree_same =
+            ap (λ (y : View). record { table = y.table; start = y.start; words = y.words }) x_is
 
     its_calls_now : HasCalls v.start v.words x.log who.number (v.stamp + 1) (v.calls ++ call ∷ [])
     its_calls_now =
@@ -259,7 +258,7 @@ module _ (who : Caller) (key : ℕ) (value : Option ℕ) (b w : View) (s : IsSou
         let more = seen.searches in
         let none = ap (λ (y : View). y.searches) begun.view in
         subst (λ (y : View). HasLoadedFew (pass_face who refused)
-        (face_as record { table = token.table; view = y } who.number refused) key value) (sym x_is)
+        (face_as record { view = y } who.number refused) key value) (sym x_is)
         record {
           once = omega (arith, more, none);
           began = w.loads.since;

@@ -187,6 +187,12 @@ module _ (who began new : Caller) (token : TokenFace) (it : IsFreezeCall who beg
   pub x_words : x.words ≡ v.words
   x_words = x_view.words_is ∙ w_words
 
+  -- it is the view of one table
+  x_table : x.table ≡ v.table
+  x_table =
+      ap (λ (y : View). y.table) it.given.view ∙ ap (λ (y : View). y.table) it.on.gone.went.same
+      ∙ ap (λ (y : View). y.table) it.begun.view
+
   -- the log goes on while the call begins
   pub v_to_b : GoesOn v.log b.log
   v_to_b = later-goes_on it.begun.later
@@ -268,14 +274,14 @@ module _ (who began new : Caller) (token : TokenFace) (it : IsFreezeCall who beg
       }
 
   -- it has seen more
-  pub has_seen_more : (r q : Option Full) → token.table ≡ who.token.table
+  pub has_seen_more : (r q : Option Full)
       → HasSeenMore (pass_face who r) (face_as token new.number q)
-  has_seen_more r q same =
+  has_seen_more r q =
       let stamps = ap (λ (y : View). y.stamp) it.given.view
       ∙ ap (λ (y : View). y.stamp) it.on.gone.went.same
       ∙ ap (λ (y : View). y.stamp) it.begun.view in
       record {
-        tree = trees same;
+        tree = trees;
         number = number_is;
         seen = goes_on_more v_to_b (goes_on_more b_to_w w_to_x);
         heard = go_on_more v.moments b.moments x.moments
@@ -286,11 +292,10 @@ module _ (who began new : Caller) (token : TokenFace) (it : IsFreezeCall who beg
         stamp = omega arith;
       }
     where
-      trees : token.table ≡ who.token.table
-          → (face_as token new.number q).tree ≡ (pass_face who r).tree
-      trees e =
-          ap₂ (λ t pairs. record { table = t; start = pairs; words = x.words }) e x_start
-          ∙ ap (λ words. record { table = who.token.table; start = v.start; words = words }) x_words
+      trees : (face_as token new.number q).tree ≡ (pass_face who r).tree
+      trees =
+          ap₂ (λ t pairs. record { table = t; start = pairs; words = x.words }) x_table x_start
+          ∙ ap (λ words. record { table = v.table; start = v.start; words = words }) x_words
 
   -- since the step at which its call began
   pub begin_step : (r q : Option Full) → StepsIn (pass_face who r) (face_as token new.number q) b.log

@@ -1,5 +1,5 @@
 -- Which leaf of a frozen tree has a number, and which pair it has. Serves `frozen_pair`.
-use Rattle.std.proofs.Common.{◌≡◌, ◌≢◌, ℕ, ◌<◌, List, [], ◌∷◌, map, slice_get, Option, Some, refl, sym, ap, ap₂, ◌∙◌, subst, zero, suc, arith}
+use Rattle.std.proofs.Common.{◌≡◌, ◌≢◌, ℕ, ◌<◌, List, [], ◌∷◌, map, slice_get, Option, Some, refl, sym, ap, ◌∙◌, subst, zero, suc, arith}
 use Rattle.std.specs.Option.{option_map}
 use Rattle.std.specs.List.Sorted.{IsStrictlyIncreasing}
 use Rattle.std.proofs.lemmas.Option.{slice_get-map, same_Some}
@@ -162,10 +162,10 @@ pub record ReadEnds (old : PassFace) (who : Caller) (refused : Option Full) (tok
 
 -- a pass that has only loaded ends the reading so
 pub read_ends : (who : Caller) (refused : Option Full) (token : TokenFace) → IsPassWith who refused
-    → GoesOnTo who.token.view token.view → token.table ≡ who.token.table → (frozen : Frozen)
-    (old : PassFace) → pass_face who refused ≡ old → IsFrozenFor old frozen
+    → GoesOnTo who.token.view token.view → (frozen : Frozen) (old : PassFace)
+    → pass_face who refused ≡ old → IsFrozenFor old frozen
     → ReadEnds old who refused token frozen
-read_ends who refused token all g table frozen old view =
+read_ends who refused token all g frozen old view =
     subst (λ (o : PassFace). IsFrozenFor o frozen → ReadEnds o who refused token frozen) view from
   where
     v : View
@@ -185,8 +185,8 @@ read_ends who refused token all g table frozen old view =
           pass = pass_with_later who token refused all later
               (ap (λ (y : View). y.pending) g.same ∙ all.pass.in_none);
           seen = record {
-            tree = ap₂ (λ t (y : View). record { table = t; start = y.start; words = y.words })
-                table g.same;
+            tree = ap (λ (y : View). record { table = y.table; start = y.start; words = y.words })
+                g.same;
             number = refl;
             seen = later-goes_on g.later;
             heard = heard_same (ap (λ (y : View). y.moments) g.same);

@@ -59,10 +59,10 @@ pub record FreezeEnds (old : PassFace) (new : Caller) (token : TokenFace) (q : O
 -- a freeze that succeeds ends so
 pub freeze_ends : (who began new : Caller) (token : TokenFace) (it : IsFreezeCall who began new token)
     (r q : Option Full) → IsPassWith who r → (words : ℕ) → words ≡ who.token.view.words
-    → token.table ≡ who.token.table → (outcome : FreezeOutcome) → Freezes began new words outcome
+    → (outcome : FreezeOutcome) → Freezes began new words outcome
     → q ≡ option_or r outcome.refused → (old : PassFace) → pass_face who r ≡ old
     → FreezeEnds old new token q outcome.frozen
-freeze_ends who began new token it r q all words same table outcome f is old view =
+freeze_ends who began new token it r q all words same outcome f is old view =
     let had = has_frozen who began new token it r (option_or r outcome.refused) outcome.frozen
     f.frozen in
     let all_now = way.ended_pass_with who began new token it r (option_or r outcome.refused) all
@@ -71,7 +71,7 @@ freeze_ends who began new token it r q all words same table outcome f is old vie
     (subst (λ o. FreezeEnds (pass_face who r) new token o outcome.frozen) (sym is) record {
       pass = all_now;
       froze = record {
-        seen = way.has_seen_more who began new token it r (option_or r outcome.refused) table;
+        seen = way.has_seen_more who began new token it r (option_or r outcome.refused);
         still = frozen_for who began new token it (option_or r outcome.refused) outcome.frozen
             had.was.frozen_is;
         pairs = had;
@@ -153,15 +153,15 @@ pub record StopEnds (old : PassFace) (new : Caller) (token : TokenFace) (r : Opt
 -- a freeze that is refused ends so
 pub stop_ends : (who began new : Caller) (token : TokenFace) (it : IsFreezeCall who began new token)
     (r : Option Full) → IsPassWith who r → (words : ℕ) → words ≡ who.token.view.words
-    → token.table ≡ who.token.table → (full : Full) → IsFreezeStopped began new words full
+    → (full : Full) → IsFreezeStopped began new words full
     → (old : PassFace) → pass_face who r ≡ old → StopEnds old new token r full
-stop_ends who began new token it r all words same table full s old view =
+stop_ends who began new token it r all words same full s old view =
     let all_now = way.ended_pass_with who began new token it r r all (λ none. none)
     (λ none. s.idle.done) in
     subst (λ (o : PassFace). StopEnds o new token r full) view record {
       pass = all_now;
       stopped = record {
-        seen = way.has_seen_more who began new token it r r table;
+        seen = way.has_seen_more who began new token it r r;
         cause = freeze_refused who began new token it r r words full same s.short s.asked s.lacks
             s.idle.few s.needs s.held;
         unstarted = has_started_none who began new token it s.idle.none;

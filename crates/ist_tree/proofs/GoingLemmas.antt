@@ -114,7 +114,7 @@ pass_with_later who token refused p l none =
 
 -- a pass steps on the table of its tree
 pub table_is : (who : Caller) (refused : Option Full) (p : PassFace) (t u : TreeFace)
-    → pass_face who refused ≡ p → p.tree ≡ t → u ≡ t → who.token.table ≡ u.table
+    → pass_face who refused ≡ p → p.tree ≡ t → u ≡ t → who.token.view.table ≡ u.table
 table_is who refused p t u view same tree =
     ap (λ (x : PassFace). x.tree.table) view ∙ ap (λ (x : TreeFace). x.table) (same ∙ sym tree)
 

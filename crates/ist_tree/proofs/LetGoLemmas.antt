@@ -34,8 +34,8 @@ use Rattle.ist_tree.proofs.UpdateSeenLemmas.{IsUpdateCall, final_pass, none_star
 module _ (who began new : Caller) (token : TokenFace) (command : Command) (s : IsSound who.token.view)
     (r : Option Full) (p : IsPassWith who r)
     (begun : TurnedAt who.token.view (beginning who.token.view (Some command)) began.token.view)
-    (began_number : began.number ≡ who.number) (words : ℕ) (same_words : words ≡ who.token.view.words)
-    (table : token.table ≡ who.token.table) where
+    (began_number : began.number ≡ who.number) (words : ℕ)
+    (same_words : words ≡ who.token.view.words) where
   module _ (d : IsLetGo began new)
       (given : TurnedAt new.token.view (giving_up new.token.view) token.view) where
     stops : IsUpdateCall who began new token command
@@ -58,7 +58,7 @@ module _ (who began new : Caller) (token : TokenFace) (command : Command) (s : I
           };
           heard = heard_turned given _ (ap (λ (y : View). y.moments) given.view);
           none = ap (λ (y : View). y.pending) given.view;
-          table = table;
+          table = ap (λ (y : View). y.table) given.view;
         }
 
     -- each change of the caller is resolved

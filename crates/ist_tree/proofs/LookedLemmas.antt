@@ -1,5 +1,5 @@
 -- A find that is given up at its end, in the words of its steps, and what it leaves. Serves `find_unless` and `update_if`.
-use Rattle.std.proofs.Common.{◌≡◌, ◌≢◌, ℕ, ◌+◌, ◌∷◌, Option, Some, None, length, refl, inl, ⊎_elim, sym, ap, ap₂, ◌∙◌, subst, arith}
+use Rattle.std.proofs.Common.{◌≡◌, ◌≢◌, ℕ, ◌+◌, ◌∷◌, Option, Some, None, length, refl, inl, ⊎_elim, sym, ap, ◌∙◌, subst, arith}
 use Rattle.ist_core.specs.declared.events.Event.TheVariants.{Count}
 use Rattle.ist_core.specs.Authors.{whose}
 use Rattle.laws_calls.proofs.DoneLemmas.{others_start_nothing}
@@ -79,7 +79,6 @@ module _ (who : Caller) (key : ℕ) (value : Option ℕ) (b w : View) (s : IsSou
 
   -- and gave it up
   module _ (token : TokenFace) (refused : Option Full) (all : IsPassWith who refused)
-      (same_table : token.table ≡ who.token.table)
       (given : TurnedAt w (giving_up w) token.view) where
     -- the view after the find
     abbrev x : View
@@ -121,8 +120,8 @@ module _ (who : Caller) (key : ℕ) (value : Option ℕ) (b w : View) (s : IsSou
         record {
           pass = pass_with_later who token refused all later_view (ap (λ (y : View). y.pending) x_is);
           seen = record {
-            tree = ap₂ (λ t (y : View). record { table = t; start = y.start; words = y.words })
-                same_table x_is;
+            tree = ap (λ (y : View). record { table = y.table; start = y.start; words = y.words })
+                x_is;
             number = refl;
             seen = later-goes_on all_later;
             heard = go_on_more v.moments b.moments x.moments

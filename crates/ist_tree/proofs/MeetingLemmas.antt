@@ -1,5 +1,5 @@
 -- A pass meets a note. Serves `meet`.
-use Rattle.std.proofs.Common.{◌≡◌, ℕ, max, [], ◌∷◌, Option, None, refl, sym, ap, ap₂, ◌∙◌, subst, arith}
+use Rattle.std.proofs.Common.{◌≡◌, ℕ, max, [], ◌∷◌, Option, None, refl, sym, ap, ◌∙◌, subst, arith}
 use Rattle.ist_core.specs.declared.ports.Full.{Full}
 use Rattle.ist_core.specs.Logs.{same_log}
 use Rattle.ist_core.specs.Lawful.{Lawful}
@@ -61,7 +61,6 @@ weaves p other lawful mine theirs learnt =
 -- the caller took in a note
 module _ (who : Caller) (n token : TokenFace) (refused : Option Full)
     (p : IsPassWith who refused) (note : IsNote n.view) (word : ℕ)
-    (same_table : token.table ≡ who.token.table)
     (l : Looked (joined who.token.view n.view) 0 word token.view)
     (later : Later who.token.view.who who.token.view.log token.view.log)
     (other_later : Later n.view.who n.view.log token.view.log)
@@ -87,8 +86,7 @@ module _ (who : Caller) (n token : TokenFace) (refused : Option Full)
       }
 
   tree_same : tree_of token ≡ tree_of who.token
-  tree_same =
-      ap₂ (λ t (y : View). record { table = t; start = y.start; words = y.words }) same_table x_is
+  tree_same = ap (λ (y : View). record { table = y.table; start = y.start; words = y.words }) x_is
 
   none : x.pending ≡ None
   none = ap (λ (y : View). y.pending) x_is ∙ p.pass.in_none

@@ -25,17 +25,16 @@ module _ (law : (v : View) → IsNewMaker v → HasImage v (start v.start v.word
 
   -- a table that was opened with these pairs is a new tree, with a new maker
   pub new_tree : (words : ℕ) (pairs : List Pair) (table : TableFace) (token : TokenFace)
-      → words_for pairs ≤ words → table.start ≡ pairs → token.table ≡ table.table
-      → table.table.words ≡ words → token.view ≡ opened_view pairs words
+      → words_for pairs ≤ words → table.start ≡ pairs → table.table.words ≡ words
+      → token.view ≡ opened_view table.table pairs words
       → IsNewTree words pairs
       (record { table = table.table; start = table.start; words = table.table.words })
       (maker_face token false)
-  new_tree words pairs table token room start_is same words_is view =
-      let seat : TokenFace = record { table = table.table; view = opened_view pairs words } in
+  new_tree words pairs table token room start_is words_is view =
+      let seat : TokenFace = record { view = opened_view table.table pairs words } in
       let tree : TreeFace =
       record { table = table.table; start = table.start; words = table.table.words } in
-      let token_is : token ≡ seat =
-      ap (λ z. record token { table = z }) same ∙ ap (λ v. record seat { view = v }) view in
+      let token_is : token ≡ seat = ap (λ v. record seat { view = v }) view in
       subst (λ s. IsNewTree words pairs tree (maker_face s false)) (sym token_is)
       record {
         room = room;

@@ -1,5 +1,5 @@
 -- A pass that began a read, in no call of its own, and then made only loads. Serves `span` and `sweep`.
-use Rattle.std.proofs.Common.{◌≡◌, ◌+◌, ◌∷◌, Option, None, refl, ap, ap₂, ◌∙◌, subst, sym, arith}
+use Rattle.std.proofs.Common.{◌≡◌, ◌+◌, ◌∷◌, Option, None, refl, ap, ◌∙◌, subst, sym, arith}
 use Rattle.ist_core.specs.declared.ports.Full.{Full}
 use Rattle.ist_core.specs.Authors.{Later}
 use Rattle.laws_real_time.specs.declared.moments.Deed.TheVariants.{Begins, GivesUp}
@@ -18,7 +18,7 @@ use Rattle.ist_tree.proofs.GoingLemmas.{IsLaterView, pass_with_later}
 
 module _ (who : Caller) (refused : Option Full) (b : View) (token : TokenFace)
     (all : IsPassWith who refused) (turned : TurnedAt who.token.view (beginning_read who.token.view) b)
-    (on : GoesOnTo b token.view) (table : token.table ≡ who.token.table) where
+    (on : GoesOnTo b token.view) where
   -- the view before the read
   abbrev v : View
   v = who.token.view
@@ -90,7 +90,7 @@ module _ (who : Caller) (refused : Option Full) (b : View) (token : TokenFace)
   read_seen =
       let stamps = read_stamp in
       record {
-        tree = ap₂ (λ t (y : View). record { table = t; start = y.start; words = y.words }) table w_is;
+        tree = ap (λ (y : View). record { table = y.table; start = y.start; words = y.words }) w_is;
         number = refl;
         seen = later-goes_on read_later;
         heard = subst (MomentsGoOn v.moments) (sym (ap (λ (y : View). y.moments) w_is))

@@ -1,5 +1,5 @@
 -- A pass that read the first free word, in no call of its own. Serves `room`.
-use Rattle.std.proofs.Common.{◌≡◌, ℕ, ◌+◌, ◌-◌, ◌≤◌, ◌∷◌, Option, None, refl, sym, ap, ap₂, ◌∙◌, subst, arith}
+use Rattle.std.proofs.Common.{◌≡◌, ℕ, ◌+◌, ◌-◌, ◌≤◌, ◌∷◌, Option, None, refl, sym, ap, ◌∙◌, subst, arith}
 use Rattle.ist_core.specs.declared.ports.Full.{Full}
 use Rattle.ist_core.specs.RowLayout.{next_place}
 use Rattle.ist_core.specs.Shown.{shown_next}
@@ -59,9 +59,9 @@ pub record RoomEnds (old : PassFace) (who : Caller) (refused : Option Full) (tok
 -- a read of the first free word ends so
 pub room_ends : (who : Caller) (refused : Option Full) (token : TokenFace) → IsPassWith who refused
     → IsSound who.token.view → (next left : ℕ) → Glanced who.token.view next_place next token.view
-    → token.table ≡ who.token.table → next + left ≡ token.view.words → (old : PassFace)
+    → next + left ≡ token.view.words → (old : PassFace)
     → pass_face who refused ≡ old → RoomEnds old who refused token left
-room_ends who refused token all sound next left l table sum old view =
+room_ends who refused token all sound next left l sum old view =
     subst (λ (o : PassFace). RoomEnds o who refused token left) view from
   where
     v : View
@@ -99,8 +99,8 @@ room_ends who refused token all sound next left l table sum old view =
           pass = pass_with_later who token refused all later
               (ap (λ (y : View). y.pending) t.view ∙ all.pass.in_none);
           seen = record {
-            tree = ap₂ (λ t (y : View). record { table = t; start = y.start; words = y.words })
-                table t.view;
+            tree = ap (λ (y : View). record { table = y.table; start = y.start; words = y.words })
+                t.view;
             number = refl;
             seen = later-goes_on t.later;
             heard = go_on_more v.moments t.before w.moments (later_goes_on t.since)

@@ -35,13 +35,13 @@ read_begun v b t = ap (λ (y : View). y.loads.since) t.view
 -- a search for a range ends so
 pub span_ends : (who : Caller) (refused : Option Full) (b : View) (token : TokenFace)
     → IsPassWith who refused → TurnedAt who.token.view (beginning_read who.token.view) b
-    → GoesOnTo b token.view → token.table ≡ who.token.table
+    → GoesOnTo b token.view
     → (key first last : ℕ) (pair : Option Pair)
     → HasFewSpanLoads b token.view key (pair_value pair key)
     → EndAtEdges (now token.view) first last → ((k : ℕ) → first ≤ k → k ≤ last → HasPosition token.view.start token.view.words
     b.log token.view.log k (pair_value pair k))
     → (old : PassFace) → pass_face who refused ≡ old → SpanEnds old who refused token key first last pair
-span_ends who refused b token all t g table key first last pair few edges values old view =
+span_ends who refused b token all t g key first last pair few edges values old view =
     subst (λ (o : PassFace). SpanEnds o who refused token key first last pair) view from
   where
     v : View
@@ -52,27 +52,27 @@ span_ends who refused b token all t g table key first last pair few edges values
 
     from : SpanEnds (pass_face who refused) who refused token key first last pair
     from =
-        let later = read_view who refused b token all t g table in
-        let one = read_began who refused b token all t g table in
+        let later = read_view who refused b token all t g in
+        let one = read_began who refused b token all t g in
         let begun = g.since ∙ read_begun v b t in
         let long = goes_on_length (later-goes_on t.later) in
         let little = few.few in
         record {
-          pass = read_pass who refused b token all t g table;
-          seen = read_seen who refused b token all t g table;
+          pass = read_pass who refused b token all t g;
+          seen = read_seen who refused b token all t g;
           values = record {
             at = b.log;
-            step = read_step who refused b token all t g table;
+            step = read_step who refused b token all t g;
             values = λ k low high.
                 subst (λ p. HasPosition p v.words b.log w.log k (pair_value pair k)) later.start_is
                 (subst (λ n. HasPosition w.start n b.log w.log k (pair_value pair k)) later.words_is
                 (values k low high));
           };
-          calls = read_calls who refused b token all t g table;
-          stamp = read_stamp who refused b token all t g table;
+          calls = read_calls who refused b token all t g;
+          stamp = read_stamp who refused b token all t g;
           edges = edges;
           loads = record {
-            once = read_once who refused b token all t g table;
+            once = read_once who refused b token all t g;
             began = w.loads.since;
             since = omega arith;
             node = few.node;

@@ -28,12 +28,12 @@ pub record SweepEnds {A E : Type 0} (old : PassFace) (who : Caller) (refused : O
 -- a sweep ends so
 pub sweep_ends : {A E : Type 0} (who : Caller) (refused : Option Full) (b : View) (token : TokenFace)
     → IsPassWith who refused → TurnedAt who.token.view (beginning_read who.token.view) b
-    → GoesOnTo b token.view → token.table ≡ who.token.table
+    → GoesOnTo b token.view
     → (first last : ℕ) (before after : List Pair) (r : Result A E)
     → OnOk r (SweptBetween b token.view first last before after)
     → (old : PassFace) → pass_face who refused ≡ old
     → SweepEnds old who refused token first last before after r
-sweep_ends {A} {E} who refused b token all t g table first last before after r swept old view =
+sweep_ends {A} {E} who refused b token all t g first last before after r swept old view =
     subst (λ (o : PassFace). SweepEnds o who refused token first last before after r) view from
   where
     v : View
@@ -47,13 +47,13 @@ sweep_ends {A} {E} who refused b token all t g table first last before after r s
         before after)
     over (Err e) h = tt
     over (Ok x) h =
-        let later = read_view who refused b token all t g table in
-        let one = read_began who refused b token all t g table in
+        let later = read_view who refused b token all t g in
+        let one = read_began who refused b token all t g in
         let few = h.few in
         record {
           began = b.log;
-          step = read_step who refused b token all t g table;
-          once = read_once who refused b token all t g table;
+          step = read_step who refused b token all t g;
+          once = read_once who refused b token all t g;
           found = h.found;
           are = h.are;
           at = h.at;
@@ -69,10 +69,10 @@ sweep_ends {A} {E} who refused b token all t g table first last before after r s
     from : SweepEnds (pass_face who refused) who refused token first last before after r
     from =
         record {
-          pass = read_pass who refused b token all t g table;
-          seen = read_seen who refused b token all t g table;
+          pass = read_pass who refused b token all t g;
+          seen = read_seen who refused b token all t g;
           swept = over r swept;
-          once = read_once who refused b token all t g table;
-          calls = read_calls who refused b token all t g table;
-          stamp = read_stamp who refused b token all t g table;
+          once = read_once who refused b token all t g;
+          calls = read_calls who refused b token all t g;
+          stamp = read_stamp who refused b token all t g;
         }

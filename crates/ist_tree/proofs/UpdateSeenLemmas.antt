@@ -48,7 +48,7 @@ pub record IsUpdateCall (who began new : Caller) (token : TokenFace) (command : 
   pub last : IsLaterView new.token.view token.view
   pub heard : MomentsGoOn new.token.view.moments token.view.moments
   pub none : token.view.pending ≡ None
-  pub table : token.table ≡ who.token.table
+  pub table : token.view.table ≡ new.token.view.table
 
 module _ (who began new : Caller) (token : TokenFace) (command : Command)
     (way : IsUpdateCall who began new token command) where
@@ -99,6 +99,12 @@ module _ (who began new : Caller) (token : TokenFace) (command : Command)
   -- the number of words is the same after the call
   pub x_words : x.words ≡ v.words
   x_words = way.last.words_is ∙ w_words
+
+  -- it is the view of one table
+  x_table : x.table ≡ v.table
+  x_table =
+      way.table ∙ ap (λ (y : View). y.table) way.went.went.same
+      ∙ ap (λ (y : View). y.table) way.begun.view
 
   -- the log goes on while the call begins
   pub v_to_b : GoesOn v.log b.log
@@ -159,8 +165,8 @@ module _ (who began new : Caller) (token : TokenFace) (command : Command)
   -- of its tree
   pub same_tree : tree_of token ≡ tree_of who.token
   same_tree =
-      ap₂ (λ t words. record { table = t; start = x.start; words = words }) way.table x_words
-      ∙ ap (λ pairs. record { table = who.token.table; start = pairs; words = v.words }) x_start
+      ap₂ (λ t words. record { table = t; start = x.start; words = words }) x_table x_words
+      ∙ ap (λ pairs. record { table = v.table; start = pairs; words = v.words }) x_start
 
   -- which has seen more
   pub seen_more : (r q : Option Full) → v.stamp ≤ x.stamp

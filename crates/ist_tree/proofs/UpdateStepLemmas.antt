@@ -129,8 +129,8 @@ none_kept (Some full) met e = absurd (cc)
 module _ (who began new : Caller) (token : TokenFace) (command : Command) (s : IsSound who.token.view)
     (r : Option Full) (p : IsPassWith who r)
     (begun : TurnedAt who.token.view (beginning who.token.view (Some command)) began.token.view)
-    (began_number : began.number ≡ who.number) (words : ℕ) (same_words : words ≡ who.token.view.words)
-    (table : token.table ≡ who.token.table) where
+    (began_number : began.number ≡ who.number) (words : ℕ)
+    (same_words : words ≡ who.token.view.words) where
   module _ (reply : Option ℕ) (met : Option Full)
       (c : CarriesOut began new words command reply met)
       (ended : TurnedAt new.token.view (ending new.token.view (ended_call new.token.view reply)) token.view)
@@ -155,7 +155,7 @@ module _ (who began new : Caller) (token : TokenFace) (command : Command) (s : I
           };
           heard = heard_turned ended _ (ap (λ (y : View). y.moments) ended.view);
           none = ap (λ (y : View). y.pending) ended.view;
-          table = table;
+          table = ap (λ (y : View). y.table) ended.view;
         }
 
     picked : CanEnd new.token.view (ended_call new.token.view reply)

@@ -1,6 +1,5 @@
 -- A tree, its passes, notes and maker, as contracts see them.
 use Rattle.std.specs.Prelude.{ℕ, ◌==◌, if◌then◌else◌, Bool, List, [], ◌∷◌, Option, None}
-use Rattle.atomic_table.specs.Seated.{TableId}
 use Rattle.ist_core.specs.declared.calls.Call.{Call}
 use Rattle.ist_core.specs.declared.pairs.Pair.{Pair}
 use Rattle.ist_core.specs.declared.ports.Full.{Full}
@@ -10,10 +9,11 @@ use Rattle.ist_core.specs.Histories.{PassCalls}
 use Rattle.ist_core.specs.Replies.{Refused}
 use Rattle.laws_histories.specs.Calls.{HasCalls}
 use Rattle.laws_real_time.specs.Moments.{Moments}
+use Rattle.ist_rule.specs.declared.view.TableName.{TableName}
 
 -- a tree: which one it is, the pairs that it was opened with, and how many words it has
 pub record TreeFace : Type 0 where
-  pub table : TableId
+  pub table : TableName
   pub start : List Pair
   pub words : ℕ
 

@@ -9,9 +9,8 @@ use ist_rule::{TreeTable, TreeToken, begin_call, know};
 
 /// Begins a call that gets the key, and searches for the key.
 pub(crate) fn begin_find(table: &TreeTable, token: &mut TreeToken, key: u64) -> Found
-    requires same_table { token.old.table ≡ table.now.table }
+    requires same_table { token.old.view.table ≡ table.now.table }
     requires may_begin { CanBegin token.old.view }
-    ensures same_table { token.new.table ≡ token.old.table }
     ensures found { FindsInCall token.old.view token.new.view key result }
 {
     know(token);

@@ -47,10 +47,9 @@ fn instead_in(word: u64) -> Instead
 
 // Starts a rebuild of the row, or finds what stops it.
 fn start_due(table: &TreeTable, who: &mut Caller, due: Due) -> Result<Started, Full>
-    requires same_table { who.old.token.table ≡ table.now.table }
+    requires same_table { who.old.token.view.table ≡ table.now.table }
     requires ready { IsReady who.old }
     requires may_start { MayStart who.old.token.view due.parent due.index due.target }
-    ensures same_table { who.new.token.table ≡ table.now.table }
     ensures on { GoesFor who.old who.new due.target }
     ensures yes { (rebuild : ℕ) → result ≡ Ok (Yes rebuild)
         → IsStartedAt (now who.new.token.view) rebuild due.parent due.index due.target }
@@ -69,10 +68,9 @@ fn start_due(table: &TreeTable, who: &mut Caller, due: Due) -> Result<Started, F
 
 // Helps the rebuild that was started of the row.
 fn help_own(table: &TreeTable, who: &mut Caller, due: Due, rebuild: u32) -> Result<(), Full>
-    requires same_table { who.old.token.table ≡ table.now.table }
+    requires same_table { who.old.token.view.table ≡ table.now.table }
     requires ready { IsReady who.old }
     requires started { IsStartedAt (now who.old.token.view) rebuild due.parent due.index due.target }
-    ensures same_table { who.new.token.table ≡ table.now.table }
     ensures helped { HelpsOwn who.old who.new due (word_count_of table.now) rebuild result }
 {
     match help_rebuild(table, who, rebuild) {
@@ -83,10 +81,9 @@ fn help_own(table: &TreeTable, who: &mut Caller, due: Due, rebuild: u32) -> Resu
 
 // Helps what the slot holds instead of the row that was due for a rebuild: a rebuild, or a change.
 fn help_other(table: &TreeTable, who: &mut Caller, due: Due, word: u64) -> Result<(), Full>
-    requires same_table { who.old.token.table ≡ table.now.table }
+    requires same_table { who.old.token.view.table ≡ table.now.table }
     requires ready { IsReady who.old }
     requires stood { StoodInstead who.old.token.view due.parent due.index due.target word }
-    ensures same_table { who.new.token.table ≡ table.now.table }
     ensures helped { HelpsOther who.old who.new due (word_count_of table.now) word result }
 {
     know(&who.token);
@@ -107,10 +104,9 @@ fn help_other(table: &TreeTable, who: &mut Caller, due: Due, word: u64) -> Resul
 // Tries once to rebuild the row. Returns whether that was the last try: the row or its parent isn't
 // open.
 fn try_due(table: &TreeTable, who: &mut Caller, due: Due) -> Result<bool, Full>
-    requires same_table { who.old.token.table ≡ table.now.table }
+    requires same_table { who.old.token.view.table ≡ table.now.table }
     requires ready { IsReady who.old }
     requires may_start { MayStart who.old.token.view due.parent due.index due.target }
-    ensures same_table { who.new.token.table ≡ table.now.table }
     ensures tried { TriesOnce who.old who.new due (word_count_of table.now) result }
 {
     match start_due(table, who, due)? {
@@ -129,10 +125,9 @@ fn try_due(table: &TreeTable, who: &mut Caller, due: Due) -> Result<bool, Full>
 /// Rebuilds the row, or finds that it or its parent isn't open. Helps what others put in its slot,
 /// and tries again only after a change of another was resolved.
 pub(crate) fn rebuild_due(table: &TreeTable, who: &mut Caller, due: Due) -> Result<(), Full>
-    requires same_table { who.old.token.table ≡ table.now.table }
+    requires same_table { who.old.token.view.table ≡ table.now.table }
     requires ready { IsReady who.old }
     requires may_start { MayStart who.old.token.view due.parent due.index due.target }
-    ensures same_table { who.new.token.table ≡ table.now.table }
     ensures rebuilt { RebuildsRow who.old who.new due (word_count_of table.now) result }
 {
     know(&who.token);

@@ -39,9 +39,8 @@ use ist_rule::{TreeTable, begin_search, know};
 /// Always returns, and takes no memory. It begins one walk, and another only after the table made
 /// progress since the last one began.
 pub fn apply(table: &TreeTable, who: &mut Caller, update: Update) -> Result<Outcome, Full>
-    requires same_table { who.old.token.table ≡ table.now.table }
+    requires same_table { who.old.token.view.table ≡ table.now.table }
     requires asked { IsAsked who.old (command_for update.key update.value) }
-    ensures same_table { who.new.token.table ≡ table.now.table }
     ensures caller { IsCaller who.new }
     ensures number { who.new.number ≡ who.old.number }
     ensures refused { HasRefused who.new }

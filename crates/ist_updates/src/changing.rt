@@ -37,10 +37,9 @@ use ist_rule::{TreeTable, know};
 
 // The row of this kind that the caller holds, or a fresh one.
 fn take(table: &TreeTable, who: &mut Caller, kind: Kind) -> Result<u32, Full>
-    requires same_table { who.old.token.table ≡ table.now.table }
+    requires same_table { who.old.token.view.table ≡ table.now.table }
     requires caller { IsCaller who.old }
     requires refused { HasRefused who.old }
-    ensures same_table { who.new.token.table ≡ table.now.table }
     ensures gone { HasGone Prepares who.old who.new }
     ensures held { IfOk result (λ base. row_of kind (spares_of who.new) ≡ Some base) }
     ensures rows { IfOk result (λ base.
@@ -70,11 +69,10 @@ fn is_below(pair: Option<u32>, node: u32) -> bool
 
 // Gives up the pair row that the caller holds, if it lies below the node.
 fn drop_below(table: &TreeTable, who: &mut Caller, node: u32)
-    requires same_table { who.old.token.table ≡ table.now.table }
+    requires same_table { who.old.token.view.table ≡ table.now.table }
     requires caller { IsCaller who.old }
     requires refused { HasRefused who.old }
     requires node { IsNode (now who.old.token.view) node }
-    ensures same_table { who.new.token.table ≡ table.now.table }
     ensures gone { HasGone Prepares who.old who.new }
     ensures others { (who.new.leaf ≡ who.old.leaf) × (who.new.change ≡ who.old.change) }
     ensures above { (base : ℕ) → who.new.pair ≡ Some base → node < base }
@@ -89,11 +87,10 @@ fn drop_below(table: &TreeTable, who: &mut Caller, node: u32)
 
 // A pair row above the node: the one that the caller holds, or a fresh one.
 fn take_pair(table: &TreeTable, who: &mut Caller, node: u32) -> Result<u32, Full>
-    requires same_table { who.old.token.table ≡ table.now.table }
+    requires same_table { who.old.token.view.table ≡ table.now.table }
     requires caller { IsCaller who.old }
     requires refused { HasRefused who.old }
     requires node { IsNode (now who.old.token.view) node }
-    ensures same_table { who.new.token.table ≡ table.now.table }
     ensures gone { HasGone Prepares who.old who.new }
     ensures held { IfOk result (λ base. who.new.pair ≡ Some base) }
     ensures others { IfOk result (λ base.
@@ -134,12 +131,11 @@ fn plan_leaf(
     aim: Aim,
     value: u64,
 ) -> Result<PlannedChange, Full>
-    requires same_table { who.old.token.table ≡ table.now.table }
+    requires same_table { who.old.token.view.table ≡ table.now.table }
     requires caller { IsCaller who.old }
     requires refused { HasRefused who.old }
     requires at_slot { WasAtSlot who.old.token.view aim }
     requires room { MayReplace who.old.token.view aim.key aim.word (way.Leaf value) }
-    ensures same_table { who.new.token.table ≡ table.now.table }
     ensures gone { HasGone Prepares who.old who.new }
     ensures planned { IfOk result (λ plan. IsPlanned who.new aim (way.Leaf value) plan) }
     ensures full { IfErr result (λ full. IsWayRefused who.old.token.view (way.Leaf value)
@@ -164,12 +160,11 @@ fn plan_pair(
     other: u32,
     other_key: u64,
 ) -> Result<PlannedChange, Full>
-    requires same_table { who.old.token.table ≡ table.now.table }
+    requires same_table { who.old.token.view.table ≡ table.now.table }
     requires caller { IsCaller who.old }
     requires refused { HasRefused who.old }
     requires at_slot { WasAtSlot who.old.token.view aim }
     requires room { MayReplace who.old.token.view aim.key aim.word (way.Pair value other other_key) }
-    ensures same_table { who.new.token.table ≡ table.now.table }
     ensures gone { HasGone Prepares who.old who.new }
     ensures planned { IfOk result (λ plan.
         IsPlanned who.new aim (way.Pair value other other_key) plan) }
@@ -195,12 +190,11 @@ fn plan_pair(
 
 // A plan to remove the leaf of the key.
 fn plan_clear(table: &TreeTable, who: &mut Caller, aim: Aim) -> Result<PlannedChange, Full>
-    requires same_table { who.old.token.table ≡ table.now.table }
+    requires same_table { who.old.token.view.table ≡ table.now.table }
     requires caller { IsCaller who.old }
     requires refused { HasRefused who.old }
     requires at_slot { WasAtSlot who.old.token.view aim }
     requires room { MayReplace who.old.token.view aim.key aim.word way.Clear }
-    ensures same_table { who.new.token.table ≡ table.now.table }
     ensures gone { HasGone Prepares who.old who.new }
     ensures planned { IfOk result (λ plan. IsPlanned who.new aim way.Clear plan) }
     ensures full { IfErr result (λ full. IsWayRefused who.old.token.view way.Clear
@@ -221,12 +215,11 @@ fn plan_for(
     aim: Aim,
     way: SlotPlan,
 ) -> Result<PlannedChange, Full>
-    requires same_table { who.old.token.table ≡ table.now.table }
+    requires same_table { who.old.token.view.table ≡ table.now.table }
     requires caller { IsCaller who.old }
     requires refused { HasRefused who.old }
     requires at_slot { WasAtSlot who.old.token.view aim }
     requires room { MayReplace who.old.token.view aim.key aim.word way }
-    ensures same_table { who.new.token.table ≡ table.now.table }
     ensures gone { HasGone Prepares who.old who.new }
     ensures planned { IfOk result (λ plan. IsPlanned who.new aim way plan) }
     ensures full { IfErr result (λ full. IsWayRefused who.old.token.view way
@@ -270,13 +263,12 @@ fn give_away(who: &mut Caller, fresh: Fresh)
 // Installs the change of the plan. If this succeeds, the caller no longer holds the rows.
 fn install_plan(table: &TreeTable, who: &mut Caller, plan: PlannedChange) -> bool
     ghost filling: { Filling }
-    requires same_table { who.old.token.table ≡ table.now.table }
+    requires same_table { who.old.token.view.table ≡ table.now.table }
     requires caller { IsCaller who.old }
     requires refused { HasRefused who.old }
     requires rows { HasRows who.old plan }
     requires may_install { IsInstallable who.old.token.view plan.base filling }
     requires filled { filling ≡ filling_of plan }
-    ensures same_table { who.new.token.table ≡ table.now.table }
     ensures caller { IsCaller who.new }
     ensures number { who.new.number ≡ who.old.number }
     ensures refused { HasRefused who.new }
@@ -298,13 +290,12 @@ fn install_plan(table: &TreeTable, who: &mut Caller, plan: PlannedChange) -> boo
 
 // Installs the change of the plan and helps it. Returns whether it took effect.
 fn carry_out(table: &TreeTable, who: &mut Caller, plan: PlannedChange) -> bool
-    requires same_table { who.old.token.table ≡ table.now.table }
+    requires same_table { who.old.token.view.table ≡ table.now.table }
     requires caller { IsCaller who.old }
     requires refused { HasRefused who.old }
     requires rows { HasRows who.old plan }
     requires update { IsUpdate plan.row.kind }
     requires may_install { IsInstallable who.old.token.view plan.base (filling_of plan) }
-    ensures same_table { who.new.token.table ≡ table.now.table }
     ensures carried { HasCarried who.old plan result who.new }
 {
     know(&who.token);
@@ -328,11 +319,10 @@ pub(crate) fn change_slot(
     aim: Aim,
     way: SlotPlan,
 ) -> Result<bool, Full>
-    requires same_table { who.old.token.table ≡ table.now.table }
+    requires same_table { who.old.token.view.table ≡ table.now.table }
     requires asked { IsAsked who.old (command_by aim.key way) }
     requires at_slot { WasAtSlot who.old.token.view aim }
     requires room { MayReplace who.old.token.view aim.key aim.word way }
-    ensures same_table { who.new.token.table ≡ table.now.table }
     ensures changed { HasChanged who.old aim way (word_count_of table.now) result who.new }
 {
     know(&who.token);
@@ -345,12 +335,11 @@ pub(crate) fn change_slot(
 
 // The same if its node was open, and no change of the caller there was decided no.
 fn change_open(table: &TreeTable, who: &mut Caller, aim: Aim, way: SlotPlan) -> Result<bool, Full>
-    requires same_table { who.old.token.table ≡ table.now.table }
+    requires same_table { who.old.token.view.table ≡ table.now.table }
     requires asked { IsAsked who.old (command_by aim.key way) }
     requires at_slot { WasAtSlot who.old.token.view aim }
     requires room { MayReplace who.old.token.view aim.key aim.word way }
     requires unrefused { IsUnrefused (now who.old.token.view) who.old.number aim.node }
-    ensures same_table { who.new.token.table ≡ table.now.table }
     ensures changed { HasChanged who.old aim way (word_count_of table.now) result who.new }
 {
     let plan = plan_for(table, who, aim, way)?;

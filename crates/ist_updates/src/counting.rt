@@ -20,9 +20,8 @@ use ist_rule::{TreeTable, TreeToken, add, know, load};
 
 // Counts the caller's update at the row, and returns whether the count reached the row's limit by it.
 fn count_at(table: &TreeTable, token: &mut TreeToken, row: u32) -> bool
-    requires same_table { token.old.table ≡ table.now.table }
+    requires same_table { token.old.view.table ≡ table.now.table }
     requires may_count { MayCount token.old.view row }
-    ensures same_table { token.new.table ≡ token.old.table }
     ensures went { WentOn (IsCountAt (number_of token.old.view.who) row) token.old.view
         token.new.view }
     ensures counted { let v = token.old.view in HasCountedAt v.start v.words v.log
@@ -46,7 +45,7 @@ pub(crate) fn count_update(
     row: u32,
     below: Applied,
 ) -> Applied
-    requires same_table { who.old.token.table ≡ table.now.table }
+    requires same_table { who.old.token.view.table ≡ table.now.table }
     requires caller { IsCaller who.old }
     requires refused { HasRefused who.old }
     requires quiet { IsQuiet who.old }
@@ -54,7 +53,6 @@ pub(crate) fn count_update(
         CanCount (start v.start v.words) v.log who.old.number row }
     requires stood { let v = who.old.token.view in
         HasStood v.start v.words v.log parent index row }
-    ensures same_table { who.new.token.table ≡ table.now.table }
     ensures on { StaysReady Updates who.old who.new }
     ensures counted { let v = who.old.token.view in
         (earlier : Log) (command : Command) (rows : List ℕ)

@@ -20,10 +20,9 @@ use ist_rule::{TreeTable, know};
 
 // Fills the row of a leaf, which no other caller knows yet.
 fn fill_leaf(table: &TreeTable, who: &mut Caller, base: u32, row: ChangeRow)
-    requires same_table { who.old.token.table ≡ table.now.table }
+    requires same_table { who.old.token.view.table ≡ table.now.table }
     requires caller { IsCaller who.old }
     requires row { who.old.leaf ≡ Some base }
-    ensures same_table { who.new.token.table ≡ table.now.table }
     ensures caller { IsCaller who.new }
     ensures same { who.new ≡ with_own who.old who.new.token.view.own }
     ensures stands { StandAt who.new.token.view.own base (words_of (new_leaf row)) }
@@ -43,12 +42,11 @@ fn fill_pair(
     other_key: u64,
     other: u32,
 )
-    requires same_table { who.old.token.table ≡ table.now.table }
+    requires same_table { who.old.token.view.table ≡ table.now.table }
     requires caller { IsCaller who.old }
     requires row { who.old.pair ≡ Some base }
     requires leaf_good { IsGoodBase leaf }
     requires other_good { IsGoodBase other }
-    ensures same_table { who.new.token.table ≡ table.now.table }
     ensures caller { IsCaller who.new }
     ensures same { who.new ≡ with_own who.old who.new.token.view.own }
     ensures stands { let words = words_of (pair_row key leaf other_key other) in
@@ -79,10 +77,9 @@ fn fill_pair(
 
 // Fills the row of the change.
 fn fill_change(table: &TreeTable, who: &mut Caller, base: u32, row: ChangeRow)
-    requires same_table { who.old.token.table ≡ table.now.table }
+    requires same_table { who.old.token.view.table ≡ table.now.table }
     requires caller { IsCaller who.old }
     requires row { who.old.change ≡ Some base }
-    ensures same_table { who.new.token.table ≡ table.now.table }
     ensures caller { IsCaller who.new }
     ensures same { who.new ≡ with_own who.old who.new.token.view.own }
     ensures stands { StandAt who.new.token.view.own base (words_of (Change row)) }
@@ -105,12 +102,11 @@ fn fill_change(table: &TreeTable, who: &mut Caller, base: u32, row: ChangeRow)
 
 // Fills the rows that are published with the change.
 fn fill_fresh(table: &TreeTable, who: &mut Caller, row: ChangeRow, fresh: Fresh)
-    requires same_table { who.old.token.table ≡ table.now.table }
+    requires same_table { who.old.token.view.table ≡ table.now.table }
     requires caller { IsCaller who.old }
     requires rows { let bases = bases_of (fresh_rows row fresh) in
         AreBasesOf (kinds_of fresh) (spares_of who.old) bases }
     requires good { AreGood fresh }
-    ensures same_table { who.new.token.table ≡ table.now.table }
     ensures caller { IsCaller who.new }
     ensures same { who.new ≡ with_own who.old who.new.token.view.own }
     ensures stored { StoredAll who.new.token.view (fresh_rows row fresh) }
@@ -133,11 +129,10 @@ fn fill_fresh(table: &TreeTable, who: &mut Caller, row: ChangeRow, fresh: Fresh)
 
 /// Fills every word of every row of the plan, which the caller holds.
 pub(crate) fn fill_rows(table: &TreeTable, who: &mut Caller, plan: PlannedChange)
-    requires same_table { who.old.token.table ≡ table.now.table }
+    requires same_table { who.old.token.view.table ≡ table.now.table }
     requires caller { IsCaller who.old }
     requires rows { HasRows who.old plan }
     requires good { AreGood plan.fresh }
-    ensures same_table { who.new.token.table ≡ table.now.table }
     ensures caller { IsCaller who.new }
     ensures same { who.new ≡ with_own who.old who.new.token.view.own }
     ensures stored { StoredAll who.new.token.view (rows_of (filling_of plan) plan.base) }

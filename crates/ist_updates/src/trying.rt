@@ -65,9 +65,8 @@ fn had_in(leaf: LeafRow, key: u64) -> Reply
 
 // The leaf at the base.
 fn read_leaf(table: &TreeTable, token: &mut TreeToken, base: u32) -> LeafRow
-    requires same_table { token.old.table ≡ table.now.table }
+    requires same_table { token.old.view.table ≡ table.now.table }
     requires leaf { SeesLeaf token.old.view base }
-    ensures same_table { token.new.table ≡ token.old.table }
     ensures seen { GoesOnTo token.old.view token.new.view }
     ensures published { (now token.new.view).pieces base ≡ Some (Leaf result) }
 {
@@ -85,11 +84,10 @@ fn try_empty(
     aim: Aim,
     update: Update,
 ) -> Result<Option<Outcome>, Full>
-    requires same_table { who.old.token.table ≡ table.now.table }
+    requires same_table { who.old.token.view.table ≡ table.now.table }
     requires asked { IsAsked who.old (command_for aim.key update.value) }
     requires at_slot { WasAtSlot who.old.token.view aim }
     requires empty { ref_of aim.word ≡ Some Empty }
-    ensures same_table { who.new.token.table ≡ table.now.table }
     ensures tried { HasTried who.old aim update.value (word_count_of table.now) result who.new }
     ensures met { IfOk result (IsTryMet update.when) }
     ensures missed { result ≡ Ok (Some Unmet)
@@ -117,12 +115,11 @@ fn put_at(
     base: u32,
     leaf: LeafRow,
 ) -> Result<Option<Outcome>, Full>
-    requires same_table { who.old.token.table ≡ table.now.table }
+    requires same_table { who.old.token.view.table ≡ table.now.table }
     requires asked { IsAsked who.old (command_for aim.key (Some value)) }
     requires at_slot { WasAtSlot who.old.token.view aim }
     requires leaf { ref_of aim.word ≡ Some (LeafAt base) }
     requires stands { (now who.old.token.view).pieces base ≡ Some (Leaf leaf) }
-    ensures same_table { who.new.token.table ≡ table.now.table }
     ensures tried { HasTried who.old aim (Some value) (word_count_of table.now) result who.new }
     ensures had { IfOk result (RepliesWith (value_in (Some (Leaf leaf)) aim.key)) }
 {
@@ -147,12 +144,11 @@ fn remove_at(
     base: u32,
     leaf: LeafRow,
 ) -> Result<Option<Outcome>, Full>
-    requires same_table { who.old.token.table ≡ table.now.table }
+    requires same_table { who.old.token.view.table ≡ table.now.table }
     requires asked { IsAsked who.old (command_for aim.key None) }
     requires at_slot { WasAtSlot who.old.token.view aim }
     requires leaf { ref_of aim.word ≡ Some (LeafAt base) }
     requires stands { (now who.old.token.view).pieces base ≡ Some (Leaf leaf) }
-    ensures same_table { who.new.token.table ≡ table.now.table }
     ensures tried { HasTried who.old aim None (word_count_of table.now) result who.new }
     ensures had { IfOk result (RepliesWith (value_in (Some (Leaf leaf)) aim.key)) }
 {
@@ -172,11 +168,10 @@ fn try_leaf(
     update: Update,
     base: u32,
 ) -> Result<Option<Outcome>, Full>
-    requires same_table { who.old.token.table ≡ table.now.table }
+    requires same_table { who.old.token.view.table ≡ table.now.table }
     requires asked { IsAsked who.old (command_for aim.key update.value) }
     requires at_slot { WasAtSlot who.old.token.view aim }
     requires leaf { ref_of aim.word ≡ Some (LeafAt base) }
-    ensures same_table { who.new.token.table ≡ table.now.table }
     ensures tried { HasTried who.old aim update.value (word_count_of table.now) result who.new }
     ensures met { IfOk result (IsTryMet update.when) }
     ensures missed { result ≡ Ok (Some Unmet)
@@ -202,11 +197,10 @@ fn help_change(
     update: Update,
     base: u32,
 ) -> Option<Outcome>
-    requires same_table { who.old.token.table ≡ table.now.table }
+    requires same_table { who.old.token.view.table ≡ table.now.table }
     requires asked { IsAsked who.old (command_for aim.key update.value) }
     requires at_slot { IsAtSlot who.old.token.view aim.key aim.node aim.index aim.word }
     requires change { ref_of aim.word ≡ Some (ChangeAt base) }
-    ensures same_table { who.new.token.table ≡ table.now.table }
     ensures again { result ≡ None }
     ensures tried { let words = word_count_of table.now in
         HasTried who.old aim update.value words (Ok result) who.new }
@@ -225,11 +219,10 @@ fn help_target(
     update: Update,
     base: u32,
 ) -> Result<Option<Outcome>, Full>
-    requires same_table { who.old.token.table ≡ table.now.table }
+    requires same_table { who.old.token.view.table ≡ table.now.table }
     requires asked { IsAsked who.old (command_for aim.key update.value) }
     requires at_slot { IsAtSlot who.old.token.view aim.key aim.node aim.index aim.word }
     requires rebuild { ref_of aim.word ≡ Some (RebuildAt base) }
-    ensures same_table { who.new.token.table ≡ table.now.table }
     ensures tried { HasTried who.old aim update.value (word_count_of table.now) result who.new }
     ensures met { (when : WhenOf) → IfOk result (IsTryMet when) }
     ensures unmissed { result ≢ Ok (Some Unmet) }
@@ -252,10 +245,9 @@ pub(crate) fn try_slot(
     node: u32,
     child: Child,
 ) -> Result<Option<Outcome>, Full>
-    requires same_table { who.old.token.table ≡ table.now.table }
+    requires same_table { who.old.token.view.table ≡ table.now.table }
     requires asked { IsAsked who.old (command_for update.key update.value) }
     requires at_slot { IsAtSlot who.old.token.view update.key node child.index child.word }
-    ensures same_table { who.new.token.table ≡ table.now.table }
     ensures walk { IsWalk who.old update.key update.value update.when node (word_count_of table.now)
         result who.new }
 {

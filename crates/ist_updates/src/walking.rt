@@ -39,11 +39,10 @@ pub(crate) fn descend(
     update: Update,
     node: u32,
 ) -> Result<Option<Outcome>, Full>
-    requires same_table { who.old.token.table ≡ table.now.table }
+    requires same_table { who.old.token.view.table ≡ table.now.table }
     requires asked { IsAsked who.old (command_for update.key update.value) }
     requires came { Came who.old.token.view update.key node }
     requires top { node ≡ anchor → MayWalk who.old.token.view }
-    ensures same_table { who.new.token.table ≡ table.now.table }
     ensures walk { IsWalk who.old update.key update.value update.when node (word_count_of table.now)
         result who.new }
 {

@@ -13,9 +13,9 @@ use std::thread::{Threads, join};
 
 // What the caller is told that reserves a leaf row twice.
 fn reserve_twice(table: &TreeTable, who: &mut Caller) -> (Result<u32, Full>, Result<u32, Full>)
-    requires same_table { who.old.token.table ≡ table.now.table }
+    requires same_table { who.old.token.view.table ≡ table.now.table }
     requires caller { IsCaller who.old }
-    ensures same_table { who.new.token.table ≡ table.now.table }
+    ensures same_table { who.new.token.view.table ≡ table.now.table }
     ensures caller { IsCaller who.new }
 {
     let leaf = reserve(table, who, Kind::Leaf);
@@ -24,7 +24,7 @@ fn reserve_twice(table: &TreeTable, who: &mut Caller) -> (Result<u32, Full>, Res
 
 // What the caller is told that reserves a change row. If it holds a leaf row, it puts 9 at the key 1 there.
 fn reserve_and_fill(table: &TreeTable, who: &mut Caller) -> Result<u32, Full>
-    requires same_table { who.old.token.table ≡ table.now.table }
+    requires same_table { who.old.token.view.table ≡ table.now.table }
     requires caller { IsCaller who.old }
 {
     let change = reserve(table, who, Kind::Change);
@@ -94,7 +94,7 @@ type Reserved = (Option<u32>, u64);
 
 // Reserves one row of each kind, as far as there are words.
 fn reserve_each(table: &TreeTable, who: Caller) -> [Reserved; 4]
-    requires same_table { who.token.table ≡ table.now.table }
+    requires same_table { who.token.view.table ≡ table.now.table }
     requires caller { IsCaller who }
 {
     let mut who = who;
@@ -153,11 +153,11 @@ fn reserve_beside<R: Threads + Sync>(
     let (left, right) = join(
         rt,
         ||
-            requires same_table { one.token.table ≡ table.table }
+            requires same_table { one.token.view.table ≡ table.table }
             requires caller { IsCaller one }
         { reserve_each(&table, one) },
         ||
-            requires same_table { two.token.table ≡ table.table }
+            requires same_table { two.token.view.table ≡ table.table }
             requires caller { IsCaller two }
         { reserve_each(&table, two) },
     );

@@ -23,14 +23,14 @@ pub(crate) fn install_put(
     value: u64,
 ) -> Installed
     ghost filling: { Filling }
-    requires same_table { who.old.token.table ≡ table.now.table }
+    requires same_table { who.old.token.view.table ≡ table.now.table }
     requires is_put { filling ≡ sample_put who.old.number leaf value }
     requires caller { IsCaller who.old }
     requires rows { (who.old.leaf ≡ Some leaf) × (who.old.change ≡ Some change) }
     requires apart { leaf + 2 ≤ change }
     requires within { (4 ≤ leaf) × (change < place_limit) }
     requires in_none { who.old.token.view.pending ≡ None }
-    ensures same_table { who.new.token.table ≡ table.now.table }
+    ensures same_table { who.new.token.view.table ≡ table.now.table }
     ensures may_help { result ≡ Yes → MayHelp who.new.token.view change }
 {
     let from = Ref::Empty.to_word();
@@ -52,11 +52,11 @@ pub(crate) fn install_put(
 /// Reserves a leaf row and a change row, and installs a put with them, if the caller is the first
 /// and the rows lie at 4 and 6. Returns whether it is installed.
 pub(crate) fn begin_put(table: &TreeTable, who: &mut Caller) -> bool
-    requires same_table { who.old.token.table ≡ table.now.table }
+    requires same_table { who.old.token.view.table ≡ table.now.table }
     requires caller { IsCaller who.old }
     requires no_rows { spares_of who.old ≡ no_spares }
     requires in_none { who.old.token.view.pending ≡ None }
-    ensures same_table { who.new.token.table ≡ table.now.table }
+    ensures same_table { who.new.token.view.table ≡ table.now.table }
     ensures may_help { result ≡ true → MayHelp who.new.token.view 6 }
 {
     if reserve(table, who, Kind::Leaf) != Ok(4) {

@@ -15,9 +15,9 @@ use std::thread::{Threads, join};
 
 /// Helps the change at 6 if the anchor's slot holds it.
 pub(crate) fn help_met(table: &TreeTable, who: &mut Caller) -> Option<Decision>
-    requires same_table { who.old.token.table ≡ table.now.table }
+    requires same_table { who.old.token.view.table ≡ table.now.table }
     requires caller { IsCaller who.old }
-    ensures same_table { who.new.token.table ≡ table.now.table }
+    ensures same_table { who.new.token.view.table ≡ table.now.table }
     ensures caller { IsCaller who.new }
     ensures same_rows { spares_of who.new ≡ spares_of who.old }
     ensures in_same_call { who.new.token.view.pending ≡ who.old.token.view.pending }
@@ -33,7 +33,7 @@ pub(crate) fn help_met(table: &TreeTable, who: &mut Caller) -> Option<Decision>
 // Has a caller that holds no rows try to install a put into the anchor's empty slot. Returns the word
 // that stood there.
 fn put_late(table: &TreeTable, who: &mut Caller) -> Option<u64>
-    requires same_table { who.old.token.table ≡ table.now.table }
+    requires same_table { who.old.token.view.table ≡ table.now.table }
     requires caller { IsCaller who.old }
     requires no_rows { spares_of who.old ≡ no_spares }
     requires in_none { who.old.token.view.pending ≡ None }
@@ -67,9 +67,9 @@ fn help_in_turn(
     first: &mut Caller,
     second: &mut Caller,
 ) -> Option<Seen>
-    requires maker_table { maker.old.table ≡ table.now.table }
-    requires first_table { first.old.token.table ≡ table.now.table }
-    requires second_table { second.old.token.table ≡ table.now.table }
+    requires maker_table { maker.old.view.table ≡ table.now.table }
+    requires first_table { first.old.token.view.table ≡ table.now.table }
+    requires second_table { second.old.token.view.table ≡ table.now.table }
     requires first { IsCaller first.old }
     requires no_rows { spares_of first.old ≡ no_spares }
     requires in_none { first.old.token.view.pending ≡ None }
@@ -117,7 +117,7 @@ fn a_put_is_decided_once_and_leaves_its_slot(rt: HostRuntime) {
 
 // Helps the change at 6, if the anchor's slot holds it, by a caller that has no more to do.
 fn help_moved(table: &TreeTable, who: Caller) -> Option<Decision>
-    requires same_table { who.token.table ≡ table.now.table }
+    requires same_table { who.token.view.table ≡ table.now.table }
     requires caller { IsCaller who }
 {
     let mut who = who;
@@ -143,11 +143,11 @@ fn help_on_threads<R: Threads + Sync>(rt: &R, alloc: Global) -> Result<Helped, A
     let (left, right) = join(
         rt,
         ||
-            requires same_table { second.token.table ≡ table.table }
+            requires same_table { second.token.view.table ≡ table.table }
             requires caller { IsCaller second }
         { help_moved(&table, second) },
         ||
-            requires same_table { third.token.table ≡ table.table }
+            requires same_table { third.token.view.table ≡ table.table }
             requires caller { IsCaller third }
         { help_moved(&table, third) },
     );

@@ -27,8 +27,8 @@ pub(crate) fn pairs_of(alloc: Global, count: u64) -> Result<Vec<Pair>, AllocErro
 
 /// Returns the word at the place, or the greatest `u64` if the table has none there.
 pub(crate) fn word_at(table: &TreeTable, token: &mut TreeToken, place: u64) -> u64
-    requires same_table { token.old.table ≡ table.now.table }
-    ensures same_table { token.new.table ≡ table.now.table }
+    requires same_table { token.old.view.table ≡ table.now.table }
+    ensures same_table { token.new.view.table ≡ table.now.table }
 {
     if place == ANCHOR_SLOT_PLACE {
         begin_search(table, token);

@@ -18,7 +18,7 @@ use std::alloc::{AllocError, Global};
 
 // A table of 20 words with the pairs (5, 7) and (9, 1): an inner row at 4, and two leaves.
 fn two_pairs(alloc: Global) -> Result<(TreeTable, TreeToken), AllocError>
-    ensures same_table { IfOk result (λ t. t.1.table ≡ t.0.table) }
+    ensures same_table { IfOk result (λ t. t.1.view.table ≡ t.0.table) }
     ensures row { IfOk result (λ t. IsRow t.1.view 4) }
 {
     let pairs = vec![in alloc; Pair { key: 5, value: 7 }, Pair { key: 9, value: 1 }]?;
@@ -55,7 +55,7 @@ fn each_key_is_found_with_its_value(rt: HostRuntime) {
 // A table of 100 words with ten pairs, whose keys are three apart: a row at 4 with the keys 13 and
 // 22, and below it rows with one key each.
 fn ten_pairs(alloc: Global) -> Result<(TreeTable, TreeToken), AllocError>
-    ensures same_table { IfOk result (λ t. t.1.table ≡ t.0.table) }
+    ensures same_table { IfOk result (λ t. t.1.view.table ≡ t.0.table) }
 {
     let pairs = vec![in alloc;
         Pair { key: 1, value: 0 },
@@ -152,7 +152,7 @@ fn a_span_reaches_from_its_pair_to_before_the_next_one(rt: HostRuntime) {
 // A table of this many pairs, with the keys from 0 on.
 fn numbers(alloc: Global, count: u64) -> Result<(TreeTable, TreeToken), AllocError>
     requires few { count < 2 ^ 20 }
-    ensures same_table { IfOk result (λ t. t.1.table ≡ t.0.table) }
+    ensures same_table { IfOk result (λ t. t.1.view.table ≡ t.0.table) }
 {
     let pairs = pairs_of(alloc, count)?;
     let image = lay_image(alloc, 9 * count + 10, pairs.as_slice())?;
@@ -216,9 +216,9 @@ fn find_beside(
     first: &mut Caller,
     second: &mut Caller,
 ) -> Option<Beside>
-    requires maker_table { maker.old.table ≡ table.now.table }
-    requires first_table { first.old.token.table ≡ table.now.table }
-    requires second_table { second.old.token.table ≡ table.now.table }
+    requires maker_table { maker.old.view.table ≡ table.now.table }
+    requires first_table { first.old.token.view.table ≡ table.now.table }
+    requires second_table { second.old.token.view.table ≡ table.now.table }
     requires first { IsCaller first.old }
     requires no_rows { spares_of first.old ≡ no_spares }
     requires in_none { first.old.token.view.pending ≡ None }

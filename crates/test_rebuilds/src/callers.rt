@@ -30,13 +30,13 @@ pub(crate) struct Marked {
 
 /// The next caller, in a call of its own.
 pub(crate) fn enter_call(table: &TreeTable, maker: &mut TreeToken) -> Caller
-    requires same_table { maker.old.table ≡ table.now.table }
+    requires same_table { maker.old.view.table ≡ table.now.table }
     requires maker { maker.old.view.who ≡ Maker }
     requires given { maker.old.view.given ≡ maker.old.view.made }
     requires few { maker.old.view.made < caller_limit }
     ensures ready { IsReady result }
-    ensures same_table { result.token.table ≡ table.now.table }
-    ensures maker_table { maker.new.table ≡ table.now.table }
+    ensures same_table { result.token.view.table ≡ table.now.table }
+    ensures maker_table { maker.new.view.table ≡ table.now.table }
     ensures made { (maker.new.view.who ≡ Maker) × (maker.new.view.made ≡ maker.old.view.made + 1) }
     ensures given { maker.new.view.given ≡ maker.new.view.made }
 {
@@ -48,9 +48,9 @@ pub(crate) fn enter_call(table: &TreeTable, maker: &mut TreeToken) -> Caller
 
 // Returns the word in the anchor's slot.
 fn slot_word(table: &TreeTable, who: &mut Caller) -> u64
-    requires same_table { who.old.token.table ≡ table.now.table }
+    requires same_table { who.old.token.view.table ≡ table.now.table }
     requires ready { IsReady who.old }
-    ensures same_table { who.new.token.table ≡ table.now.table }
+    ensures same_table { who.new.token.view.table ≡ table.now.table }
     ensures ready { IsReady who.new }
     ensures holds { SlotHolds (now who.new.token.view) anchor 0 result }
 {
@@ -61,9 +61,9 @@ fn slot_word(table: &TreeTable, who: &mut Caller) -> u64
 
 /// Returns the inner row below the anchor, if there is one: a rebuild of it may be started.
 pub(crate) fn see_row(table: &TreeTable, who: &mut Caller) -> Option<u32>
-    requires same_table { who.old.token.table ≡ table.now.table }
+    requires same_table { who.old.token.view.table ≡ table.now.table }
     requires ready { IsReady who.old }
-    ensures same_table { who.new.token.table ≡ table.now.table }
+    ensures same_table { who.new.token.view.table ≡ table.now.table }
     ensures ready { IsReady who.new }
     ensures may_start { IfSome result (MayStart who.new.token.view anchor 0) }
 {
@@ -77,10 +77,10 @@ pub(crate) fn see_row(table: &TreeTable, who: &mut Caller) -> Option<u32>
 
 /// Starts a rebuild of the row that the caller has seen below the anchor.
 pub(crate) fn begin(table: &TreeTable, who: &mut Caller, target: u32) -> Result<Started, Full>
-    requires same_table { who.old.token.table ≡ table.now.table }
+    requires same_table { who.old.token.view.table ≡ table.now.table }
     requires ready { IsReady who.old }
     requires may_start { MayStart who.old.token.view anchor 0 target }
-    ensures same_table { who.new.token.table ≡ table.now.table }
+    ensures same_table { who.new.token.view.table ≡ table.now.table }
     ensures ready { IsReady who.new }
     ensures started { (rebuild : ℕ) → result ≡ Ok (Yes rebuild)
         → IsStarted (now who.new.token.view) rebuild }
@@ -90,9 +90,9 @@ pub(crate) fn begin(table: &TreeTable, who: &mut Caller, target: u32) -> Result<
 
 /// Returns the rebuild below the anchor, if there is one.
 pub(crate) fn see_rebuild(table: &TreeTable, who: &mut Caller) -> Option<u32>
-    requires same_table { who.old.token.table ≡ table.now.table }
+    requires same_table { who.old.token.view.table ≡ table.now.table }
     requires ready { IsReady who.old }
-    ensures same_table { who.new.token.table ≡ table.now.table }
+    ensures same_table { who.new.token.view.table ≡ table.now.table }
     ensures ready { IsReady who.new }
     ensures started { IfSome result (IsStarted (now who.new.token.view)) }
 {
@@ -106,10 +106,10 @@ pub(crate) fn see_rebuild(table: &TreeTable, who: &mut Caller) -> Option<u32>
 
 /// Marks the target of the rebuild, and counts its keys.
 pub(crate) fn mark(table: &TreeTable, who: &mut Caller, rebuild: u32) -> Marked
-    requires same_table { who.old.token.table ≡ table.now.table }
+    requires same_table { who.old.token.view.table ≡ table.now.table }
     requires ready { IsReady who.old }
     requires started { IsStarted (now who.old.token.view) rebuild }
-    ensures same_table { who.new.token.table ≡ table.now.table }
+    ensures same_table { who.new.token.view.table ≡ table.now.table }
     ensures ready { IsReady who.new }
     ensures marked { HasMarkedTarget (now who.new.token.view) rebuild result.target result.keys }
     ensures started { IsStarted (now who.new.token.view) rebuild }
@@ -123,10 +123,10 @@ pub(crate) fn mark(table: &TreeTable, who: &mut Caller, rebuild: u32) -> Marked
 
 /// Gives the rebuild its root.
 pub(crate) fn set(table: &TreeTable, who: &mut Caller, rebuild: u32) -> Result<Ref, Full>
-    requires same_table { who.old.token.table ≡ table.now.table }
+    requires same_table { who.old.token.view.table ≡ table.now.table }
     requires ready { IsReady who.old }
     requires buildable { IsBuildable (now who.old.token.view) rebuild }
-    ensures same_table { who.new.token.table ≡ table.now.table }
+    ensures same_table { who.new.token.view.table ≡ table.now.table }
     ensures ready { IsReady who.new }
     ensures buildable { IsBuildable (now who.new.token.view) rebuild }
     ensures started { IsStarted (now who.new.token.view) rebuild }
@@ -138,11 +138,10 @@ pub(crate) fn set(table: &TreeTable, who: &mut Caller, rebuild: u32) -> Result<R
 
 /// Fills the parts of the rebuild's root.
 pub(crate) fn fill_all(table: &TreeTable, who: &mut Caller, rebuild: u32) -> Result<(), Full>
-    requires same_table { who.old.token.table ≡ table.now.table }
+    requires same_table { who.old.token.view.table ≡ table.now.table }
     requires ready { IsReady who.old }
     requires buildable { IsBuildable (now who.old.token.view) rebuild }
     requires rooted { IsRooted (now who.old.token.view) rebuild }
-    ensures same_table { who.new.token.table ≡ table.now.table }
     ensures ready { IsReady who.new }
 {
     know(&who.token);
@@ -151,10 +150,10 @@ pub(crate) fn fill_all(table: &TreeTable, who: &mut Caller, rebuild: u32) -> Res
 
 /// Helps the rebuild until it is done.
 pub(crate) fn help_on(table: &TreeTable, who: &mut Caller, rebuild: u32) -> Result<Helped, Full>
-    requires same_table { who.old.token.table ≡ table.now.table }
+    requires same_table { who.old.token.view.table ≡ table.now.table }
     requires ready { IsReady who.old }
     requires started { IsStarted (now who.old.token.view) rebuild }
-    ensures same_table { who.new.token.table ≡ table.now.table }
+    ensures same_table { who.new.token.view.table ≡ table.now.table }
     ensures ready { IsReady who.new }
     ensures started { IsStarted (now who.new.token.view) rebuild }
 {

@@ -16,9 +16,9 @@ use std::alloc::Global;
 // The row at which the inner row in the anchor's slot lies, for which the caller gives up its pair row,
 // if that lies lower.
 fn give_up(table: &TreeTable, who: &mut Caller) -> Option<u32>
-    requires same_table { who.old.token.table ≡ table.now.table }
+    requires same_table { who.old.token.view.table ≡ table.now.table }
     requires caller { IsCaller who.old }
-    ensures same_table { who.new.token.table ≡ table.now.table }
+    ensures same_table { who.new.token.view.table ≡ table.now.table }
     ensures caller { IsCaller who.new }
 {
     begin_search(table, &mut who.token);
@@ -39,9 +39,9 @@ fn give_up(table: &TreeTable, who: &mut Caller) -> Option<u32>
 type Seen = (Result<u32, Full>, Option<u32>, Result<u32, Full>);
 
 fn reserve_again(table: &TreeTable, low: &mut Caller, other: &mut Caller) -> Option<Seen>
-    requires same_table { low.old.token.table ≡ table.now.table }
+    requires same_table { low.old.token.view.table ≡ table.now.table }
     requires caller { IsCaller low.old }
-    requires other_table { other.old.token.table ≡ table.now.table }
+    requires other_table { other.old.token.view.table ≡ table.now.table }
     requires other_pass { IsPass other.old }
 {
     let held = reserve(table, low, Kind::Pair);

@@ -32,10 +32,10 @@ fn see_in(
     who: &mut Caller,
     removes: &[(u64, Option<u64>)],
 ) -> Option<Seen>
-    requires maker_table { maker.old.table ≡ table.now.table }
-    requires most_table { most.old.token.table ≡ table.now.table }
+    requires maker_table { maker.old.view.table ≡ table.now.table }
+    requires most_table { most.old.token.view.table ≡ table.now.table }
     requires most_pass { IsPass most.old }
-    requires who_table { who.old.token.table ≡ table.now.table }
+    requires who_table { who.old.token.view.table ≡ table.now.table }
     requires who_ready { IsReady who.old }
 {
     if !update_all(table, most, removes) {

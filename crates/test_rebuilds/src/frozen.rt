@@ -47,8 +47,8 @@ struct Seen {
 
 // The tags of the first three slots of the row over all pairs, which lies at 4 and has 14 of them.
 fn tags(table: &TreeTable, token: &mut TreeToken) -> (u64, u64, u64)
-    requires same_table { token.old.table ≡ table.now.table }
-    ensures same_table { token.new.table ≡ table.now.table }
+    requires same_table { token.old.view.table ≡ table.now.table }
+    ensures same_table { token.new.view.table ≡ table.now.table }
 {
     (
         word_at(table, token, 21) % 8,
@@ -67,10 +67,10 @@ fn build_over(
     pairs: &[Pair],
     image: &[u64],
 ) -> Result<(bool, bool), AllocError>
-    requires maker_table { maker.old.table ≡ table.now.table }
-    requires same_table { builder.old.token.table ≡ table.now.table }
+    requires maker_table { maker.old.view.table ≡ table.now.table }
+    requires same_table { builder.old.token.view.table ≡ table.now.table }
     requires ready { IsReady builder.old }
-    ensures maker_table { maker.new.table ≡ table.now.table }
+    ensures maker_table { maker.new.view.table ≡ table.now.table }
 {
     let Some(rebuild) = see_rebuild(table, builder) else {
         return Ok((false, false));
@@ -88,7 +88,7 @@ fn end_late(
     put: LatePut,
     installed: Option<Installed>,
 ) -> Option<Decision>
-    requires same_table { who.old.token.table ≡ table.now.table }
+    requires same_table { who.old.token.view.table ≡ table.now.table }
     requires helped { installed ≡ Some Yes → MayHelp who.old.token.view put.change }
 {
     match installed {
@@ -108,11 +108,11 @@ fn rebuild_over(
     rebuild: u32,
     map: &Plain,
 ) -> Result<Rebuilt, OpenFault>
-    requires maker_table { maker.old.table ≡ table.now.table }
-    requires helper_table { helper.old.token.table ≡ table.now.table }
+    requires maker_table { maker.old.view.table ≡ table.now.table }
+    requires helper_table { helper.old.token.view.table ≡ table.now.table }
     requires helper { IsReady helper.old }
     requires started { IsStarted (now helper.old.token.view) rebuild }
-    requires builder_table { builder.old.token.table ≡ table.now.table }
+    requires builder_table { builder.old.token.view.table ≡ table.now.table }
     requires builder { IsReady builder.old }
 {
     let pairs = map.pairs();
@@ -130,9 +130,9 @@ fn rebuild_over(
 
 // Installs the late put, if there is one.
 fn may_install(table: &TreeTable, who: &mut Caller, put: LatePut, late: bool) -> Option<Installed>
-    requires same_table { who.old.token.table ≡ table.now.table }
+    requires same_table { who.old.token.view.table ≡ table.now.table }
     requires filled { IsFilled who.old put.change put.leaf put.row }
-    ensures same_table { who.new.token.table ≡ table.now.table }
+    ensures same_table { who.new.token.view.table ≡ table.now.table }
     ensures may_help { result ≡ Some Yes → MayHelp who.new.token.view put.change }
 {
     if late {
@@ -149,14 +149,14 @@ fn freeze(
     helper: &mut Caller,
     late: bool,
 ) -> Option<(LatePut, Option<Installed>, u32)>
-    requires last_table { last.old.token.table ≡ table.now.table }
+    requires last_table { last.old.token.view.table ≡ table.now.table }
     requires last_pass { IsPass last.old }
-    requires helper_table { helper.old.token.table ≡ table.now.table }
+    requires helper_table { helper.old.token.view.table ≡ table.now.table }
     requires helper_ready { IsReady helper.old }
-    ensures last_table { last.new.token.table ≡ table.now.table }
+    ensures last_table { last.new.token.view.table ≡ table.now.table }
     ensures may_help { IfSome result (λ frozen. frozen.1 ≡ Some Yes
         → MayHelp last.new.token.view frozen.0.change) }
-    ensures helper_table { helper.new.token.table ≡ table.now.table }
+    ensures helper_table { helper.new.token.view.table ≡ table.now.table }
     ensures helper_ready { IsReady helper.new }
     ensures started { IfSome result (λ frozen. IsStarted (now helper.new.token.view) frozen.2) }
 {
@@ -181,12 +181,12 @@ fn see_late(
     builder: &mut Caller,
     shape: Shape,
 ) -> Result<Option<Seen>, OpenFault>
-    requires maker_table { maker.old.table ≡ table.now.table }
-    requires last_table { last.old.token.table ≡ table.now.table }
+    requires maker_table { maker.old.view.table ≡ table.now.table }
+    requires last_table { last.old.token.view.table ≡ table.now.table }
     requires last_pass { IsPass last.old }
-    requires helper_table { helper.old.token.table ≡ table.now.table }
+    requires helper_table { helper.old.token.view.table ≡ table.now.table }
     requires helper_ready { IsReady helper.old }
-    requires builder_table { builder.old.token.table ≡ table.now.table }
+    requires builder_table { builder.old.token.view.table ≡ table.now.table }
     requires builder_ready { IsReady builder.old }
 {
     let Some((put, installed, rebuild)) = freeze(table, last, helper, shape.late) else {
@@ -210,7 +210,7 @@ fn see_in(
     maker: &mut TreeToken,
     shape: Shape,
 ) -> Result<Option<Seen>, OpenFault>
-    requires same_table { maker.old.table ≡ table.now.table }
+    requires same_table { maker.old.view.table ≡ table.now.table }
     requires maker { maker.old.view.who ≡ Maker }
     requires given { maker.old.view.given ≡ maker.old.view.made }
     requires made { maker.old.view.made ≡ 0 }

@@ -58,8 +58,8 @@ fn inner_in(word: u64) -> Option<u32>
 // Walks to the slot of the key in the row below the anchor, if there is such a row, and no row
 // below it.
 fn walk(table: &TreeTable, token: &mut TreeToken, key: u64) -> Option<Slot>
-    requires same_table { token.old.table ≡ table.now.table }
-    ensures same_table { token.new.table ≡ table.now.table }
+    requires same_table { token.old.view.table ≡ table.now.table }
+    ensures same_table { token.new.view.table ≡ table.now.table }
     ensures walked { IfSome result (λ slot.
         HasReachedSlot token.old.view key slot.node slot.index slot.word token.new.view) }
 {
@@ -82,9 +82,8 @@ fn walk(table: &TreeTable, token: &mut TreeToken, key: u64) -> Option<Slot>
 
 // Returns the key of the leaf at the base.
 fn leaf_key(table: &TreeTable, token: &mut TreeToken, base: u32) -> u64
-    requires same_table { token.old.table ≡ table.now.table }
+    requires same_table { token.old.view.table ≡ table.now.table }
     requires leaf { SeesLeaf token.old.view base }
-    ensures same_table { token.new.table ≡ table.now.table }
     ensures seen { GoesOnTo token.old.view token.new.view }
     ensures key { IsLeafOf (now token.new.view) base result }
 {
@@ -94,9 +93,8 @@ fn leaf_key(table: &TreeTable, token: &mut TreeToken, base: u32) -> u64
 
 // Returns whether the slot held a leaf of the key.
 fn has_leaf(table: &TreeTable, token: &mut TreeToken, slot: Slot, key: u64) -> bool
-    requires same_table { token.old.table ≡ table.now.table }
+    requires same_table { token.old.view.table ≡ table.now.table }
     requires at { IsAtSlot token.old.view key slot.node slot.index slot.word }
-    ensures same_table { token.new.table ≡ table.now.table }
     ensures seen { GoesOnTo token.old.view token.new.view }
     ensures room { result ≡ true → HasRoomFor (now token.new.view) key slot.word }
 {
@@ -113,10 +111,9 @@ fn has_leaf(table: &TreeTable, token: &mut TreeToken, slot: Slot, key: u64) -> b
 
 // Returns the row of this kind that the caller holds, or a fresh one.
 fn take(table: &TreeTable, who: &mut Caller, kind: Kind) -> Result<u32, Full>
-    requires same_table { who.old.token.table ≡ table.now.table }
+    requires same_table { who.old.token.view.table ≡ table.now.table }
     requires caller { IsCaller who.old }
     requires refused { HasRefused who.old }
-    ensures same_table { who.new.token.table ≡ table.now.table }
     ensures gone { HasGone Prepares who.old who.new }
     ensures held { IfOk result (λ base. row_of kind (spares_of who.new) ≡ Some base) }
     ensures rows { IfOk result (λ base.
@@ -136,10 +133,10 @@ fn plan(
     key: u64,
     value: u64,
 ) -> Result<LatePut, Full>
-    requires same_table { who.old.token.table ≡ table.now.table }
+    requires same_table { who.old.token.view.table ≡ table.now.table }
     requires caller { IsCaller who.old }
     requires refused { HasRefused who.old }
-    ensures same_table { who.new.token.table ≡ table.now.table }
+    ensures same_table { who.new.token.view.table ≡ table.now.table }
     ensures gone { IfOk result (λ put. HasGone Prepares who.old who.new) }
     ensures rows { IfOk result (λ put. HasBoth who.new put.change put.leaf) }
     ensures good { IfOk result (λ put. IsGoodBase put.leaf) }
@@ -164,10 +161,9 @@ fn plan(
 
 // Fills both rows of the put.
 fn fill_both(table: &TreeTable, who: &mut Caller, put: LatePut)
-    requires same_table { who.old.token.table ≡ table.now.table }
+    requires same_table { who.old.token.view.table ≡ table.now.table }
     requires caller { IsCaller who.old }
     requires rows { HasBoth who.old put.change put.leaf }
-    ensures same_table { who.new.token.table ≡ table.now.table }
     ensures caller { IsCaller who.new }
     ensures same { who.new ≡ with_own who.old who.new.token.view.own }
     ensures stored { StoredAll who.new.token.view
@@ -199,11 +195,11 @@ fn fill_for(
     key: u64,
     value: u64,
 ) -> Option<LatePut>
-    requires same_table { who.old.token.table ≡ table.now.table }
+    requires same_table { who.old.token.view.table ≡ table.now.table }
     requires asked { IsAsked who.old (Put key value) }
     requires at_slot { WasAt who.old.token.view key slot.node slot.index slot.word }
     requires room { HasRoomFor (now who.old.token.view) key slot.word }
-    ensures same_table { who.new.token.table ≡ table.now.table }
+    ensures same_table { who.new.token.view.table ≡ table.now.table }
     ensures filled { IfSome result (λ put. IsFilled who.new put.change put.leaf put.row) }
 {
     if !is_open(table, &mut who.token, slot.node) {
@@ -220,9 +216,9 @@ fn fill_for(
 /// Begins a put of the value at the key, whose leaf is in a slot of the row below the anchor. Makes all
 /// steps before the install, and no further step.
 pub(crate) fn prepare(table: &TreeTable, who: &mut Caller, key: u64, value: u64) -> Option<LatePut>
-    requires same_table { who.old.token.table ≡ table.now.table }
+    requires same_table { who.old.token.view.table ≡ table.now.table }
     requires pass { IsPass who.old }
-    ensures same_table { who.new.token.table ≡ table.now.table }
+    ensures same_table { who.new.token.view.table ≡ table.now.table }
     ensures filled { IfSome result (λ put. IsFilled who.new put.change put.leaf put.row) }
 {
     ask(table, who, key, Some(value));
@@ -239,10 +235,10 @@ pub(crate) fn prepare(table: &TreeTable, who: &mut Caller, key: u64, value: u64)
 /// Installs the change.
 pub(crate) fn install_late(table: &TreeTable, who: &mut Caller, put: LatePut) -> Installed
     ghost filling: { Filling }
-    requires same_table { who.old.token.table ≡ table.now.table }
+    requires same_table { who.old.token.view.table ≡ table.now.table }
     requires is_put { filling ≡ put_of put.leaf put.row }
     requires filled { IsFilled who.old put.change put.leaf put.row }
-    ensures same_table { who.new.token.table ≡ table.now.table }
+    ensures same_table { who.new.token.view.table ≡ table.now.table }
     ensures may_help { result ≡ Yes → MayHelp who.new.token.view put.change }
 {
     know(&who.token);

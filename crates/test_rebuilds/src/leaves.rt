@@ -29,11 +29,11 @@ fn base_of(reference: Ref) -> u32 {
 
 // Returns the base of the leaf number `i` of the finished target.
 fn leaf_base(table: &TreeTable, who: &mut Caller, rebuild: u32, marked: Marked, i: u64) -> u32
-    requires same_table { who.old.token.table ≡ table.now.table }
+    requires same_table { who.old.token.view.table ≡ table.now.table }
     requires ready { IsReady who.old }
     requires marked { HasMarkedTarget (now who.old.token.view) rebuild marked.target marked.keys }
     requires within { i < marked.keys }
-    ensures same_table { who.new.token.table ≡ table.now.table }
+    ensures same_table { who.new.token.view.table ≡ table.now.table }
     ensures ready { IsReady who.new }
     ensures marked { HasMarkedTarget (now who.new.token.view) rebuild marked.target marked.keys }
 {
@@ -51,12 +51,12 @@ pub(crate) fn are_pairs(
     marked: Marked,
     pairs: &[Pair],
 ) -> bool
-    requires maker_table { maker.old.table ≡ table.now.table }
-    requires same_table { who.old.token.table ≡ table.now.table }
+    requires maker_table { maker.old.view.table ≡ table.now.table }
+    requires same_table { who.old.token.view.table ≡ table.now.table }
     requires ready { IsReady who.old }
     requires marked { HasMarkedTarget (now who.old.token.view) rebuild marked.target marked.keys }
-    ensures maker_table { maker.new.table ≡ table.now.table }
-    ensures same_table { who.new.token.table ≡ table.now.table }
+    ensures maker_table { maker.new.view.table ≡ table.now.table }
+    ensures same_table { who.new.token.view.table ≡ table.now.table }
     ensures ready { IsReady who.new }
     ensures marked { HasMarkedTarget (now who.new.token.view) rebuild marked.target marked.keys }
 {
@@ -72,11 +72,10 @@ pub(crate) fn are_pairs(
 
 // Builds the ideal subtree over all leaves of the finished target, in rows that stay the caller's.
 fn part(table: &TreeTable, who: &mut Caller, rebuild: u32, marked: Marked) -> Result<Ref, Full>
-    requires same_table { who.old.token.table ≡ table.now.table }
+    requires same_table { who.old.token.view.table ≡ table.now.table }
     requires ready { IsReady who.old }
     requires marked { HasMarkedTarget (now who.old.token.view) rebuild marked.target marked.keys }
     requires few { marked.keys < share_from }
-    ensures same_table { who.new.token.table ≡ table.now.table }
 {
     build_part(table, who, marked.target, 0, marked.keys)
 }
@@ -99,11 +98,11 @@ pub(crate) fn is_part(
     marked: Marked,
     image: &[u64],
 ) -> Result<bool, AllocError>
-    requires maker_table { maker.old.table ≡ table.now.table }
-    requires same_table { who.old.token.table ≡ table.now.table }
+    requires maker_table { maker.old.view.table ≡ table.now.table }
+    requires same_table { who.old.token.view.table ≡ table.now.table }
     requires ready { IsReady who.old }
     requires marked { HasMarkedTarget (now who.old.token.view) rebuild marked.target marked.keys }
-    ensures maker_table { maker.new.table ≡ table.now.table }
+    ensures maker_table { maker.new.view.table ≡ table.now.table }
 {
     if !are_few(marked.keys) {
         return Ok(false);
@@ -125,8 +124,8 @@ fn agree_in(
     last: u64,
     image: &[u64],
 ) -> Result<(bool, bool), OpenFault>
-    requires maker_table { maker.old.table ≡ table.now.table }
-    requires same_table { who.old.token.table ≡ table.now.table }
+    requires maker_table { maker.old.view.table ≡ table.now.table }
+    requires same_table { who.old.token.view.table ≡ table.now.table }
     requires ready { IsReady who.old }
     requires few { last ≤ 100000 }
 {

@@ -60,8 +60,8 @@ struct Late {
 
 // The status and the count of the row over both pairs.
 fn top_words(table: &TreeTable, token: &mut TreeToken) -> (u64, u64)
-    requires same_table { token.old.table ≡ table.now.table }
-    ensures same_table { token.new.table ≡ table.now.table }
+    requires same_table { token.old.view.table ≡ table.now.table }
+    ensures same_table { token.new.view.table ≡ table.now.table }
 {
     (word_at(table, token, 4), word_at(table, token, 5))
 }
@@ -74,10 +74,10 @@ fn put_late(
     put: LatePut,
     place: u64,
 ) -> Late
-    requires same_table { who.old.token.table ≡ table.now.table }
-    requires maker_table { maker.old.table ≡ table.now.table }
+    requires same_table { who.old.token.view.table ≡ table.now.table }
+    requires maker_table { maker.old.view.table ≡ table.now.table }
     requires filled { IsFilled who.old put.change put.leaf put.row }
-    ensures maker_table { maker.new.table ≡ table.now.table }
+    ensures maker_table { maker.new.view.table ≡ table.now.table }
 {
     let before = word_at(table, maker, place);
     let installed = install_late(table, who, put);
@@ -104,9 +104,9 @@ fn start_both(
     due: Due,
     target: u32,
 ) -> (Result<Started, Full>, Result<Started, Full>)
-    requires first_table { first.old.token.table ≡ table.now.table }
+    requires first_table { first.old.token.view.table ≡ table.now.table }
     requires due { HasDue first.old due }
-    requires second_table { second.old.token.table ≡ table.now.table }
+    requires second_table { second.old.token.view.table ≡ table.now.table }
     requires second_ready { IsReady second.old }
     requires may_start { MayStart second.old.token.view anchor 0 target }
 {
@@ -125,10 +125,10 @@ fn freeze_and_put(
     put: LatePut,
     place: u64,
 ) -> Option<Frozen>
-    requires maker_table { maker.old.table ≡ table.now.table }
-    requires third_table { third.old.token.table ≡ table.now.table }
+    requires maker_table { maker.old.view.table ≡ table.now.table }
+    requires third_table { third.old.token.view.table ≡ table.now.table }
     requires third_ready { IsReady third.old }
-    requires fourth_table { fourth.old.token.table ≡ table.now.table }
+    requires fourth_table { fourth.old.token.view.table ≡ table.now.table }
     requires filled { IsFilled fourth.old put.change put.leaf put.row }
 {
     let Some(rebuild) = see_rebuild(table, third) else {
@@ -150,11 +150,11 @@ fn see_in(
     fourth: &mut Caller,
     at: (u64, u64),
 ) -> Option<Seen>
-    requires maker_table { maker.old.table ≡ table.now.table }
-    requires first_table { first.old.token.table ≡ table.now.table }
-    requires second_table { second.old.token.table ≡ table.now.table }
-    requires third_table { third.old.token.table ≡ table.now.table }
-    requires fourth_table { fourth.old.token.table ≡ table.now.table }
+    requires maker_table { maker.old.view.table ≡ table.now.table }
+    requires first_table { first.old.token.view.table ≡ table.now.table }
+    requires second_table { second.old.token.view.table ≡ table.now.table }
+    requires third_table { third.old.token.view.table ≡ table.now.table }
+    requires fourth_table { fourth.old.token.view.table ≡ table.now.table }
     requires first_pass { IsPass first.old }
     requires second_ready { IsReady second.old }
     requires third_ready { IsReady third.old }

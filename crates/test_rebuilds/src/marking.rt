@@ -27,11 +27,11 @@ fn mark_in_turn(
     second: &mut Caller,
     rebuilds: (u32, u32),
 ) -> Turns
-    requires maker_table { maker.old.table ≡ table.now.table }
-    requires first_table { first.old.token.table ≡ table.now.table }
+    requires maker_table { maker.old.view.table ≡ table.now.table }
+    requires first_table { first.old.token.view.table ≡ table.now.table }
     requires first_ready { IsReady first.old }
     requires first_started { IsStarted (now first.old.token.view) rebuilds.0 }
-    requires second_table { second.old.token.table ≡ table.now.table }
+    requires second_table { second.old.token.view.table ≡ table.now.table }
     requires second_ready { IsReady second.old }
     requires second_started { IsStarted (now second.old.token.view) rebuilds.1 }
 {
@@ -74,7 +74,7 @@ fn two_callers_mark_one_subtree_in_turn(rt: HostRuntime) {
 
 // Returns what a caller counts that has no more to do.
 fn mark_moved(table: &TreeTable, who: Caller, rebuild: u32) -> u64
-    requires same_table { who.token.table ≡ table.now.table }
+    requires same_table { who.token.view.table ≡ table.now.table }
     requires ready { IsReady who }
     requires started { IsStarted (now who.token.view) rebuild }
 {
@@ -90,10 +90,10 @@ fn mark_beside<R: Threads + Sync>(
     second: Caller,
     rebuilds: (u32, u32),
 ) -> (u64, u64)
-    requires first_table { first.token.table ≡ table.now.table }
+    requires first_table { first.token.view.table ≡ table.now.table }
     requires first_ready { IsReady first }
     requires first_started { IsStarted (now first.token.view) rebuilds.0 }
-    requires second_table { second.token.table ≡ table.now.table }
+    requires second_table { second.token.view.table ≡ table.now.table }
     requires second_ready { IsReady second }
     requires second_started { IsStarted (now second.token.view) rebuilds.1 }
 {
@@ -101,12 +101,12 @@ fn mark_beside<R: Threads + Sync>(
     join(
         rt,
         ||
-            requires same_table { first.token.table ≡ table.now.table }
+            requires same_table { first.token.view.table ≡ table.now.table }
             requires ready { IsReady first }
             requires started { IsStarted (now first.token.view) one }
         { mark_moved(table, first, one) },
         ||
-            requires same_table { second.token.table ≡ table.now.table }
+            requires same_table { second.token.view.table ≡ table.now.table }
             requires ready { IsReady second }
             requires started { IsStarted (now second.token.view) two }
         { mark_moved(table, second, two) },

@@ -25,10 +25,10 @@ use std::alloc::{AllocError, Global};
 // Builds the root over two keys, in a row of the caller's own, and then looks whether the rebuild
 // has a root. If it has none yet, returns the word of what was built.
 fn build(table: &TreeTable, who: &mut Caller, rebuild: u32, marked: Marked) -> Option<u64>
-    requires same_table { who.old.token.table ≡ table.now.table }
+    requires same_table { who.old.token.view.table ≡ table.now.table }
     requires ready { IsReady who.old }
     requires marked { HasMarkedTarget (now who.old.token.view) rebuild marked.target marked.keys }
-    ensures same_table { who.new.token.table ≡ table.now.table }
+    ensures same_table { who.new.token.view.table ≡ table.now.table }
     ensures built { IfSome result (HoldsRoot who.new.token.view who.new.number rebuild) }
 {
     know(&who.token);
@@ -54,9 +54,8 @@ fn build(table: &TreeTable, who: &mut Caller, rebuild: u32, marked: Marked) -> O
 // Gives the rebuild the root that was built, if it has none, and otherwise loses the row. Returns
 // the word found there.
 fn root_or_lose(table: &TreeTable, who: &mut Caller, rebuild: u32, word: u64) -> u64
-    requires same_table { who.old.token.table ≡ table.now.table }
+    requires same_table { who.old.token.view.table ≡ table.now.table }
     requires built { HoldsRoot who.old.token.view who.old.number rebuild word }
-    ensures same_table { who.new.token.table ≡ table.now.table }
     ensures rooted_or_lost { let v = who.old.token.view in
         let place = rebuild + rebuild_root_offset in
         let events = racing_at v place word in
@@ -84,8 +83,8 @@ fn race(
     rebuild: u32,
     again: u32,
 ) -> Option<Raced>
-    requires first_table { first.old.token.table ≡ table.now.table }
-    requires second_table { second.old.token.table ≡ table.now.table }
+    requires first_table { first.old.token.view.table ≡ table.now.table }
+    requires second_table { second.old.token.view.table ≡ table.now.table }
     requires first_ready { IsReady first.old }
     requires second_ready { IsReady second.old }
     requires first_started { IsStarted (now first.old.token.view) rebuild }
@@ -109,7 +108,7 @@ fn race(
 
 // Returns the root that the rebuild has, and whether the root then replaces the target.
 fn end(table: &TreeTable, who: &mut Caller, rebuild: u32) -> (Option<Ref>, bool)
-    requires same_table { who.old.token.table ≡ table.now.table }
+    requires same_table { who.old.token.view.table ≡ table.now.table }
     requires ready { IsReady who.old }
     requires started { IsStarted (now who.old.token.view) rebuild }
 {
@@ -125,7 +124,7 @@ fn names_lost(
     maker: &mut TreeToken,
     raced: Option<Raced>,
 ) -> Result<bool, AllocError>
-    requires same_table { maker.old.table ≡ table.now.table }
+    requires same_table { maker.old.view.table ≡ table.now.table }
 {
     let lost = match raced {
         Some(raced) => raced.built.1,
@@ -158,10 +157,10 @@ fn see_in(
     second: &mut Caller,
     image: &[u64],
 ) -> Result<Option<Seen>, OpenFault>
-    requires maker_table { maker.old.table ≡ table.now.table }
-    requires starter_table { starter.old.token.table ≡ table.now.table }
-    requires first_table { first.old.token.table ≡ table.now.table }
-    requires second_table { second.old.token.table ≡ table.now.table }
+    requires maker_table { maker.old.view.table ≡ table.now.table }
+    requires starter_table { starter.old.token.view.table ≡ table.now.table }
+    requires first_table { first.old.token.view.table ≡ table.now.table }
+    requires second_table { second.old.token.view.table ≡ table.now.table }
     requires starter_ready { IsReady starter.old }
     requires first_ready { IsReady first.old }
     requires second_ready { IsReady second.old }

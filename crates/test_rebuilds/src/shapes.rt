@@ -77,11 +77,11 @@ fn shrink(
     rest: &mut Caller,
     first: u64,
 ) -> Result<bool, AllocError>
-    requires same_table { most.old.token.table ≡ table.now.table }
+    requires same_table { most.old.token.view.table ≡ table.now.table }
     requires pass { IsPass most.old }
-    requires its_table { rest.old.token.table ≡ table.now.table }
+    requires its_table { rest.old.token.view.table ≡ table.now.table }
     requires its_pass { IsPass rest.old }
-    ensures same_table { most.new.token.table ≡ table.now.table }
+    ensures same_table { most.new.token.view.table ≡ table.now.table }
     ensures pass { result ≡ Ok true → IsPass most.new }
 {
     let last = first.saturating_add(14);
@@ -100,11 +100,11 @@ fn start_second(
     most: &mut Caller,
     starter: &mut Caller,
 ) -> Result<bool, AllocError>
-    requires same_table { most.old.token.table ≡ table.now.table }
+    requires same_table { most.old.token.view.table ≡ table.now.table }
     requires pass { IsPass most.old }
-    requires its_table { starter.old.token.table ≡ table.now.table }
+    requires its_table { starter.old.token.view.table ≡ table.now.table }
     requires its_pass { IsPass starter.old }
-    ensures same_table { most.new.token.table ≡ table.now.table }
+    ensures same_table { most.new.token.view.table ≡ table.now.table }
     ensures pass { result ≡ Ok true → IsPass most.new }
 {
     let updates = puts(alloc, 16, 7)?;
@@ -150,13 +150,13 @@ fn bring(
     third: &mut Caller,
     shape: Shape,
 ) -> Result<bool, OpenFault>
-    requires same_table { most.old.token.table ≡ table.now.table }
+    requires same_table { most.old.token.view.table ≡ table.now.table }
     requires pass { IsPass most.old }
-    requires first_table { first.old.token.table ≡ table.now.table }
+    requires first_table { first.old.token.view.table ≡ table.now.table }
     requires first_pass { IsPass first.old }
-    requires second_table { second.old.token.table ≡ table.now.table }
+    requires second_table { second.old.token.view.table ≡ table.now.table }
     requires second_pass { IsPass second.old }
-    requires third_table { third.old.token.table ≡ table.now.table }
+    requires third_table { third.old.token.view.table ≡ table.now.table }
     requires third_pass { IsPass third.old }
 {
     if !shrink(table, alloc, most, first, 1)? || !shrink(table, alloc, most, third, 31)? {
@@ -176,11 +176,11 @@ pub(crate) fn bring_in(
     maker: &mut TreeToken,
     shape: Shape,
 ) -> Result<bool, OpenFault>
-    requires same_table { maker.old.table ≡ table.now.table }
+    requires same_table { maker.old.view.table ≡ table.now.table }
     requires maker { maker.old.view.who ≡ Maker }
     requires given { maker.old.view.given ≡ maker.old.view.made }
     requires made { maker.old.view.made ≡ 0 }
-    ensures same_table { maker.new.table ≡ table.now.table }
+    ensures same_table { maker.new.view.table ≡ table.now.table }
     ensures maker { maker.new.view.who ≡ Maker }
     ensures given { maker.new.view.given ≡ maker.new.view.made }
     ensures made { maker.new.view.made ≡ 4 }

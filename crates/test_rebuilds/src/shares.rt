@@ -18,9 +18,9 @@ use std::thread::{Threads, join};
 
 /// Starts a rebuild of what is below the anchor.
 pub(crate) fn begin_top(table: &TreeTable, who: &mut Caller) -> Option<u32>
-    requires same_table { who.old.token.table ≡ table.now.table }
+    requires same_table { who.old.token.view.table ≡ table.now.table }
     requires ready { IsReady who.old }
-    ensures same_table { who.new.token.table ≡ table.now.table }
+    ensures same_table { who.new.token.view.table ≡ table.now.table }
     ensures ready { IsReady who.new }
     ensures started { IfSome result (IsStarted (now who.new.token.view)) }
 {
@@ -35,8 +35,8 @@ pub(crate) fn begin_top(table: &TreeTable, who: &mut Caller) -> Option<u32>
 
 // How many slots the row at the base has, and how many of them are Unset.
 fn unset_slots(table: &TreeTable, token: &mut TreeToken, base: u32) -> (u64, u64)
-    requires same_table { token.old.table ≡ table.now.table }
-    ensures same_table { token.new.table ≡ table.now.table }
+    requires same_table { token.old.view.table ≡ table.now.table }
+    ensures same_table { token.new.view.table ≡ table.now.table }
 {
     let base = u64::from(base);
     let degree = word_at(table, token, base + 2);
@@ -65,7 +65,7 @@ struct Shared {
 
 // Sets the root of the rebuild that the caller finds, and fills its parts. Returns the root.
 fn fill_found(table: &TreeTable, who: &mut Caller) -> Option<Ref>
-    requires same_table { who.old.token.table ≡ table.now.table }
+    requires same_table { who.old.token.view.table ≡ table.now.table }
     requires ready { IsReady who.old }
 {
     let Some(seen) = see_rebuild(table, who) else {
@@ -90,10 +90,10 @@ fn share_in(
     second: &mut Caller,
     image: &[u64],
 ) -> Result<Option<Shared>, OpenFault>
-    requires maker_table { maker.old.table ≡ table.now.table }
-    requires first_table { first.old.token.table ≡ table.now.table }
+    requires maker_table { maker.old.view.table ≡ table.now.table }
+    requires first_table { first.old.token.view.table ≡ table.now.table }
     requires first_ready { IsReady first.old }
-    requires second_table { second.old.token.table ≡ table.now.table }
+    requires second_table { second.old.token.view.table ≡ table.now.table }
     requires second_ready { IsReady second.old }
 {
     let Some(rebuild) = begin_top(table, first) else {
@@ -172,7 +172,7 @@ struct Beside {
 
 // Helps a rebuild by a caller that has no more to do. Returns whether it was replaced.
 fn help_moved(table: &TreeTable, who: Caller, rebuild: u32) -> bool
-    requires same_table { who.token.table ≡ table.now.table }
+    requires same_table { who.token.view.table ≡ table.now.table }
     requires ready { IsReady who }
     requires started { IsStarted (now who.token.view) rebuild }
 {
@@ -188,10 +188,10 @@ fn help_beside<R: Threads + Sync>(
     second: Caller,
     rebuilds: (u32, u32),
 ) -> (bool, bool)
-    requires first_table { first.token.table ≡ table.now.table }
+    requires first_table { first.token.view.table ≡ table.now.table }
     requires first_ready { IsReady first }
     requires first_started { IsStarted (now first.token.view) rebuilds.0 }
-    requires second_table { second.token.table ≡ table.now.table }
+    requires second_table { second.token.view.table ≡ table.now.table }
     requires second_ready { IsReady second }
     requires second_started { IsStarted (now second.token.view) rebuilds.1 }
 {
@@ -199,12 +199,12 @@ fn help_beside<R: Threads + Sync>(
     join(
         rt,
         ||
-            requires same_table { first.token.table ≡ table.now.table }
+            requires same_table { first.token.view.table ≡ table.now.table }
             requires ready { IsReady first }
             requires started { IsStarted (now first.token.view) one }
         { help_moved(table, first, one) },
         ||
-            requires same_table { second.token.table ≡ table.now.table }
+            requires same_table { second.token.view.table ≡ table.now.table }
             requires ready { IsReady second }
             requires started { IsStarted (now second.token.view) two }
         { help_moved(table, second, two) },

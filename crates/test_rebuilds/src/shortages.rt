@@ -26,8 +26,8 @@ struct Came {
 
 // Rebuilds the whole table. Returns why that was refused, if it was, and the word of the rebuild's root.
 fn rebuild_in(table: &TreeTable, maker: &mut TreeToken, who: &mut Caller) -> (Option<Full>, u64)
-    requires maker_table { maker.old.table ≡ table.now.table }
-    requires same_table { who.old.token.table ≡ table.now.table }
+    requires maker_table { maker.old.view.table ≡ table.now.table }
+    requires same_table { who.old.token.view.table ≡ table.now.table }
     requires ready { IsReady who.old }
 {
     let Some(target) = see_row(table, who) else {

@@ -38,10 +38,10 @@ fn still_in(
     first: &mut Caller,
     second: &mut Caller,
 ) -> Still
-    requires maker_table { maker.old.table ≡ table.now.table }
-    requires first_table { first.old.token.table ≡ table.now.table }
+    requires maker_table { maker.old.view.table ≡ table.now.table }
+    requires first_table { first.old.token.view.table ≡ table.now.table }
     requires first_ready { IsReady first.old }
-    requires second_table { second.old.token.table ≡ table.now.table }
+    requires second_table { second.old.token.view.table ≡ table.now.table }
     requires second_pass { IsPass second.old }
 {
     let rebuild = begin_top(table, first);
@@ -107,10 +107,10 @@ fn help_where(
     rebuild: u32,
     at_once: bool,
 ) -> Option<Result<Helped, Full>>
-    requires same_table { who.old.token.table ≡ table.now.table }
+    requires same_table { who.old.token.view.table ≡ table.now.table }
     requires ready { IsReady who.old }
     requires started { IsStarted (now who.old.token.view) rebuild }
-    ensures same_table { who.new.token.table ≡ table.now.table }
+    ensures same_table { who.new.token.view.table ≡ table.now.table }
     ensures ready { IsReady who.new }
     ensures started { IsStarted (now who.new.token.view) rebuild }
 {
@@ -140,10 +140,10 @@ fn help_both(
     rebuilds: (u32, u32),
     early: bool,
 ) -> (Option<Result<Helped, Full>>, u64, Result<Helped, Full>)
-    requires low_table { low.old.token.table ≡ table.now.table }
+    requires low_table { low.old.token.view.table ≡ table.now.table }
     requires low_ready { IsReady low.old }
     requires low_started { IsStarted (now low.old.token.view) rebuilds.0 }
-    requires high_table { high.old.token.table ≡ table.now.table }
+    requires high_table { high.old.token.view.table ≡ table.now.table }
     requires high_ready { IsReady high.old }
     requires high_started { IsStarted (now high.old.token.view) rebuilds.1 }
 {
@@ -165,12 +165,12 @@ fn rebuild_both(
     high: &mut Caller,
     early: bool,
 ) -> Result<Option<Both>, OpenFault>
-    requires maker_table { maker.old.table ≡ table.now.table }
-    requires most_table { most.old.token.table ≡ table.now.table }
+    requires maker_table { maker.old.view.table ≡ table.now.table }
+    requires most_table { most.old.token.view.table ≡ table.now.table }
     requires most_pass { IsPass most.old }
-    requires low_table { low.old.token.table ≡ table.now.table }
+    requires low_table { low.old.token.view.table ≡ table.now.table }
     requires low_pass { IsPass low.old }
-    requires high_table { high.old.token.table ≡ table.now.table }
+    requires high_table { high.old.token.view.table ≡ table.now.table }
     requires high_ready { IsReady high.old }
 {
     let Some((due, below)) = start_after(table, most, low, &SEVEN, 16, Some(8)) else {

@@ -25,7 +25,7 @@ fn open_rising(alloc: Global, pairs: &[Pair], words: u64) -> Result<Opened, Open
     requires rising { IsStrictlyIncreasing (map (λ pair. pair.key) pairs.now) }
     requires few { length pairs.now < 2 ^ 32 }
     requires within { words ≤ place_limit }
-    ensures same_table { IfOk result (λ o. o.maker.table ≡ o.table.table) }
+    ensures same_table { IfOk result (λ o. o.maker.view.table ≡ o.table.table) }
     ensures maker { IfOk result (λ o. o.maker.view.who ≡ Maker) }
     ensures given { IfOk result (λ o. o.maker.view.given ≡ o.maker.view.made) }
     ensures made { IfOk result (λ o. o.maker.view.made ≡ 0) }
@@ -47,7 +47,7 @@ fn open_rising(alloc: Global, pairs: &[Pair], words: u64) -> Result<Opened, Open
 /// A table of these pairs.
 pub(crate) fn open(alloc: Global, pairs: &[Pair], words: u64) -> Result<Opened, OpenFault>
     requires within { words ≤ place_limit }
-    ensures same_table { IfOk result (λ o. o.maker.table ≡ o.table.table) }
+    ensures same_table { IfOk result (λ o. o.maker.view.table ≡ o.table.table) }
     ensures maker { IfOk result (λ o. o.maker.view.who ≡ Maker) }
     ensures given { IfOk result (λ o. o.maker.view.given ≡ o.maker.view.made) }
     ensures made { IfOk result (λ o. o.maker.view.made ≡ 0) }
@@ -79,7 +79,7 @@ pub(crate) fn numbered(alloc: Global, last: u64) -> Result<Vec<Pair>, AllocError
 pub(crate) fn open_numbered(alloc: Global, last: u64, words: u64) -> Result<Opened, OpenFault>
     requires few { last ≤ 100000 }
     requires within { words ≤ place_limit }
-    ensures same_table { IfOk result (λ o. o.maker.table ≡ o.table.table) }
+    ensures same_table { IfOk result (λ o. o.maker.view.table ≡ o.table.table) }
     ensures maker { IfOk result (λ o. o.maker.view.who ≡ Maker) }
     ensures given { IfOk result (λ o. o.maker.view.given ≡ o.maker.view.made) }
     ensures made { IfOk result (λ o. o.maker.view.made ≡ 0) }
@@ -90,8 +90,8 @@ pub(crate) fn open_numbered(alloc: Global, last: u64, words: u64) -> Result<Open
 
 /// Returns the word at the place, or the greatest `u64` if the table has none there.
 pub(crate) fn word_at(table: &TreeTable, token: &mut TreeToken, place: u64) -> u64
-    requires same_table { token.old.table ≡ table.now.table }
-    ensures same_table { token.new.table ≡ table.now.table }
+    requires same_table { token.old.view.table ≡ table.now.table }
+    ensures same_table { token.new.view.table ≡ table.now.table }
 {
     if place == ANCHOR_SLOT_PLACE {
         begin_search(table, token);
@@ -110,8 +110,8 @@ pub(crate) fn all_words(
     table: &TreeTable,
     token: &mut TreeToken,
 ) -> Result<Vec<u64>, AllocError>
-    requires same_table { token.old.table ≡ table.now.table }
-    ensures same_table { token.new.table ≡ table.now.table }
+    requires same_table { token.old.view.table ≡ table.now.table }
+    ensures same_table { token.new.view.table ≡ table.now.table }
 {
     let mut words = Vec::new(alloc);
     for place in 0..word_count(table) {
@@ -179,8 +179,7 @@ pub(crate) fn is_image(
     token: &mut TreeToken,
     image: &[u64],
 ) -> Result<bool, AllocError>
-    requires same_table { token.old.table ≡ table.now.table }
-    ensures same_table { token.new.table ≡ table.now.table }
+    requires same_table { token.old.view.table ≡ table.now.table }
 {
     let words = all_words(alloc, table, token)?;
     let roots = (*image.get(3).unwrap_or(&0), *words.get(3).unwrap_or(&0));

@@ -40,8 +40,8 @@ pub(crate) fn root_in(
     maker: &mut TreeToken,
     image: &[u64],
 ) -> Result<(Option<u64>, Option<u64>, bool), AllocError>
-    requires same_table { maker.old.table ≡ table.now.table }
-    ensures same_table { maker.new.table ≡ table.now.table }
+    requires same_table { maker.old.view.table ≡ table.now.table }
+    ensures same_table { maker.new.view.table ≡ table.now.table }
 {
     let words = all_words(alloc, table, maker)?;
     let (used, root) = (words.first().copied(), words.get(3).copied());
@@ -55,10 +55,10 @@ fn help_found(
     maker: &mut TreeToken,
     who: &mut Caller,
 ) -> Option<((u32, u32, u64, u64), Result<Helped, Full>)>
-    requires maker_table { maker.old.table ≡ table.now.table }
-    requires same_table { who.old.token.table ≡ table.now.table }
+    requires maker_table { maker.old.view.table ≡ table.now.table }
+    requires same_table { who.old.token.view.table ≡ table.now.table }
     requires ready { IsReady who.old }
-    ensures maker_table { maker.new.table ≡ table.now.table }
+    ensures maker_table { maker.new.view.table ≡ table.now.table }
 {
     let Some(seen) = see_rebuild(table, who) else {
         return None;
@@ -78,10 +78,10 @@ fn see_in(
     helper: &mut Caller,
     image: &[u64],
 ) -> Result<Option<Seen>, OpenFault>
-    requires maker_table { maker.old.table ≡ table.now.table }
-    requires starter_table { starter.old.token.table ≡ table.now.table }
+    requires maker_table { maker.old.view.table ≡ table.now.table }
+    requires starter_table { starter.old.token.view.table ≡ table.now.table }
     requires starter_ready { IsReady starter.old }
-    requires helper_table { helper.old.token.table ≡ table.now.table }
+    requires helper_table { helper.old.token.view.table ≡ table.now.table }
     requires helper_ready { IsReady helper.old }
 {
     let (Some(one), Some(two)) = (see_row(table, starter), see_row(table, helper)) else {

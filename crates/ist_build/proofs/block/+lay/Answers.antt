@@ -1,9 +1,10 @@
 use borrow.Author.Gap.{counting}
 use borrow.Author.Rules.{rules}
-use Rattle.std.proofs.Common.{ℕ, length, sym, subst, ◌∙◌, arith}
+use Rattle.std.proofs.Common.{ℕ, length, sym, ap, subst, ◌∙◌, arith}
 use Rattle.ist_core.specs.RowLayout.{inner_words}
 use Rattle.ist_core.specs.Snapshots.{HoldsRow}
 use Rattle.ist_rule.specs.Learning.{now}
+use Rattle.ist_rows.specs.declared.callers.Caller.{Caller}
 use Rattle.ist_build.specs.Midway.{IsPart}
 use Rattle.ist_build.proofs.BuildingLemmas.{held_good}
 use Rattle.ist_build.proofs.StoringLemmas.{small_end, block_first, laying_opened}
@@ -30,13 +31,11 @@ open_row-requires-clause-held t c =
     (length c.args.leaves.now) c.if-leaves-lt2.false c.requires.held).0
 
 pub loop-j-init : goal.loop-j-init
-loop-j-init t c = (
-  c.open_row.ensures.same_table,
-  laying_opened c.args.who.now c.open_row.new.who c.args.leaves.now c.args.next.now
-      c.degree-degree.result c.know.ensures.sound c.if-leaves-lt2.false
-      c.degree-degree.ensures.value c.requires.held c.requires.fresh c.open_row.ensures.stored
-      c.open_row.ensures.caller c.open_row.ensures.sound,
-)
+loop-j-init t c =
+    laying_opened c.args.who.now c.open_row.new.who c.args.leaves.now c.args.next.now
+    c.degree-degree.result c.know.ensures.sound c.if-leaves-lt2.false c.degree-degree.ensures.value
+    c.requires.held c.requires.fresh c.open_row.ensures.stored c.open_row.ensures.caller
+    c.open_row.ensures.sound
 
 -- ---- a part
 
@@ -53,41 +52,39 @@ part t c =
 -- the rows, leaves and keys of a part are what its laying asks for
 pub lay-word-requires : goal.lay-word-requires
 lay-word-requires t c =
-    let i = c.loop-j.invariant in
-    let m = i.1 in
+    let m = c.loop-j.invariant in
     let a = lay_asked c.args.who.now c.loop-j.who c.args.leaves.now c.args.keys.now c.args.next.now
     c.degree-degree.result c.loop-j.j c.loop-j.next _ _ m
     (part t (goal.at.lay-word-requires t c).After-part-part) c.requires.fresh c.requires.leaves
     c.requires.keys c.requires.many in
     let few = a.long in
+    let here = ap (λ (x : Caller). x.token.view.table) m.written.same ∙ c.requires.same_table in
     let caller = m.written.caller in (
       search (rules, counting),
-      (i.0, (caller, (a.held, (a.fresh, (a.leaves, (a.keys, (a.many, (omega arith, m.low)))))))),
+      (here, (caller, (a.held, (a.fresh, (a.leaves, (a.keys, (a.many, (omega arith, m.low)))))))),
     )
 
 -- one part more is laid
 pub loop-j-preserved : goal.loop-j-preserved
 loop-j-preserved t c =
-    let e = c.lay-word.ensures in (
-      c.set_part.ensures.same_table,
-      laying_more c.args.who.now c.loop-j.who c.lay-word.new.who c.set_part.new.who
-          c.args.leaves.now c.args.keys.now c.args.next.now c.degree-degree.result c.loop-j.j
-          c.loop-j.next c.lay-word.new.next c.lay-word.result _ _ c.loop-j.invariant.1
-          (part t (goal.at.loop-j-preserved t c).After-part-part) c.requires.keys
-          c.degree-degree.ensures.value c.loop-j-test.true e.written e.next e.low e.laid
-          c.set_part.ensures.stored c.set_part.ensures.caller c.set_part.ensures.sound,
-    )
+    let e = c.lay-word.ensures in
+    laying_more c.args.who.now c.loop-j.who c.lay-word.new.who c.set_part.new.who
+    c.args.leaves.now c.args.keys.now c.args.next.now c.degree-degree.result c.loop-j.j
+    c.loop-j.next c.lay-word.new.next c.lay-word.result _ _ c.loop-j.invariant
+    (part t (goal.at.loop-j-preserved t c).After-part-part) c.requires.keys
+    c.degree-degree.ensures.value c.loop-j-test.true e.written e.next e.low e.laid
+    c.set_part.ensures.stored c.set_part.ensures.caller c.set_part.ensures.sound
 
 -- ---- the whole
 
 pub to_word-requires : goal.to_word-requires
 to_word-requires t c =
-    let m = c.loop-j.invariant.1 in
+    let m = c.loop-j.invariant in
     record { good = held_good _ m.written.sound _ _ _ m.held }
 
 pub returns-clause-next : goal.returns-clause-next
 returns-clause-next t c =
-    c.loop-j.invariant.1.next_is
+    c.loop-j.invariant.next_is
     ∙ block_end (length c.args.leaves.now) c.args.next.now c.degree-degree.result c.loop-j.j
     c.if-leaves-lt2.false c.degree-degree.ensures.value
     (omega (arith, c.loop-j.auto.j-end, c.loop-j-test.false))
@@ -95,6 +92,6 @@ returns-clause-next t c =
 pub returns-clause-laid : goal.returns-clause-laid
 returns-clause-laid t c =
     all_laid_below c.args.who.now c.loop-j.who c.args.leaves.now c.args.next.now
-    c.degree-degree.result c.loop-j.j c.loop-j.next c.loop-j.invariant.1
+    c.degree-degree.result c.loop-j.j c.loop-j.next c.loop-j.invariant
     c.degree-degree.ensures.value (omega (arith, c.loop-j.auto.j-end, c.loop-j-test.false))
     c.if-leaves-lt2.false _ c.to_word.ensures.value

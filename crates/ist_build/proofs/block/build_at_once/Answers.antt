@@ -2,6 +2,7 @@ use Rattle.std.proofs.Common.{length, rules, refl, sym, ap, ◌∙◌, subst, ar
 use Rattle.std.specs.List.{sum}
 use Rattle.ist_core.specs.Shapes.{shape}
 use Rattle.ist_core.proofs.PrefixLemmas.{goes_on_by}
+use Rattle.ist_rule.specs.declared.view.View.{View}
 use Rattle.ist_rule.specs.Faces.{word_count_of}
 use Rattle.ist_rows.specs.declared.callers.Caller.{Caller}
 use Rattle.ist_rows.specs.Taken.{HasTakenFew}
@@ -73,6 +74,10 @@ returns-in-Some-clause-few c =
 
 -- ---- if they don't, only loads were made
 
+pub build-requires-in-None-clause-same_table : goal.build-requires-in-None-clause-same_table
+build-requires-in-None-clause-same_table c =
+    ap (λ (v : View). v.table) (c.in-None.ensures.none refl).same ∙ c.requires.same_table
+
 pub build-requires-in-None-clause-due : goal.build-requires-in-None-clause-due
 build-requires-in-None-clause-due c two =
     subst (λ x. AreNextRows x (length c.args.leaves.now)) (sym c.in-None.ensures.same)
@@ -98,7 +103,6 @@ returns-in-None c =
     (word_count_of c.args.table.now) c.args.leaves.now c.requires.caller c.in-None.ensures.same
     (c.in-None.ensures.none refl) e.built c.build-in-None.result e.laid e.taken e.full in
     record {
-      same_table = e.same_table;
       caller = e.caller;
       number = search rules;
       rows = search rules;

@@ -1,4 +1,4 @@
-use Rattle.std.proofs.Common.{ℕ, ◌+◌, ◌-◌, ◌*◌, ◌^◌, ◌≤◌, ◌∙◌, arith}
+use Rattle.std.proofs.Common.{ℕ, ◌+◌, ◌-◌, ◌*◌, ◌^◌, ◌≤◌, arith}
 use Rattle.ist_core.specs.RowLayout.{place_limit}
 use Rattle.ist_rule.proofs.GoingOnLemmas.{goes_on_more}
 use Rattle.ist_build.proofs.DescentLemmas.{few_loads, few_below, past, past_nothing, past_leaf, past_row, at_leaf, below_row, not_past}
@@ -10,7 +10,6 @@ use Rattle.ist_build.proofs.descent.+go_down.Goals.{in-Nothing, in-Leaf+else-ski
 pub loop-index-init : goal.loop-index-init
 loop-index-init t c =
     let e = c.degree_of-degree.ensures in (
-      e.same_table,
       e.seen,
       e.slots,
       e.counted,
@@ -22,8 +21,8 @@ loop-index-init t c =
 few : (t : ℕ) (c : After-look_below-below t)
     → c.loop-index.loads + c.look_below-below.result.1 ≤ (place_limit - c.args.node) * 2 ^ 31
 few t c =
-    few_loads _ c.loop-index.invariant.1.sound c.args.node _ c.loop-index.index _ _
-    c.loop-index.invariant.2 c.loop-index-test.true c.loop-index.invariant.4
+    few_loads _ c.loop-index.invariant.0.sound c.args.node _ c.loop-index.index _ _
+    c.loop-index.invariant.1 c.loop-index-test.true c.loop-index.invariant.3
     c.look_below-below.ensures.few
 
 pub overflow_add-loads : goal.overflow_add-loads
@@ -35,8 +34,8 @@ rest : (t : ℕ) (c : After-go_down-reached t)
     ≤ (place_limit - c.args.node) * 2 ^ 31
 rest t c =
     let i = c.loop-index.invariant in let e = c.look_below-below.ensures in
-    few_below _ c.look_below-below.new.token.view i.1.sound c.args.node _ c.loop-index.index
-    _ _ c.in-Row.base c.in-Row.keys _ i.2 c.loop-index-test.true i.4 e.few _ c.in-Row.is e.under
+    few_below _ c.look_below-below.new.token.view i.0.sound c.args.node _ c.loop-index.index
+    _ _ c.in-Row.base c.in-Row.keys _ i.1 c.loop-index-test.true i.3 e.few _ c.in-Row.is e.under
     c.go_down-reached.ensures.fits
 
 pub overflow_add-result : goal.overflow_add-result
@@ -48,12 +47,11 @@ returns-then-skip-eq0 t c =
     let i = c.loop-index.invariant in
     let e = c.look_below-below.ensures in
     record {
-      same_table = e.same_table ∙ i.0;
-      seen = goes_on_more _ _ _ i.1 e.seen;
-      read = λ leaves has. at_leaf leaves _ _ c.args.node _ c.loop-index.index i.1.sound e.seen i.2
-          c.loop-index-test.true c.args.i c.loop-index.skip (i.5 leaves has) _ c.in-Leaf.base
+      seen = goes_on_more _ _ _ i.0 e.seen;
+      read = λ leaves has. at_leaf leaves _ _ c.args.node _ c.loop-index.index i.0.sound e.seen i.1
+          c.loop-index-test.true c.args.i c.loop-index.skip (i.4 leaves has) _ c.in-Leaf.base
           c.in-Leaf.is e.under c.if-skip-eq0.true;
-      counted = omega (arith, i.3, e.counted);
+      counted = omega (arith, i.2, e.counted);
       fits = few t (goal.at.returns-then-skip-eq0 t c).After-look_below-below;
     }
 
@@ -63,12 +61,11 @@ returns-then-skip-keys t c =
     let e = c.look_below-below.ensures in
     let g = c.go_down-reached.ensures in
     record {
-      same_table = g.same_table ∙ e.same_table ∙ i.0;
-      seen = goes_on_more _ _ _ (goes_on_more _ _ _ i.1 e.seen) g.seen;
-      read = λ leaves has. below_row leaves _ _ c.args.node _ c.loop-index.index i.1.sound e.seen
-          i.2 c.loop-index-test.true c.args.i c.loop-index.skip (i.5 leaves has) _ c.in-Row.base
+      seen = goes_on_more _ _ _ (goes_on_more _ _ _ i.0 e.seen) g.seen;
+      read = λ leaves has. below_row leaves _ _ c.args.node _ c.loop-index.index i.0.sound e.seen
+          i.1 c.loop-index-test.true c.args.i c.loop-index.skip (i.4 leaves has) _ c.in-Row.base
           c.in-Row.keys _ c.in-Row.is e.under g.read;
-      counted = omega (arith, i.3, e.counted, g.counted);
+      counted = omega (arith, i.2, e.counted, g.counted);
       fits = rest t (goal.at.returns-then-skip-keys t c).After-go_down-reached;
     }
 
@@ -76,14 +73,13 @@ pub loop-index-preserved : goal.loop-index-preserved
 loop-index-preserved t c =
     let i = c.loop-index.invariant in
     let e = c.look_below-below.ensures in (
-      e.same_table ∙ i.0,
-      goes_on_more _ _ _ i.1 e.seen,
-      slots_on _ _ e.seen c.args.node _ i.2,
-      omega (arith, i.3, e.counted),
-      omega (arith, i.4, e.few),
+      goes_on_more _ _ _ i.0 e.seen,
+      slots_on _ _ e.seen c.args.node _ i.1,
+      omega (arith, i.2, e.counted),
+      omega (arith, i.3, e.few),
       (λ leaves has.
-          let following = past leaves _ _ c.args.node _ _ i.1.sound e.seen i.2 c.loop-index-test.true
-          c.args.i _ (i.5 leaves has) c.match-below.skip _ e.under in
+          let following = past leaves _ _ c.args.node _ _ i.0.sound e.seen i.1 c.loop-index-test.true
+          c.args.i _ (i.4 leaves has) c.match-below.skip _ e.under in
           elim c.match-below.branch [
             | in-Nothing w ↦ following (past_nothing w.in-Nothing.is w.skip-is)
             | in-Leaf+else-skip-eq0 w ↦ following (past_leaf w.in-Leaf.base w.in-Leaf.is
@@ -95,6 +91,6 @@ loop-index-preserved t c =
 
 pub unreachable-requires : goal.unreachable-requires
 unreachable-requires t c =
-    not_past _ _ c.know.ensures.sound c.loop-index.invariant.1.sound c.args.node _
-    c.loop-index.index c.args.i c.loop-index.skip c.loop-index.invariant.2 c.loop-index-test.false
-    c.requires.finished c.loop-index.invariant.5
+    not_past _ _ c.know.ensures.sound c.loop-index.invariant.0.sound c.args.node _
+    c.loop-index.index c.args.i c.loop-index.skip c.loop-index.invariant.1 c.loop-index-test.false
+    c.requires.finished c.loop-index.invariant.4

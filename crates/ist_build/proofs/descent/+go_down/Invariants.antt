@@ -12,8 +12,7 @@ decreases-go_down l = 2 ^ 32 - l.node
 -- the leaves below the slots so far were left out, and few words loaded
 abbrev pub invariant-loop-index : goal.invariant-loop-index
 invariant-loop-index l =
-    (l.token.table ≡ l.fn.token.table)
-    × GoesOnTo l.fn.token.view l.token.view
+    GoesOnTo l.fn.token.view l.token.view
     × HasSlots l.token.view l.node l.degree
     × (l.token.view.loaded ≡ l.fn.token.view.loaded + l.loads)
     × (l.loads ≤ 4 * l.index + 1)

@@ -45,7 +45,6 @@ returns c =
     let len = c.part-share.ensures.len in
     omega arith in
     record {
-      same_table = e.same_table;
       made = b.made;
       few = subst (λ n. HasTakenFewIn c.build_share.result (sum (shape n)) 0 c.args.who.now
           c.build_share.new.who) c.part-share.ensures.len (e.few two);

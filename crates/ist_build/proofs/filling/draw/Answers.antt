@@ -1,4 +1,5 @@
 use Rattle.std.proofs.Common.{◌+◌, refl, ap, ◌∙◌, arith}
+use Rattle.ist_rule.specs.declared.view.View.{View}
 use Rattle.ist_build.proofs.FillLemmas.{MayDraw, may_draw}
 use Rattle.ist_build.proofs.RootBuiltLemmas.{rebuild_within, rebuild_off}
 use Rattle.ist_rows.proofs.FewStepLemmas.{none_loads, none_logged, none_more}
@@ -32,7 +33,7 @@ add-requires c =
     let known = c.know.ensures.words in
     let view = ap (λ v. v.words) c.load-next.ensures.looked.view in
     let same = ap (λ t. t.words) c.requires.same_table in (
-      c.load-next.ensures.same_table ∙ c.requires.same_table,
+      ap (λ (v : View). v.table) c.load-next.ensures.looked.view ∙ c.requires.same_table,
       (omega arith, m.allowed c.if-next-shared.false),
     )
 

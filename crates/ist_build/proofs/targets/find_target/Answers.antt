@@ -1,4 +1,3 @@
-use Rattle.std.proofs.Common.{◌∙◌}
 use Rattle.ist_build.proofs.RootFewLemmas.{target_done, found_so}
 use Rattle.ist_build.proofs.targets.find_target.Goals as goal
 
@@ -15,8 +14,6 @@ returns c =
     c.requires.buildable.k _ c.requires.buildable.told c.target_of-base.ensures.target
     c.keys_of-keys.ensures.finished in
     record {
-      same_table = c.keys_of-keys.ensures.same_table ∙ c.target_of-base.ensures.same_table
-          ∙ c.requires.same_table;
       back = f.back;
       seen = f.seen;
       told = f.told;

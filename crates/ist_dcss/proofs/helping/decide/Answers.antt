@@ -1,8 +1,10 @@
 use Rattle.std.proofs.Common.{◌≡◌, ◌+◌, ◌∙◌, sym, ap, subst, arith}
+use Rattle.ist_rule.specs.declared.view.View.{View}
 use Rattle.ist_core.specs.declared.events.Event.{Event}
 use Rattle.ist_core.specs.Statuses.{undecided}
 use Rattle.ist_core.specs.Pieces.{Change}
 use Rattle.ist_rule.specs.Conditions.{CanExchange}
+use Rattle.ist_rule.proofs.LeavingLemmas.{loaded_as_sound}
 use Rattle.ist_rule.proofs.KeptSearchLemmas.{keeps_more, exchanged_keeps, loaded_as_keeps}
 use Rattle.ist_rule.specs.Going.{WentOn}
 use Rattle.ist_dcss.specs.Helping.{Serves, IsDecided, is_yes}
@@ -24,8 +26,8 @@ exchange-stood-requires c =
     let low = (row_low v c.know.ensures.sound c.args.change (Change it.row) it.published 0
     (omega arith)).0 in
     let known = c.know.ensures.words in
-    let here = c.load_okay-status.ensures.same_table ∙ c.field-node.ensures.same_table
-    ∙ c.requires.same_table in
+    let here = (loaded_as_sound _ _ _ _ _ c.load_okay-status.ensures.seen).2
+    ∙ ap (λ (v : View). v.table) c.field-node.ensures.went.same ∙ c.requires.same_table in
     let same = ap (λ t. t.words) here in
     let wanted = c.decision_for-wanted.ensures.value in (
       here,

@@ -1,4 +1,5 @@
 use Rattle.std.proofs.Common.{◌∙◌, sym, ap, subst, arith}
+use Rattle.ist_rule.specs.declared.view.View.{View}
 use Rattle.ist_core.specs.declared.events.Event.{Event}
 use Rattle.ist_core.specs.Pieces.{Change}
 use Rattle.ist_rule.specs.Conditions.{CanExchange}
@@ -35,8 +36,8 @@ exchange-requires c =
     it.row it.published it.decided _ _ _ it.at c.to_word-word.ensures.value it.side_is in
     let low = known_low v c.slot_of-place.result c.know.ensures.sound can.known in
     let known = c.know.ensures.words in
-    let here = c.field-side.ensures.same_table ∙ c.slot_of-place.ensures.same_table
-    ∙ c.requires.same_table in
+    let here = ap (λ (v : View). v.table) c.field-side.ensures.went.same
+    ∙ ap (λ (v : View). v.table) c.slot_of-place.ensures.went.same ∙ c.requires.same_table in
     let same = ap (λ t. t.words) here in (
       here,
       (

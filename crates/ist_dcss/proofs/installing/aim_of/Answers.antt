@@ -1,4 +1,5 @@
-use Rattle.std.proofs.Common.{◌∙◌, arith}
+use Rattle.std.proofs.Common.{ap, ◌∙◌, arith}
+use Rattle.ist_rule.specs.declared.view.View.{View}
 use Rattle.ist_rule.proofs.GoingOnLemmas.{goes_on_more}
 use Rattle.ist_dcss.proofs.InstallLemmas.{filled, filled_on}
 use Rattle.ist_dcss.proofs.InstalledLemmas.{has_loaded, loaded_slot, aimed}
@@ -12,7 +13,7 @@ own_word-node-requires g c =
 -- the row is still filled
 pub own_word-index-requires : goal.own_word-index-requires
 own_word-index-requires g c = (
-  c.own_word-node.ensures.same_table ∙ c.requires.0,
+  ap (λ (v : View). v.table) c.own_word-node.ensures.seen.same ∙ c.requires.0,
   (
     filled_on _ _ c.own_word-node.ensures.seen c.args.change _
         (filled _ c.args.change g.filling c.requires.1),
@@ -22,7 +23,8 @@ own_word-index-requires g c = (
 
 pub own_word-from-requires : goal.own_word-from-requires
 own_word-from-requires g c = (
-  c.own_word-index.ensures.same_table ∙ c.own_word-node.ensures.same_table ∙ c.requires.0,
+  ap (λ (v : View). v.table) c.own_word-index.ensures.seen.same
+      ∙ ap (λ (v : View). v.table) c.own_word-node.ensures.seen.same ∙ c.requires.0,
   (
     filled_on _ _ (goes_on_more _ _ _ c.own_word-node.ensures.seen c.own_word-index.ensures.seen)
         c.args.change _ (filled _ c.args.change g.filling c.requires.1),
@@ -39,10 +41,13 @@ slot_at-place-requires-clause-slot g c =
     c.own_word-from.ensures.value)
 
 -- the place of the slot was found
-pub returns-clause-aimed : goal.returns-clause-aimed
-returns-clause-aimed g c =
-    aimed _ g.filling _ _ _ _
-    (has_loaded _ g.filling _ _ _ _ _ _ c.own_word-node.ensures.seen c.own_word-node.ensures.value
-    c.own_word-index.ensures.seen c.own_word-index.ensures.value c.own_word-from.ensures.seen
-    c.own_word-from.ensures.value)
-    _ c.slot_at-place.ensures.seen _ c.slot_at-place.ensures.place
+pub returns : goal.returns
+returns g c =
+    record {
+      aimed = aimed _ g.filling _ _ _ _
+          (has_loaded _ g.filling _ _ _ _ _ _ c.own_word-node.ensures.seen
+          c.own_word-node.ensures.value c.own_word-index.ensures.seen
+          c.own_word-index.ensures.value c.own_word-from.ensures.seen
+          c.own_word-from.ensures.value)
+          _ c.slot_at-place.ensures.seen _ c.slot_at-place.ensures.place;
+    }

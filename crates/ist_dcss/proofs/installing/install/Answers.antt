@@ -1,4 +1,5 @@
 use Rattle.std.proofs.Common.{◌∙◌, ap, arith}
+use Rattle.ist_rule.specs.declared.view.View.{View}
 use Rattle.ist_rule.proofs.KnownPlaceLemmas.{known_low}
 use Rattle.ist_dcss.proofs.InstallLemmas.{filled}
 use Rattle.ist_dcss.proofs.InstalledLemmas.{good_held, may_exchange, aimed_yes, aimed_other}
@@ -19,7 +20,7 @@ exchange-found-requires g c =
     c.aim_of-place.ensures.aimed _ c.to_word-word.ensures.value in
     let low = known_low _ _ c.know-2.ensures.sound can.known in
     let known = c.know-2.ensures.words in
-    let here = c.aim_of-place.ensures.same_table ∙ c.requires.0 in
+    let here = ap (λ (v : View). v.table) c.aim_of-place.ensures.aimed.seen.same ∙ c.requires.0 in
     let same = ap (λ t. t.words) here in
     (here, (omega arith, can))
 

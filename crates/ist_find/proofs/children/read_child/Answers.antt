@@ -9,11 +9,13 @@ past_change-side-requires-clause-names c =
     c.slot_for-child.result.value.word c.slot_for-child.ensures.word
 
 -- what it reads as is what the slot reads as
-pub returns-clause-read : goal.returns-clause-read
-returns-clause-read c =
-    child_read _ _ _ _ c.args.key c.args.node _ _ _ _ _ _ _ c.know.ensures.sound c.slot_for-child.ensures.seen
-    c.slot_for-child.ensures.index c.slot_for-child.ensures.word c.slot_for-child.ensures.counted
-    c.slot_for-child.ensures.anchor_loads c.slot_for-child.ensures.row_loads c.slot_for-child.ensures.fits
-    c.past_change-side.ensures.side c.past_change-side.ensures.counted c.past_change-side.ensures.loads
-    c.past_rebuild-reference.ensures.target c.past_rebuild-reference.ensures.counted
-    c.past_rebuild-reference.ensures.loads
+pub returns : goal.returns
+returns c =
+    let slot = c.slot_for-child.ensures in
+    let side = c.past_change-side.ensures in
+    let reference = c.past_rebuild-reference.ensures in
+    record {
+      read = child_read _ _ _ _ c.args.key c.args.node _ _ _ _ _ _ _ c.know.ensures.sound slot.seen
+          slot.index slot.word slot.counted slot.anchor_loads slot.row_loads slot.fits side.side
+          side.counted side.loads reference.target reference.counted reference.loads;
+    }

@@ -6,6 +6,9 @@ pub read_child-requires-clause-node : goal.read_child-requires-clause-node
 read_child-requires-clause-node c = came_node _ c.know.ensures.sound c.args.key c.args.node c.requires.come
 
 -- what was read there is a look of the search
-pub returns-clause-looked : goal.returns-clause-looked
-returns-clause-looked c =
-    looks_at_child _ _ c.args.node c.args.key _ _ _ c.requires.come c.read_child.ensures.read
+pub returns : goal.returns
+returns c =
+    record {
+      looked = looks_at_child _ _ c.args.node c.args.key _ _ _ c.requires.come
+          c.read_child.ensures.read;
+    }

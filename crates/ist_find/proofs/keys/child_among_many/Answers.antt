@@ -1,23 +1,30 @@
 use Rattle.std.proofs.Common.{◌∙◌, ◌-◌, length, get_or, ap, arith}
 use Rattle.ist_math.proofs.GuessLemmas.{guess_of-between}
+use Rattle.ist_rule.specs.declared.view.View.{View}
 use Rattle.ist_find.proofs.RowLemmas.{row_on, keys_on, count_on}
 use Rattle.ist_find.proofs.KeyLemmas.{child_at_start, child_at_end, child_between}
 use Rattle.ist_find.proofs.keys.child_among_many.Goals as goal
 
 -- no key is at most the key, or each is
-pub returns-then-key-ends-clause-finds : goal.returns-then-key-ends-clause-finds
-returns-then-key-ends-clause-finds c =
+pub returns-then-key-ends : goal.returns-then-key-ends
+returns-then-key-ends c =
     let first = c.end_keys-ends.ensures.first in
     let low = c.if-key-ends.true in
-    child_at_start _ _ c.know.ensures.sound c.end_keys-ends.ensures.seen c.end_keys-ends.ensures.loads
-    c.args.node c.args.key c.args.count c.requires.row c.requires.count (omega arith)
+    record {
+      finds = child_at_start _ _ c.know.ensures.sound c.end_keys-ends.ensures.seen
+          c.end_keys-ends.ensures.loads c.args.node c.args.key c.args.count c.requires.row
+          c.requires.count (omega arith);
+    }
 
-pub returns-then-ends-key-clause-finds : goal.returns-then-ends-key-clause-finds
-returns-then-ends-key-clause-finds c =
+pub returns-then-ends-key : goal.returns-then-ends-key
+returns-then-ends-key c =
     let last = c.end_keys-ends.ensures.last in
     let high = c.if-ends-key.true in
-    child_at_end _ _ c.know.ensures.sound c.end_keys-ends.ensures.seen c.end_keys-ends.ensures.loads
-    c.args.node c.args.key c.args.count c.requires.row c.requires.count (omega arith)
+    record {
+      finds = child_at_end _ _ c.know.ensures.sound c.end_keys-ends.ensures.seen
+          c.end_keys-ends.ensures.loads c.args.node c.args.key c.args.count c.requires.row
+          c.requires.count (omega arith);
+    }
 
 -- the key lies between the end keys, and so does the guess
 pub gallop_from-child-requires : goal.gallop_from-child-requires
@@ -35,7 +42,7 @@ gallop_from-child-requires c =
     let first_on = ap (λ ks. get_or ks 0 0) same in
     let last_on = ap (λ ks. get_or ks (length ks - 1) 0) same in
     record {
-      same_table = e.same_table ∙ c.requires.same_table;
+      same_table = ap (λ (v : View). v.table) e.seen.same ∙ c.requires.same_table;
       row = row_on _ _ e.seen c.args.node c.requires.row;
       count = count_on _ _ e.seen c.args.node c.requires.row _ c.requires.count;
       fits = c.requires.fits;
@@ -45,9 +52,12 @@ gallop_from-child-requires c =
       last = omega arith;
     }
 
-pub returns-clause-finds : goal.returns-clause-finds
-returns-clause-finds c =
+pub returns : goal.returns
+returns c =
     let e = c.end_keys-ends.ensures in
-    child_between _ _ c.know.ensures.sound e.seen e.loads c.args.node c.args.key c.args.count c.requires.row
-    c.requires.count _ c.guess-from.result _ _ (cc (c.guess-from.ensures.value, e.first, e.last, c.requires.count))
-    c.gallop_from-child.ensures.finds
+    record {
+      finds = child_between _ _ c.know.ensures.sound e.seen e.loads c.args.node c.args.key
+          c.args.count c.requires.row c.requires.count _ c.guess-from.result _ _
+          (cc (c.guess-from.ensures.value, e.first, e.last, c.requires.count))
+          c.gallop_from-child.ensures.finds;
+    }

@@ -6,20 +6,20 @@ use Rattle.ist_find.proofs.keys.gallop_from.Goals as goal
 pub loop-gallop-init : goal.loop-gallop-init
 loop-gallop-init c =
     let k = c.key_at.ensures in
-    let b = c.begin-gallop.ensures in (
-      k.same_table,
-      run_begins _ _ c.know.ensures.sound c.args.node c.args.from c.args.key _ c.key_at.result c.requires.row
-          k.seen k.loads k.value (subst (λ n. c.args.from < n) c.requires.count c.requires.within)
-          c.requires.first c.requires.last b.low
-          (b.high ∙ ap (λ n. cond (nat_lt c.args.key c.key_at.result) c.args.from (n - 1)) c.requires.count)
-          b.gallops,
-    )
+    let b = c.begin-gallop.ensures in
+    run_begins _ _ c.know.ensures.sound c.args.node c.args.from c.args.key _ c.key_at.result
+    c.requires.row k.seen k.loads k.value
+    (subst (λ n. c.args.from < n) c.requires.count c.requires.within) c.requires.first
+    c.requires.last b.low
+    (b.high
+    ∙ ap (λ n. cond (nat_lt c.args.key c.key_at.result) c.args.from (n - 1)) c.requires.count)
+    b.gallops
 
 -- they are few enough to be counted
 pub overflow_add-loads : goal.overflow_add-loads
 overflow_add-loads c =
     let few = run_fits _ _ c.args.node c.args.from c.args.key c.args.count c.loop-gallop.gallop _
-    c.loop-gallop.invariant.1 c.requires.count c.requires.within in
+    c.loop-gallop.invariant c.requires.count c.requires.within in
     record { fits = omega (arith, few, c.requires.fits) }
 
 -- each look is one load
@@ -27,14 +27,15 @@ pub loop-gallop-preserved : goal.loop-gallop-preserved
 loop-gallop-preserved c =
     let k = c.key_at-in-loop-gallop.ensures in
     let p = c.probe-at.ensures in
-    let t = c.told-gallop.ensures in (
-      k.same_table ∙ c.loop-gallop.invariant.0,
-      run_on _ _ _ c.args.node c.args.from c.args.key c.loop-gallop.gallop _ c.loop-gallop.loads
-          c.probe-at.result _ c.loop-gallop.invariant.1 k.seen k.loads k.value p.after_low p.before_high t.low
-          t.high t.gallops,
-    )
+    let t = c.told-gallop.ensures in
+    run_on _ _ _ c.args.node c.args.from c.args.key c.loop-gallop.gallop _ c.loop-gallop.loads
+    c.probe-at.result _ c.loop-gallop.invariant k.seen k.loads k.value p.after_low p.before_high
+    t.low t.high t.gallops
 
-pub returns-clause-finds : goal.returns-clause-finds
-returns-clause-finds c =
-    run_ends _ _ c.know.ensures.sound c.args.node c.args.from c.args.key _ c.loop-gallop.gallop _ c.requires.row
-    c.loop-gallop.invariant.1 c.loop-gallop-test.ensures.exact c.requires.count c.requires.within
+pub returns : goal.returns
+returns c =
+    record {
+      finds = run_ends _ _ c.know.ensures.sound c.args.node c.args.from c.args.key _
+          c.loop-gallop.gallop _ c.requires.row c.loop-gallop.invariant
+          c.loop-gallop-test.ensures.exact c.requires.count c.requires.within;
+    }

@@ -1,5 +1,6 @@
 use Rattle.std.proofs.Common.{◌+◌, ◌∙◌, ap, arith}
 use Rattle.ist_core.specs.Pieces.{Leaf}
+use Rattle.ist_rule.specs.declared.view.View.{View}
 use Rattle.ist_rule.proofs.GoingOnLemmas.{looked_goes_on}
 use Rattle.ist_dcss.proofs.FieldLemmas.{row_low, row_above}
 use Rattle.ist_find.proofs.ReadLemmas.{leaf_on, other_told, value_told}
@@ -20,7 +21,8 @@ load-value-requires-clause-within c =
     let r = leaf_on _ _ g c.args.base c.requires.leaf in
     let low = (row_low _ c.know-2.ensures.sound c.args.base (Leaf r.row) r.published 1
     (omega arith)).0 in
-    let same = ap (λ t. t.words) (c.load.ensures.same_table ∙ c.requires.same_table) in
+    let table = ap (λ (v : View). v.table) c.load.ensures.looked.view in
+    let same = ap (λ t. t.words) (table ∙ c.requires.same_table) in
     omega arith
 
 pub load-requires-clause-no_walk : goal.load-requires-clause-no_walk

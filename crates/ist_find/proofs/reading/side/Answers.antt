@@ -1,5 +1,6 @@
 use Rattle.std.proofs.Common.{◌+◌, ◌∙◌, ap, arith}
 use Rattle.ist_core.specs.Pieces.{Change}
+use Rattle.ist_rule.specs.declared.view.View.{View}
 use Rattle.ist_rule.proofs.GoingOnLemmas.{looked_goes_on}
 use Rattle.ist_dcss.proofs.FieldLemmas.{row_low, row_above}
 use Rattle.ist_find.proofs.ReadLemmas.{change_on, side_told}
@@ -24,7 +25,8 @@ load-requires-clause-within c =
     c.side_offset.result c.side_offset.ensures.within).0 in
     let from = c.from-2.ensures in
     let known = c.know-2.ensures.words in
-    let same = ap (λ t. t.words) (c.load-decision.ensures.same_table ∙ c.requires.same_table) in
+    let table = ap (λ (v : View). v.table) c.load-decision.ensures.looked.view in
+    let same = ap (λ t. t.words) (table ∙ c.requires.same_table) in
     omega arith
 
 pub load-decision-requires-clause-no_walk : goal.load-decision-requires-clause-no_walk

@@ -1,4 +1,4 @@
-use Rattle.std.proofs.Common.{◌≡◌, ◌-◌}
+use Rattle.std.proofs.Common.{◌-◌}
 use Rattle.ist_layout.specs.Meanings.{ref_meant}
 use Rattle.ist_find.specs.Looks.{SpanIsAt}
 use Rattle.ist_find.proofs.spans.find_span.Given as goal
@@ -6,11 +6,9 @@ use Rattle.ist_find.proofs.spans.find_span.Given as goal
 -- each turn made only loads, few of them, and looked at a slot of a node that the search for each key
 -- between has reached
 abbrev pub invariant-loop-look : goal.invariant-loop-look
-invariant-loop-look l = record {
-  table : l.token.table ≡ l.fn.token.table;
-  here : SpanIsAt l.fn.token.view l.token.view l.key l.node l.look.index l.look.ends.first l.look.ends.last
-      (ref_meant l.look.reference);
-}
+invariant-loop-look l =
+    SpanIsAt l.fn.token.view l.token.view l.key l.node l.look.index l.look.ends.first
+    l.look.ends.last (ref_meant l.look.reference)
 
 -- each row lies above the one before it
 abbrev pub decreases-loop-look : goal.decreases-loop-look

@@ -1,4 +1,5 @@
-use Rattle.std.proofs.Common.{◌∙◌}
+use Rattle.std.proofs.Common.{◌∙◌, ap}
+use Rattle.ist_rule.specs.declared.view.View.{View}
 use Rattle.ist_find.proofs.ChildReadLemmas.{came_node, looks_for_all}
 use Rattle.ist_find.proofs.EdgeLemmas.{edges_on}
 use Rattle.ist_find.proofs.SpanLemmas.{node_later}
@@ -15,7 +16,7 @@ pub shared_ends-shared-requires : goal.shared_ends-shared-requires
 shared_ends-shared-requires c =
     let g = c.read_child-look.ensures.read.seen in
     record {
-      same_table = c.read_child-look.ensures.same_table ∙ c.requires.same_table;
+      same_table = ap (λ (v : View). v.table) g.same ∙ c.requires.same_table;
       node = node_later _ _ g c.args.node (came_node _ c.know.ensures.sound c.args.key c.args.node
           (c.requires.come c.args.key c.requires.first c.requires.last));
       child = c.read_child-look.ensures.read.child;
@@ -25,9 +26,12 @@ shared_ends-shared-requires c =
     }
 
 -- the loads are a look for each key that has the child
-pub returns-clause-looked : goal.returns-clause-looked
-returns-clause-looked c =
+pub returns : goal.returns
+returns c =
     let ends = c.shared_ends-shared.ensures in
-    looks_for_all _ _ _ c.args.node c.args.key c.args.ends.first c.args.ends.last _ _ _ _ _
-    (c.requires.come c.args.key c.requires.first c.requires.last) c.read_child-look.ensures.read ends.seen
-    ends.low ends.first ends.last ends.high ends.edges ends.share ends.loads ends.anchor_loads
+    record {
+      looked = looks_for_all _ _ _ c.args.node c.args.key c.args.ends.first c.args.ends.last _ _ _ _
+          _ (c.requires.come c.args.key c.requires.first c.requires.last)
+          c.read_child-look.ensures.read ends.seen ends.low ends.first ends.last ends.high
+          ends.edges ends.share ends.loads ends.anchor_loads;
+    }

@@ -1,5 +1,6 @@
-use Rattle.std.proofs.Common.{◌∙◌, ◌<◌, ◌+◌, subst}
+use Rattle.std.proofs.Common.{◌∙◌, ◌<◌, ◌+◌, ap, subst}
 use Rattle.ist_core.specs.Elements.{Among}
+use Rattle.ist_rule.specs.declared.view.View.{View}
 use Rattle.ist_rule.proofs.GoingOnLemmas.{goes_on_more}
 use Rattle.ist_find.proofs.RowLemmas.{row_on, keys_on, count_on}
 use Rattle.ist_find.proofs.RowEndLemmas.{child_within, below_next, above_last, between_share}
@@ -10,7 +11,7 @@ pub first_of-first-requires : goal.first_of-first-requires
 first_of-first-requires c =
     let g = c.key_count-count.ensures.seen in
     record {
-      same_table = c.key_count-count.ensures.same_table ∙ c.requires.same_table;
+      same_table = ap (λ (v : View). v.table) g.same ∙ c.requires.same_table;
       row = row_on _ _ g c.args.node c.requires.row;
       within = child_within _ c.know.ensures.sound c.args.node c.args.key c.args.index c.requires.row
           c.requires.child _ g;
@@ -21,8 +22,7 @@ last_of-last-requires c =
     let g = goes_on_more _ _ _ c.key_count-count.ensures.seen c.first_of-first.ensures.seen in
     let sound = c.know.ensures.sound in
     record {
-      same_table = c.first_of-first.ensures.same_table ∙ c.key_count-count.ensures.same_table
-          ∙ c.requires.same_table;
+      same_table = ap (λ (v : View). v.table) g.same ∙ c.requires.same_table;
       row = row_on _ _ g c.args.node c.requires.row;
       count = count_on _ _ g c.args.node c.requires.row _ c.key_count-count.ensures.value;
       within = child_within _ sound c.args.node c.args.key c.args.index c.requires.row c.requires.child _ g;

@@ -1,5 +1,6 @@
 use Rattle.std.proofs.Common.{◌∙◌, ◌+◌, sym, ap, subst, arith}
 use Rattle.ist_layout.specs.Meanings.{ref_meant}
+use Rattle.ist_rule.specs.declared.view.View.{View}
 use Rattle.ist_rule.proofs.GoingOnLemmas.{goes_on_more}
 use Rattle.ist_rule.specs.Conditions.{MayWalk}
 use Rattle.ist_find.specs.Sweeps.{HasSwept, starting}
@@ -41,7 +42,6 @@ sweep_below-first_slot-place-requires-clause-node t c =
 
 pub sweep_below-slots-init : goal.sweep_below-slots-init
 sweep_below-slots-init t c = record {
-  table = c.first_slot-place.ensures.same_table;
   here = sweeps_none _ _ c.first_slot-place.ensures.seen c.args.node c.args.first c.args.last _ _ _ _
       c.first_slot-place.ensures.loads c.first_slot-place.ensures.at c.requires.some c.requires.led;
   top = λ is. subst MayWalk (sym (c.first_slot-place.ensures.stays is)) (c.requires.top is);
@@ -54,7 +54,8 @@ sweep_below-sweep_slot-requires t c =
     let small = c.ranges.node.fits in (
       omega arith,
       (
-        c.read_from-read.ensures.same_table ∙ c.slots.invariant.table ∙ c.requires.same_table,
+        ap (λ (v : View). v.table) c.read_from-read.ensures.read.seen.same
+            ∙ ap (λ (v : View). v.table) c.slots.invariant.here.seen.same ∙ c.requires.same_table,
         (
           slot_leads _ _ _ c.args.node c.args.first c.slots.from c.read_from-read.result.to c.args.last _ _ _ _
               _ _ c.slots.invariant.here c.read_from-read.ensures.read,
@@ -90,7 +91,6 @@ sweep_below-slots-preserved t c =
     let top = ends.top in
     let other = c.if-read-last.false in
     record {
-      table = c.sweep_slot.ensures.same_table ∙ c.read_from-read.ensures.same_table ∙ c.slots.invariant.table;
       here = goes_on_after _ _ _ c.args.node c.args.first c.slots.from c.read_from-read.result.to c.args.last _ _ _
           _ _ _ c.slots.invariant.here c.read_from-read.ensures.read _ _ c.sweep_slot.ensures.seen
           c.in_ok-sweep_slot.ensures.swept (omega arith);

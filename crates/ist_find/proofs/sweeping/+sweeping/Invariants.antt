@@ -15,7 +15,6 @@ decreases-sweep_below l = 2 * (2 ^ 32 - l.node) + 1
 -- the keys below the next one were swept
 abbrev pub invariant-sweep_below-slots : goal.invariant-sweep_below-slots
 invariant-sweep_below-slots l = record {
-  table : l.token.table ≡ l.fn.token.table;
   here : HasSweptTo l.fn.token.view l.token.view l.node l.first l.from l.last l.place.index l.place.count
       (starting l.fn.token.view l.node l.first) l.fn.found.items l.found.items;
   top : l.node ≡ anchor → MayWalk l.token.view;

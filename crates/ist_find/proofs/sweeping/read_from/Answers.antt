@@ -27,8 +27,11 @@ pub read_slot-reference-requires-clause-top : goal.read_slot-reference-requires-
 read_slot-reference-requires-clause-top c is =
     subst MayWalk (sym (c.slot_end-to.ensures.stays is)) (c.requires.top is)
 
-pub returns-clause-read : goal.returns-clause-read
-returns-clause-read c =
-    slot_read _ _ _ c.slot_end-to.ensures.seen c.read_slot-reference.ensures.seen c.slot_end-to.ensures.loads
-    c.read_slot-reference.ensures.loads c.args.node c.args.from _ c.args.last _ _ _ c.slot_end-to.ensures.ends
-    c.read_slot-reference.ensures.looked c.read_slot-reference.ensures.found
+pub returns : goal.returns
+returns c =
+    let end = c.slot_end-to.ensures in
+    let it = c.read_slot-reference.ensures in
+    record {
+      read = slot_read _ _ _ end.seen it.seen end.loads it.loads c.args.node c.args.from _
+          c.args.last _ _ _ end.ends it.looked it.found;
+    }

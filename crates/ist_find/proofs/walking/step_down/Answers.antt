@@ -14,7 +14,6 @@ returns c =
     let index = c.slot_for-child.ensures.index in
     let word = c.slot_for-child.ensures.word in
     record {
-      same_table = c.slot_for-child.ensures.same_table;
       index = index;
       word = word;
       seen = g;

@@ -1,10 +1,11 @@
 use borrow.Author.Gap.{counting}
 use borrow.Author.Rules.{rules}
-use Rattle.std.proofs.Common.{◌≡◌, ◌+◌, ◌^◌, ◌<◌, ◌∙◌, subst, arith}
+use Rattle.std.proofs.Common.{◌≡◌, ◌+◌, ◌^◌, ◌<◌, ◌∙◌, ap, subst, arith}
+use Rattle.ist_rule.specs.declared.view.View.{View}
 use Rattle.ist_rule.specs.Learning.{now}
 use Rattle.ist_mark.specs.Passing.{AreCounted, no_slot_yet}
 use Rattle.ist_mark.proofs.CountingLemmas.{below_called, below_under, row_counted, slot_counted, sum_low, all_counted}
-use Rattle.ist_mark.proofs.SubtreeLemmas.{mark_same, mark_more, mark_lower, mark_loads, may_pass_on}
+use Rattle.ist_mark.proofs.SubtreeLemmas.{mark_same, mark_more, mark_lower, mark_loads, mark_table, may_pass_on}
 use Rattle.ist_mark.proofs.counting.+marking.Goals as goal
 
 -- ---- a slot
@@ -18,7 +19,7 @@ count_slot-mark_and_count-requires t c =
     let small = c.ranges.node.fits in
     let top = c.decreases in (
       search (rules, counting),
-      (c.pass_slot.ensures.marked.same_table ∙ c.requires.same_table, it.1),
+      (mark_table c.args.node _ _ c.pass_slot.ensures.marked ∙ c.requires.same_table, it.1),
     )
 
 -- once it is finished the slot is counted
@@ -28,7 +29,7 @@ count_slot-returns-in-Node t c =
     record {
       marked = mark_lower c.args.node c.in-Node.child _ _ _ c.pass_slot.ensures.marked
           (below_under _ c.args.node c.args.index c.in-Node.child c.in-Node.ensures.passed)
-          record { same_table = e.same_table; went = e.went; search = e.search };
+          record { went = e.went; search = e.search };
       counted = row_counted _ _ e.went c.args.node c.args.index c.in-Node.child _
           c.in-Node.ensures.passed e.finished;
     }
@@ -44,8 +45,9 @@ mark_and_count-count_slot-keys-requires t c =
     let top = c.decreases in (
       search (rules, counting),
       (
-        m.same_table ∙ c.degree_of-degree.ensures.same_table ∙ c.mark.ensures.marked.same_table
-            ∙ c.requires.same_table,
+        mark_table c.args.node _ _ m
+            ∙ ap (λ (v : View). v.table) c.degree_of-degree.ensures.seen.same
+            ∙ mark_table c.args.node _ _ c.mark.ensures.marked ∙ c.requires.same_table,
         (
           may_pass_on c.args.node _ _ _ m c.degree_of-degree.ensures.degree,
           c.loop-index-test.true,
@@ -79,8 +81,9 @@ mark_and_count-finish-requires t c =
     let last : c.loop-index.index ≡ c.degree_of-degree.result =
     omega (arith, c.loop-index.auto.index-end, c.loop-index-test.false) in
     record {
-      same_table = m.same_table ∙ c.degree_of-degree.ensures.same_table
-          ∙ c.mark.ensures.marked.same_table ∙ c.requires.same_table;
+      same_table = mark_table c.args.node _ _ m
+          ∙ ap (λ (v : View). v.table) c.degree_of-degree.ensures.seen.same
+          ∙ mark_table c.args.node _ _ c.mark.ensures.marked ∙ c.requires.same_table;
       may_finish = all_counted _ _ m.went c.args.node _ c.loop-index.keys
           c.degree_of-degree.ensures.degree
           (subst (λ n. AreCounted (now c.loop-index.token.view) c.loop-index.token.view.log
@@ -90,10 +93,8 @@ mark_and_count-finish-requires t c =
 -- all steps were steps of marking
 pub mark_and_count-returns : goal.mark_and_count-returns
 mark_and_count-returns t c =
-    let d = c.degree_of-degree.ensures in
     let all = mark_more c.args.node _ _ _ (mark_more c.args.node _ _ _
     (mark_more c.args.node _ _ _ c.mark.ensures.marked
-    (mark_loads c.args.node _ _ d.same_table d.seen)) c.loop-index.invariant.0)
-    c.finish.ensures.marked in
-    let end = c.finish.ensures.finished in
-    record { same_table = all.same_table; went = all.went; search = all.search; finished = end }
+    (mark_loads c.args.node _ c.degree_of-degree.new.token c.degree_of-degree.ensures.seen))
+    c.loop-index.invariant.0) c.finish.ensures.marked in
+    record { went = all.went; search = all.search; finished = c.finish.ensures.finished }

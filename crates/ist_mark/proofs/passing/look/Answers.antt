@@ -21,7 +21,7 @@ returns c =
     c.requires.within c.slot_place-place.ensures.value _ e.seen in
     let kept = loaded_as_keeps _ _ _ _ _ e.seen in
     record {
-      marked = record { same_table = e.same_table; went = told.went; search = kept };
+      marked = record { went = told.went; search = kept };
       change = told.change;
       frozen = told.frozen;
     }

@@ -22,7 +22,7 @@ turns-preserved c =
     let e = c.help.ensures in
     mark_help c.args.node _ _ _ _
     (mark_more c.args.node _ _ _ c.turns.invariant c.look-word.ensures.marked)
-    (c.look-word.ensures.change _ c.in-Some.ensures.change) e.same_table e.went e.search
+    (c.look-word.ensures.change _ c.in-Some.ensures.change) e.went e.search
 
 pub returns-in-None-clause-marked : goal.returns-in-None-clause-marked
 returns-in-None-clause-marked c =

@@ -1,7 +1,7 @@
 use borrow.Author.Gap.{counting}
 use borrow.Author.Rules.{rules}
 use Rattle.std.proofs.Common.{◌∙◌}
-use Rattle.ist_mark.proofs.SubtreeLemmas.{mark_same, mark_more, mark_lower, may_mark_on, may_pass_on}
+use Rattle.ist_mark.proofs.SubtreeLemmas.{mark_same, mark_more, mark_lower, mark_table, may_mark_on, may_pass_on}
 use Rattle.ist_mark.proofs.spreading.+spreading.Goals as goal
 
 -- ---- a slot
@@ -14,7 +14,10 @@ mark_slot-mark_and_count_from-requires t c =
     let small = c.ranges.node.fits in
     let top = c.decreases in (
       search (rules, counting),
-      (c.open_below.ensures.marked.same_table ∙ c.requires.same_table, below.may_mark),
+      (
+        mark_table c.args.node _ _ c.open_below.ensures.marked ∙ c.requires.same_table,
+        below.may_mark,
+      ),
     )
 
 pub mark_slot-returns-in-Some : goal.mark_slot-returns-in-Some
@@ -23,7 +26,7 @@ mark_slot-returns-in-Some t c =
     record {
       marked = mark_lower c.args.node c.in-Some.child _ _ _ c.open_below.ensures.marked
           c.in-Some.ensures.below.under
-          record { same_table = e.same_table; went = e.went; search = e.search };
+          record { went = e.went; search = e.search };
     }
 
 -- ---- all slots
@@ -36,7 +39,8 @@ mark_ahead-mark_slot-requires t c =
     let top = c.decreases in (
       search (rules, counting),
       (
-        c.loop-k.invariant.same_table ∙ c.begin_wide.ensures.marked.same_table ∙ c.requires.same_table,
+        mark_table c.args.node _ _ c.loop-k.invariant
+            ∙ mark_table c.args.node _ _ c.begin_wide.ensures.marked ∙ c.requires.same_table,
         (
           may_pass_on c.args.node _ _ _ c.loop-k.invariant c.in-Some.ensures.slots,
           c.nth_slot.ensures.within,
@@ -67,11 +71,6 @@ mark_and_count_from-mark_and_count-requires-clause-may_mark t c =
 pub mark_and_count_from-returns : goal.mark_and_count_from-returns
 mark_and_count_from-returns t c =
     let e = c.mark_and_count.ensures in
-    let all = mark_more c.args.node _ _ _ c.mark_ahead.ensures.marked
-    record { same_table = e.same_table; went = e.went; search = e.search } in
-    record {
-      same_table = all.same_table;
-      went = all.went;
-      search = all.search;
-      finished = e.finished;
-    }
+    let all = mark_more c.args.node _ _ c.mark_and_count.new.token c.mark_ahead.ensures.marked
+    record { went = e.went; search = e.search } in
+    record { went = all.went; search = all.search; finished = e.finished }

@@ -8,8 +8,7 @@ use Rattle.ist_mark.proofs.spreading.begin_wide.Goals.{After-own_word}
 
 loaded : (c : After-own_word) → HasMarked c.args.node c.args.token.now c.own_word.new.token
 loaded c =
-    mark_loads c.args.node _ _ c.own_word.ensures.same_table
-    (looked_goes_on _ _ _ _ c.own_word.ensures.looked)
+    mark_loads c.args.node _ _ (looked_goes_on _ _ _ _ c.own_word.ensures.looked)
 
 pub returns-then-own_word-lt-WIDE-clause-marked : goal.returns-then-own_word-lt-WIDE-clause-marked
 returns-then-own_word-lt-WIDE-clause-marked c =
@@ -27,10 +26,9 @@ returns-then-is_some-clause-marked c =
 
 pub returns-clause-marked : goal.returns-clause-marked
 returns-clause-marked c =
-    let e = c.degree_of-degree.ensures in
     mark_more c.args.node _ _ _ (mark_more c.args.node _ _ _
     (loaded (goal.at.returns-clause-marked c).After-own_word) c.mark.ensures.marked)
-    (mark_loads c.args.node _ _ e.same_table e.seen)
+    (mark_loads c.args.node _ _ c.degree_of-degree.ensures.seen)
 
 pub returns-clause-few : goal.returns-clause-few
 returns-clause-few c =

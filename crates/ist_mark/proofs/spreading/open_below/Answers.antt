@@ -15,8 +15,7 @@ own_word-status-requires-clause-may_mark c =
 loaded : (c : After-own_word-status)
     → HasMarked c.args.node c.pass_slot.new.token c.own_word-status.new.token
 loaded c =
-    mark_loads c.args.node _ _ c.own_word-status.ensures.same_table
-    (looked_goes_on _ _ _ _ c.own_word-status.ensures.looked)
+    mark_loads c.args.node _ _ (looked_goes_on _ _ _ _ c.own_word-status.ensures.looked)
 
 pub returns-then-status-to_word : goal.returns-then-status-to_word
 returns-then-status-to_word c =

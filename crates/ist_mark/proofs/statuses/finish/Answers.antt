@@ -32,6 +32,6 @@ returns c =
     c.to_word.ensures.value c.to_word-2.ensures.value e.exchanged in
     let kept = exchanged_keeps _ _ _ _ _ _ e.exchanged in
     record {
-      marked = record { same_table = e.same_table; went = told.0; search = kept };
+      marked = record { went = told.0; search = kept };
       finished = told.1;
     }

@@ -7,8 +7,7 @@ use Rattle.ist_mark.proofs.statuses.mark.Goals.{After-finished_keys}
 
 -- the load leaves the cause as it was
 loaded : (c : After-finished_keys) → HasMarked c.args.node c.args.token.now c.finished_keys.new.token
-loaded c =
-    mark_loads c.args.node _ _ c.finished_keys.ensures.same_table c.finished_keys.ensures.seen
+loaded c = mark_loads c.args.node _ _ c.finished_keys.ensures.seen
 
 pub mark_open-requires-clause-may_mark : goal.mark_open-requires-clause-may_mark
 mark_open-requires-clause-may_mark c =

@@ -22,11 +22,7 @@ returns c =
     let told = mark_told _ c.know.ensures.sound c.args.node c.requires.may_mark (c.from.result + 0)
     _ _ _ (omega (arith, c.from.ensures)) c.to_word.ensures.value e.exchanged in
     record {
-      marked = record {
-        same_table = e.same_table;
-        went = told.went;
-        search = exchanged_keeps _ _ _ _ _ _ e.exchanged;
-      };
+      marked = record { went = told.went; search = exchanged_keeps _ _ _ _ _ _ e.exchanged };
       closed = told.closed;
       finished = λ k is. told.finished k (c.keys_of.ensures.finished k is);
     }

@@ -24,7 +24,11 @@ load-requires-clause-no_walk c at =
     let from = c.from.ensures in
     absurd (omega arith)
 
-pub returns-clause-looked : goal.returns-clause-looked
-returns-clause-looked c =
-    subst (λ n. Looked c.args.token.now.view (n + c.args.offset) c.load.result c.load.new.token.view)
-    c.from.ensures c.load.ensures.looked
+pub returns : goal.returns
+returns c =
+    record {
+      looked = subst
+          (λ n. Looked c.args.token.now.view (n + c.args.offset) c.load.result
+          c.load.new.token.view)
+          c.from.ensures c.load.ensures.looked;
+    }

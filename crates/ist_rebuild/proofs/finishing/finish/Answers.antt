@@ -15,7 +15,6 @@ use Rattle.ist_rebuild.proofs.finishing.finish.Goals as goal
 -- before the first turn nothing was done
 pub turns-init : goal.turns-init
 turns-init c = (
-  c.requires.same_table,
   helped_same _ c.requires.ready c.know.ensures.sound,
   few_same (wanting c.args.who.now.change change_words) c.args.who.now,
 )
@@ -23,35 +22,34 @@ turns-init c = (
 -- the plan is still a plan
 pub try_finish-requires-clause-plan : goal.try_finish-requires-clause-plan
 try_finish-requires-clause-plan c =
-    plan_went ServesRebuild _ _ c.turns.invariant.1.on.gone.went c.args.plan c.requires.plan
+    plan_went ServesRebuild _ _ c.turns.invariant.0.on.gone.went c.args.plan c.requires.plan
 
 -- each turn only made steps of help
 pub turns-preserved : goal.turns-preserved
 turns-preserved c =
     let e = c.try_finish.ensures in
     let n = wanting c.turns.who.change change_words in (
-      e.same_table,
-      helped_more _ _ _ c.turns.invariant.1 e.helped,
+      helped_more _ _ _ c.turns.invariant.0 e.helped,
       few_more c.args.who.now c.turns.who c.try_finish.new.who
-          (after_helped c.args.who.now c.turns.who c.turns.invariant.1)
-          (after_helped c.turns.who c.try_finish.new.who e.helped) _ n _ c.turns.invariant.2
+          (after_helped c.args.who.now c.turns.who c.turns.invariant.0)
+          (after_helped c.turns.who c.try_finish.new.who e.helped) _ n _ c.turns.invariant.1
           (subst (λ k. HasTakenFew n k c.turns.who c.try_finish.new.who)
           (sym (e.held (c.in_ok-helped.was ∙ ap Ok c.in_default.is))) c.in_ok-helped.ensures.few),
     )
 
 pub returns-in-Some-clause-helped : goal.returns-in-Some-clause-helped
 returns-in-Some-clause-helped c =
-    helped_more _ _ _ c.turns.invariant.1 c.try_finish.ensures.helped
+    helped_more _ _ _ c.turns.invariant.0 c.try_finish.ensures.helped
 
 -- a turn that was refused
 pub returns-in_err-helped-clause-helped : goal.returns-in_err-helped-clause-helped
 returns-in_err-helped-clause-helped c =
-    helped_more _ _ _ c.turns.invariant.1 c.try_finish.ensures.helped
+    helped_more _ _ _ c.turns.invariant.0 c.try_finish.ensures.helped
 
 pub returns-in_err-helped-clause-full : goal.returns-in_err-helped-clause-full
 returns-in_err-helped-clause-full c =
     passed_on c.from_residual.result _ _ c.from_residual.ensures.1
-    (refused_more _ _ _ _ _ _ c.turns.invariant.1.on.gone.went c.in_err-helped.ensures.full)
+    (refused_more _ _ _ _ _ _ c.turns.invariant.0.on.gone.went c.in_err-helped.ensures.full)
 
 pub turns-smaller : goal.turns-smaller
 turns-smaller c =
@@ -62,14 +60,14 @@ turns-smaller c =
 pub returns-in-Some-clause-few : goal.returns-in-Some-clause-few
 returns-in-Some-clause-few c =
     few_more c.args.who.now c.turns.who c.try_finish.new.who
-    (after_helped c.args.who.now c.turns.who c.turns.invariant.1)
+    (after_helped c.args.who.now c.turns.who c.turns.invariant.0)
     (after_helped c.turns.who c.try_finish.new.who c.try_finish.ensures.helped) _ _ 0
-    c.turns.invariant.2 c.in_ok-helped.ensures.few
+    c.turns.invariant.1 c.in_ok-helped.ensures.few
 
 pub returns-in_err-helped-clause-few : goal.returns-in_err-helped-clause-few
 returns-in_err-helped-clause-few c =
     let out = few_out_more c.args.who.now c.turns.who c.try_finish.new.who
-    (after_helped c.args.who.now c.turns.who c.turns.invariant.1)
+    (after_helped c.args.who.now c.turns.who c.turns.invariant.0)
     (after_helped c.turns.who c.try_finish.new.who c.try_finish.ensures.helped) _ _ 0
-    c.turns.invariant.2 c.in_err-helped.ensures.few in
+    c.turns.invariant.1 c.in_err-helped.ensures.few in
     search rules

@@ -1,4 +1,4 @@
-use Rattle.std.proofs.Common.{◌≡◌, ◌-◌}
+use Rattle.std.proofs.Common.{◌-◌}
 use Rattle.laws_stability.specs.Progress.{most_progress, progress}
 use Rattle.ist_core.specs.RowLayout.{change_words}
 use Rattle.ist_rows.specs.Taken.{HasTakenFew}
@@ -8,8 +8,7 @@ use Rattle.ist_rebuild.proofs.finishing.finish.Given as goal
 
 -- each turn only made steps of help, and took few words
 abbrev pub invariant-turns : goal.invariant-turns
-invariant-turns l = (l.who.token.table ≡ l.table.table)
-    × HasHelped l.fn.who l.who
+invariant-turns l = HasHelped l.fn.who l.who
     × HasTakenFew (wanting l.fn.who.change change_words) (wanting l.who.change change_words) l.fn.who
     l.who
 

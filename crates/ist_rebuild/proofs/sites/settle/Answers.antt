@@ -17,7 +17,6 @@ use Rattle.ist_rebuild.proofs.sites.settle.Goals as goal
 -- before the first turn nothing was done
 pub turns-init : goal.turns-init
 turns-init c = (
-  c.requires.same_table,
   helped_same c.args.who.now c.requires.ready c.know.ensures.sound,
   none_same c.args.who.now,
   refl,
@@ -26,7 +25,7 @@ turns-init c = (
 -- the plan is still a plan
 pub slot_word-word-requires-clause-plan : goal.slot_word-word-requires-clause-plan
 slot_word-word-requires-clause-plan c =
-    plan_went ServesRebuild _ _ c.turns.invariant.1.on.gone.went c.args.plan c.requires.plan
+    plan_went ServesRebuild _ _ c.turns.invariant.0.on.gone.went c.args.plan c.requires.plan
 
 -- the parent isn't the anchor, which is always open
 pub slot_word-word-requires-clause-other : goal.slot_word-word-requires-clause-other
@@ -35,7 +34,7 @@ slot_word-word-requires-clause-other c is = c.requires.closed (anchor_is is)
 -- the change that was met may be helped
 pub help-requires-clause-may_help : goal.help-requires-clause-may_help
 help-requires-clause-may_help c =
-    let l = loads_helped c.turns.who c.slot_word-word.new.token (still_ready c.turns.invariant.1.on)
+    let l = loads_helped c.turns.who c.slot_word-word.new.token (still_ready c.turns.invariant.0.on)
     c.slot_word-word.ensures.seen in
     met_change _ c.slot_word-word.ensures.seen.sound c.turns.who.number l.on.gone.caller.mine
     c.args.plan.parent c.args.plan.index _ _ c.slot_word-word.ensures.holds
@@ -45,22 +44,21 @@ help-requires-clause-may_help c =
 pub turns-preserved : goal.turns-preserved
 turns-preserved c =
     let mid = record c.turns.who { token = c.slot_word-word.new.token } in
-    let l = loads_helped c.turns.who c.slot_word-word.new.token (still_ready c.turns.invariant.1.on)
+    let l = loads_helped c.turns.who c.slot_word-word.new.token (still_ready c.turns.invariant.0.on)
     c.slot_word-word.ensures.seen in (
-      c.help.ensures.same_table ∙ c.slot_word-word.ensures.same_table ∙ c.turns.invariant.0,
       helped_more c.args.who.now mid _
-          (helped_more c.args.who.now c.turns.who mid c.turns.invariant.1 l)
+          (helped_more c.args.who.now c.turns.who mid c.turns.invariant.0 l)
           (help_helped mid c.help.new.token c.in-Change.change (still_ready l.on)
           c.help.ensures.went),
       none_more c.args.who.now c.turns.who (record c.turns.who { token = c.help.new.token })
-          c.turns.invariant.2
+          c.turns.invariant.1
           (none_more c.turns.who mid (record c.turns.who { token = c.help.new.token })
-          (none_loads c.turns.who c.slot_word-word.new.token c.turns.invariant.1.on.gone.caller.mine
+          (none_loads c.turns.who c.slot_word-word.new.token c.turns.invariant.0.on.gone.caller.mine
           c.slot_word-word.ensures.seen)
           (none_helped mid c.help.new.token c.in-Change.change
-          (goes_on_who c.slot_word-word.ensures.seen ∙ c.turns.invariant.1.on.gone.caller.mine)
+          (goes_on_who c.slot_word-word.ensures.seen ∙ c.turns.invariant.0.on.gone.caller.mine)
           c.help.ensures.went)),
-      c.turns.invariant.3,
+      c.turns.invariant.2,
     )
 
 -- the help resolves the change, which wasn't resolved before
@@ -75,14 +73,14 @@ turns-smaller c =
 -- the last turn loads the rebuild's word
 pub returns-in-Itself-clause-helped : goal.returns-in-Itself-clause-helped
 returns-in-Itself-clause-helped c =
-    helped_more c.args.who.now c.turns.who _ c.turns.invariant.1
-    (loads_helped c.turns.who c.slot_word-word.new.token (still_ready c.turns.invariant.1.on)
+    helped_more c.args.who.now c.turns.who _ c.turns.invariant.0
+    (loads_helped c.turns.who c.slot_word-word.new.token (still_ready c.turns.invariant.0.on)
     c.slot_word-word.ensures.seen)
 
 pub returns-in-Itself-clause-left : goal.returns-in-Itself-clause-left
 returns-in-Itself-clause-left c _ =
-    let l = helped_more c.args.who.now c.turns.who _ c.turns.invariant.1
-    (loads_helped c.turns.who c.slot_word-word.new.token (still_ready c.turns.invariant.1.on)
+    let l = helped_more c.args.who.now c.turns.who _ c.turns.invariant.0
+    (loads_helped c.turns.who c.slot_word-word.new.token (still_ready c.turns.invariant.0.on)
     c.slot_word-word.ensures.seen) in
     tells_left _ l.on.gone.went.sound c.args.plan
     (plan_went ServesRebuild _ _ l.on.gone.went c.args.plan c.requires.plan) _
@@ -94,14 +92,14 @@ returns-in-Itself-clause-left c _ =
 -- the last turn loads another word, which is no change's
 pub returns-in-Another-clause-helped : goal.returns-in-Another-clause-helped
 returns-in-Another-clause-helped c =
-    helped_more c.args.who.now c.turns.who _ c.turns.invariant.1
-    (loads_helped c.turns.who c.slot_word-word.new.token (still_ready c.turns.invariant.1.on)
+    helped_more c.args.who.now c.turns.who _ c.turns.invariant.0
+    (loads_helped c.turns.who c.slot_word-word.new.token (still_ready c.turns.invariant.0.on)
     c.slot_word-word.ensures.seen)
 
 pub returns-in-Another-clause-replaced : goal.returns-in-Another-clause-replaced
 returns-in-Another-clause-replaced c _ =
-    let l = helped_more c.args.who.now c.turns.who _ c.turns.invariant.1
-    (loads_helped c.turns.who c.slot_word-word.new.token (still_ready c.turns.invariant.1.on)
+    let l = helped_more c.args.who.now c.turns.who _ c.turns.invariant.0
+    (loads_helped c.turns.who c.slot_word-word.new.token (still_ready c.turns.invariant.0.on)
     c.slot_word-word.ensures.seen) in
     tells_replaced _ l.on.gone.went.sound c.args.plan
     (plan_went ServesRebuild _ _ l.on.gone.went c.args.plan c.requires.plan) _
@@ -112,19 +110,19 @@ returns-in-Another-clause-replaced c _ =
 pub returns-in-Itself-clause-none : goal.returns-in-Itself-clause-none
 returns-in-Itself-clause-none c =
     none_more c.args.who.now c.turns.who (record c.turns.who { token = c.slot_word-word.new.token })
-    c.turns.invariant.2
-    (none_loads c.turns.who c.slot_word-word.new.token c.turns.invariant.1.on.gone.caller.mine
+    c.turns.invariant.1
+    (none_loads c.turns.who c.slot_word-word.new.token c.turns.invariant.0.on.gone.caller.mine
     c.slot_word-word.ensures.seen)
 
 pub returns-in-Another-clause-none : goal.returns-in-Another-clause-none
 returns-in-Another-clause-none c =
     none_more c.args.who.now c.turns.who (record c.turns.who { token = c.slot_word-word.new.token })
-    c.turns.invariant.2
-    (none_loads c.turns.who c.slot_word-word.new.token c.turns.invariant.1.on.gone.caller.mine
+    c.turns.invariant.1
+    (none_loads c.turns.who c.slot_word-word.new.token c.turns.invariant.0.on.gone.caller.mine
     c.slot_word-word.ensures.seen)
 
 pub returns-in-Itself-clause-held : goal.returns-in-Itself-clause-held
-returns-in-Itself-clause-held c = c.turns.invariant.3
+returns-in-Itself-clause-held c = c.turns.invariant.2
 
 pub returns-in-Another-clause-held : goal.returns-in-Another-clause-held
-returns-in-Another-clause-held c = c.turns.invariant.3
+returns-in-Another-clause-held c = c.turns.invariant.2

@@ -6,8 +6,7 @@ use Rattle.ist_rebuild.proofs.sites.settle.Given as goal
 
 -- each turn only made steps of help, and took no word
 abbrev pub invariant-turns : goal.invariant-turns
-invariant-turns l = (l.who.token.table ≡ l.table.table)
-    × HasHelped l.fn.who l.who
+invariant-turns l = HasHelped l.fn.who l.who
     × TakesNoWords l.fn.who l.who
     × (l.who.change ≡ l.fn.who.change)
 

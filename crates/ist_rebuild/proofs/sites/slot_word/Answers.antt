@@ -1,4 +1,5 @@
 use Rattle.std.proofs.Common.{ap, arith, subst, sym, ◌∙◌}
+use Rattle.ist_rule.specs.declared.view.View.{View}
 use Rattle.ist_rule.proofs.GoingOnLemmas.{goes_on_more, looked_goes_on}
 use Rattle.ist_dcss.specs.Naming.{IsSlot}
 use Rattle.ist_rebuild.proofs.SiteLemmas.{parent_slot}
@@ -17,7 +18,9 @@ load-requires-clause-within c =
     let low = plan_slot_low _ _ c.know-2.ensures.sound c.args.plan c.requires.plan
     c.slot_at-place.ensures.seen _ _ c.from.ensures c.slot_at-place.ensures.place in
     let known = c.know-2.ensures.words in
-    let same = ap (λ t. t.words) (c.slot_at-place.ensures.same_table ∙ c.requires.same_table) in
+    let here = ap (λ (v : View). v.table) c.slot_at-place.ensures.seen.same
+    ∙ c.requires.same_table in
+    let same = ap (λ t. t.words) here in
     omega arith
 
 pub load-requires-clause-no_walk : goal.load-requires-clause-no_walk

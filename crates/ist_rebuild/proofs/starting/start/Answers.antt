@@ -19,7 +19,6 @@ returns-then-parent_is_open c =
     test c.args.parent c.args.index c.args.target c.start_open.new.who c.start_open.result
     c.start_open.ensures.told in
     record {
-      same_table = c.start_open.ensures.same_table;
       caller = begun.caller;
       number = begun.number;
       fresh = begun.fresh;
@@ -53,7 +52,6 @@ returns-else-parent_is_open c =
     c.parent_is_open.ensures.reserved c.args.parent c.args.index c.args.target
     (c.parent_is_open.ensures.closed c.if-parent_is_open.false) in
     record {
-      same_table = c.parent_is_open.ensures.same_table;
       caller = begun.caller;
       number = begun.number;
       fresh = begun.fresh;

@@ -1,4 +1,5 @@
-use Rattle.std.proofs.Common.{refl, Ok}
+use Rattle.std.proofs.Common.{refl, Ok, ap, ◌∙◌}
+use Rattle.ist_rule.specs.declared.view.View.{View}
 use Rattle.ist_rebuild.proofs.BegunLemmas.{begun_more, refused_told, reserved_begun, told_after}
 use Rattle.ist_rows.proofs.FewLemmas.{later_went}
 use Rattle.ist_rows.proofs.FewStepLemmas.{few_kept}
@@ -20,7 +21,10 @@ returns-in_err-rows-clause-told c =
 
 -- the rows are filled
 pub put_in-requires : goal.put_in-requires
-put_in-requires c = (c.in_ok-rows.ensures.same_table, (c.in_ok-rows.ensures.ready, refl))
+put_in-requires c = (
+  ap (λ (v : View). v.table) c.in_ok-rows.ensures.reserved.went.same ∙ c.requires.same_table,
+  (c.in_ok-rows.ensures.ready, refl),
+)
 
 pub returns-clause-begun : goal.returns-clause-begun
 returns-clause-begun c =

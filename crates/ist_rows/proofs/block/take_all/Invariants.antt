@@ -1,4 +1,4 @@
-use Rattle.std.proofs.Common.{◌≡◌, ◌-◌}
+use Rattle.std.proofs.Common.{◌-◌}
 use Rattle.ist_core.specs.RowLayout.{place_limit}
 use Rattle.ist_rule.specs.Watching.{number_of}
 use Rattle.ist_rows.specs.Rows.{HasReadNext}
@@ -11,11 +11,7 @@ ghost-exchange_all g a = reservings (number_of a.token.now.view.who) a.old g.siz
 
 -- the first free word was read, after loads only
 abbrev pub invariant-turns : goal.invariant-turns
-invariant-turns g l =
-    record {
-      same_table : l.token.table ≡ l.fn.token.table;
-      read : HasReadNext l.fn.token.view l.next l.token.view;
-    }
+invariant-turns g l = HasReadNext l.fn.token.view l.next l.token.view
 
 -- each further turn met a Reserve of another: fewer words are free
 abbrev pub decreases-turns : goal.decreases-turns

@@ -28,7 +28,7 @@ returns-clause-caller c =
     let less : c.add-number.new.token.view.given < c.add-number.new.token.view.made = omega arith in
     let same : c.add-number.new.token.view.given ≡ c.add-number.result = omega arith in
     new_caller c.add-number.new.token.view _ c.know-2.ensures.sound e.who less
-    c.split-token.ensures.new.1 (sym same) refl
+    c.split-token.ensures.new (sym same) refl
 
 -- what both tokens are then
 split : (c : goal.After-split-token)
@@ -45,8 +45,8 @@ split c =
     let p = parts c.args.maker.now.view c.add-number.new.token.view c.add-number.result
     c.requires.maker c.add-number.ensures.added.logged c.know-2.ensures.sound same less in
     subst (λ (w : View). Parts c.args.maker.now.view c.add-number.result w
-    c.split-token.result.view) (sym c.split-token.ensures.old.1)
-    (subst (Parts c.args.maker.now.view c.add-number.result _) (sym c.split-token.ensures.new.1) p)
+    c.split-token.result.view) (sym c.split-token.ensures.old)
+    (subst (Parts c.args.maker.now.view c.add-number.result _) (sym c.split-token.ensures.new) p)
 
 pub returns-clause-holds_none : goal.returns-clause-holds_none
 returns-clause-holds_none c = (split c).held

@@ -38,11 +38,7 @@ fill-requires-clause-held c =
 
 pub fill-requires-clause-same_table : goal.fill-requires-clause-same_table
 fill-requires-clause-same_table c =
-    ap (λ (x : Caller). x.token.table) c.loop-word.invariant.1 ∙ c.requires.same_table
-
-pub returns-clause-same_table : goal.returns-clause-same_table
-returns-clause-same_table c =
-    ap (λ (x : Caller). x.token.table) c.loop-word.invariant.1 ∙ c.requires.same_table
+    ap (λ (x : Caller). x.token.view.table) c.loop-word.invariant.1 ∙ c.requires.same_table
 
 -- after the last one all are stored
 pub returns-clause-stored : goal.returns-clause-stored

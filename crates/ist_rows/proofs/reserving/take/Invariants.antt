@@ -1,4 +1,4 @@
-use Rattle.std.proofs.Common.{◌≡◌, ◌-◌}
+use Rattle.std.proofs.Common.{◌-◌}
 use Rattle.ist_core.specs.RowLayout.{place_limit}
 use Rattle.ist_rows.specs.Fairly.{reserving}
 use Rattle.ist_rows.specs.Rows.{HasReadNext}
@@ -10,11 +10,7 @@ ghost-exchange a = reserving a.token.now.view a.old a.new
 
 -- the first free word was read, after loads only
 abbrev pub invariant-turns : goal.invariant-turns
-invariant-turns l =
-    record {
-      same_table : l.token.table ≡ l.fn.token.table;
-      read : HasReadNext l.fn.token.view l.next l.token.view;
-    }
+invariant-turns l = HasReadNext l.fn.token.view l.next l.token.view
 
 -- each further turn met a Reserve of another: fewer words are free
 abbrev pub decreases-turns : goal.decreases-turns

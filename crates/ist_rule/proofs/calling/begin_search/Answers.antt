@@ -1,5 +1,6 @@
 use Rattle.std.proofs.Common.{sym, ap, ◌∙◌, arith}
 use Rattle.ist_rule.specs.Faces.{TokenFace, TableFace}
+use Rattle.ist_rule.proofs.NamedLemmas.{same_id}
 use Rattle.ist_rule.proofs.CallPlayLemmas.{searches_moves, may_walk}
 use Rattle.ist_rule.proofs.calling.begin_search.Goals as goal
 
@@ -7,8 +8,7 @@ use Rattle.ist_rule.proofs.calling.begin_search.Goals as goal
 pub load-requires : goal.load-requires
 load-requires c =
     let i = c.table.invariant in (
-      ap (λ (s : TokenFace). s.table) c.token.view_is ∙ c.requires.same_table ∙ sym
-          (ap (λ (t : TableFace). t.table) c.table.view_is),
+      same_id c.token.invariant.3 c.token.view_is c.table.view_is c.requires.same_table,
       omega arith,
       searches_moves _ _ _ _ c.token.invariant.1.live,
     )

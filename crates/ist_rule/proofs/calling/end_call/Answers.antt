@@ -2,6 +2,7 @@ use Rattle.std.proofs.Common.{sym, ap, subst, ◌∙◌, arith}
 use Rattle.ist_rule.specs.declared.view.View.{View}
 use Rattle.ist_rule.specs.Faces.{TokenFace, TableFace}
 use Rattle.ist_rule.specs.Conditions.{CanEnd}
+use Rattle.ist_rule.proofs.NamedLemmas.{same_id}
 use Rattle.ist_rule.proofs.CallPlayLemmas.{ends_moves}
 use Rattle.ist_rule.proofs.calling.end_call.Goals as goal
 
@@ -12,8 +13,7 @@ load-requires g c =
     let v : View = c.token.inside.seat.me.0 in
     let can = subst (λ (x : View). CanEnd x g.call)
     (ap (λ (s : TokenFace). s.view) (sym c.token.view_is)) c.requires.1.0 in (
-      ap (λ (s : TokenFace). s.table) c.token.view_is ∙ c.requires.0 ∙ sym
-          (ap (λ (t : TableFace). t.table) c.table.view_is),
+      same_id c.token.invariant.3 c.token.view_is c.table.view_is c.requires.0,
       omega arith,
       ends_moves _ _ _ _ _ c.token.invariant.1.live can,
     )

@@ -1,6 +1,7 @@
 use Rattle.std.proofs.Common.{sym, ap, subst, ◌∙◌, arith}
 use Rattle.ist_rule.specs.Faces.{TokenFace, TableFace}
 use Rattle.ist_rule.specs.Conditions.{CanGiveUp}
+use Rattle.ist_rule.proofs.NamedLemmas.{same_id}
 use Rattle.ist_rule.proofs.CallPlayLemmas.{gives_up_moves}
 use Rattle.ist_rule.proofs.calling.give_up.Goals as goal
 
@@ -10,8 +11,7 @@ load-requires c =
     let i = c.table.invariant in
     let can = subst CanGiveUp (ap (λ (s : TokenFace). s.view) (sym c.token.view_is))
     c.requires.may_give_up in (
-      ap (λ (s : TokenFace). s.table) c.token.view_is ∙ c.requires.same_table ∙ sym
-          (ap (λ (t : TableFace). t.table) c.table.view_is),
+      same_id c.token.invariant.3 c.token.view_is c.table.view_is c.requires.same_table,
       omega arith,
       gives_up_moves _ _ _ _ c.token.invariant.1.live can,
     )

@@ -1,6 +1,7 @@
 use Rattle.std.proofs.Common.{sym, ap, subst, ◌∙◌, arith}
 use Rattle.ist_rule.specs.Faces.{TokenFace, TableFace}
 use Rattle.ist_rule.specs.Conditions.{CanBegin}
+use Rattle.ist_rule.proofs.NamedLemmas.{same_id}
 use Rattle.ist_rule.proofs.CallPlayLemmas.{glances_moves}
 use Rattle.ist_rule.proofs.calling.glance.Goals as goal
 
@@ -10,8 +11,7 @@ load-requires c =
     let i = c.table.invariant in
     let can = subst CanBegin (ap (λ (s : TokenFace). s.view) (sym c.token.view_is))
     c.requires.may_begin in (
-      ap (λ (s : TokenFace). s.table) c.token.view_is ∙ c.requires.same_table ∙ sym
-          (ap (λ (t : TableFace). t.table) c.table.view_is),
+      same_id c.token.invariant.3 c.token.view_is c.table.view_is c.requires.same_table,
       omega arith,
       glances_moves _ _ _ _ c.token.invariant.1.live can,
     )

@@ -1,6 +1,7 @@
 use Rattle.std.proofs.Common.{sym, ap, subst, ◌∙◌, arith}
 use Rattle.ist_rule.specs.Faces.{TokenFace, TableFace}
 use Rattle.ist_rule.specs.Conditions.{CanAdd}
+use Rattle.ist_rule.proofs.NamedLemmas.{same_id}
 use Rattle.ist_rule.proofs.ExchangeLemmas.{adds_moves}
 use Rattle.ist_rule.proofs.steps.add.Goals as goal
 
@@ -11,8 +12,7 @@ fetch_add-requires g c =
     let p = c.requires.1.0 in
     let can = subst (λ x. CanAdd x c.args.place g.event)
     (ap (λ (s : TokenFace). s.view) (sym c.token.view_is)) c.requires.1.1 in (
-      ap (λ (s : TokenFace). s.table) c.token.view_is ∙ c.requires.0 ∙ sym
-          (ap (λ (t : TableFace). t.table) c.table.view_is),
+      same_id c.token.invariant.3 c.token.view_is c.table.view_is c.requires.0,
       omega arith,
       adds_moves _ _ _ _ _ _ c.token.invariant.1.live can,
     )

@@ -1,5 +1,6 @@
 use Rattle.std.proofs.Common.{sym, ap, ◌∙◌, arith}
 use Rattle.ist_rule.specs.Faces.{TokenFace, TableFace}
+use Rattle.ist_rule.proofs.NamedLemmas.{same_id}
 use Rattle.ist_rule.proofs.LookLemmas.{looks_moves}
 use Rattle.ist_rule.proofs.steps.load_top.Goals as goal
 
@@ -8,8 +9,7 @@ pub load-requires : goal.load-requires
 load-requires c =
     let same = c.table.invariant.0 in
     let least = c.table.invariant.1 in (
-      ap (λ (s : TokenFace). s.table) c.token.view_is ∙ c.requires.same_table ∙ sym
-          (ap (λ (t : TableFace). t.table) c.table.view_is),
+      same_id c.token.invariant.3 c.token.view_is c.table.view_is c.requires.same_table,
       omega arith,
       looks_moves _ _ _ _ _ c.token.invariant.1.live,
     )

@@ -1,8 +1,9 @@
 use Rattle.std.proofs.Common.{sym, ap, subst, ◌∙◌, arith}
 use Rattle.ist_rule.specs.declared.view.View.{View}
-use Rattle.ist_rule.specs.Faces.{TokenFace, TableFace}
+use Rattle.ist_rule.specs.Faces.{TokenFace, TableFace, name_of}
 use Rattle.ist_rule.specs.Conditions.{IsOwn}
 use Rattle.ist_rule.specs.Rule.{IsSound}
+use Rattle.ist_rule.proofs.NamedLemmas.{same_id}
 use Rattle.ist_rule.proofs.StoreLemmas.{stores_moves, storing_sound}
 use Rattle.ist_rule.proofs.steps.store.Goals as goal
 
@@ -13,8 +14,7 @@ store-requires c =
     let p = c.requires.within in
     let own = subst (λ x. IsOwn x c.args.place) (ap (λ (s : TokenFace). s.view) (sym c.token.view_is))
     c.requires.own in (
-      ap (λ (s : TokenFace). s.table) c.token.view_is ∙ c.requires.same_table ∙ sym
-          (ap (λ (t : TableFace). t.table) c.table.view_is),
+      same_id c.token.invariant.3 c.token.view_is c.table.view_is c.requires.same_table,
       omega arith,
       stores_moves _ _ _ _ _ _ c.token.invariant.1.live own,
     )
@@ -29,4 +29,5 @@ invariant_of-token c =
       e.2.1 ∙ c.token.invariant.0,
       subst IsSound (sym e.2.0) (storing_sound v c.args.place c.args.word own c.token.invariant.1),
       ap (λ (x : View). x.words) e.2.0 ∙ c.token.invariant.2 ∙ sym (ap (λ t. t.words) e.0),
+      ap (λ (x : View). x.table) e.2.0 ∙ c.token.invariant.3 ∙ sym (ap name_of e.0),
     )

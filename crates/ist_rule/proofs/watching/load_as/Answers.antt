@@ -1,6 +1,7 @@
 use Rattle.std.proofs.Common.{sym, ap, subst, ◌∙◌, arith}
-use Rattle.ist_rule.specs.Faces.{TokenFace, TableFace}
+use Rattle.ist_rule.specs.Faces.{TokenFace, TableFace, name_of}
 use Rattle.ist_rule.specs.Conditions.{CanLoadAs}
+use Rattle.ist_rule.proofs.NamedLemmas.{same_id}
 use Rattle.ist_rule.proofs.LeavingLemmas.{loads_as_moves, loaded_as_sound}
 use Rattle.ist_rule.proofs.watching.load_as.Goals as goal
 
@@ -11,8 +12,7 @@ load-requires g c =
     let p = c.requires.1.0 in
     let can = subst (λ x. CanLoadAs x c.args.place g.event)
     (ap (λ (s : TokenFace). s.view) (sym c.token.view_is)) c.requires.1.1 in (
-      ap (λ (s : TokenFace). s.table) c.token.view_is ∙ c.requires.0 ∙ sym
-          (ap (λ (t : TableFace). t.table) c.table.view_is),
+      same_id c.token.invariant.3 c.token.view_is c.table.view_is c.requires.0,
       omega arith,
       loads_as_moves _ _ _ _ _ _ c.token.invariant.1.live can,
     )
@@ -25,4 +25,5 @@ invariant_of-token g c =
       e.2.1 ∙ c.token.invariant.0,
       it.0,
       it.1 ∙ c.token.invariant.2 ∙ sym (ap (λ t. t.words) e.0),
+      it.2 ∙ c.token.invariant.3 ∙ sym (ap name_of e.0),
     )

@@ -24,12 +24,15 @@ help_rebuild-requires-clause-started c =
 
 -- ---- what it results in
 
-pub returns-clause-froze : goal.returns-clause-froze
-returns-clause-froze c =
-    target_froze c.args.who.now c.mark_and_count-keys.new.token c.help_rebuild.new.who _
-    c.args.rebuild c.args.target c.mark_and_count-keys.result c.requires.ready c.requires.of
-    c.mark_and_count-keys.ensures.went c.mark_and_count-keys.ensures.finished
-    (serves_on _ _ c.help_rebuild.ensures.helped)
-    c.help_rebuild.ensures.helped.on.gone.went c.help_rebuild.result c.err-refused.result
-    c.err-refused.ensures.value c.help_rebuild.ensures.replaced c.help_rebuild.ensures.parent_marked
-    c.help_rebuild.ensures.full c.help_rebuild.ensures.few
+pub returns : goal.returns
+returns c =
+    record {
+      froze = target_froze c.args.who.now c.mark_and_count-keys.new.token c.help_rebuild.new.who _
+          c.args.rebuild c.args.target c.mark_and_count-keys.result c.requires.ready c.requires.of
+          c.mark_and_count-keys.ensures.went c.mark_and_count-keys.ensures.finished
+          (serves_on _ _ c.help_rebuild.ensures.helped)
+          c.help_rebuild.ensures.helped.on.gone.went c.help_rebuild.result c.err-refused.result
+          c.err-refused.ensures.value c.help_rebuild.ensures.replaced
+          c.help_rebuild.ensures.parent_marked c.help_rebuild.ensures.full
+          c.help_rebuild.ensures.few;
+    }

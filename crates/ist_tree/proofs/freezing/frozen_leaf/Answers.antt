@@ -1,6 +1,6 @@
 -- The leaf with the number: one below the row, or the leaf that the root is.
 use Rattle.ist_rule.proofs.GoingOnLemmas.{goes_on_same}
-use Rattle.std.proofs.Common.{ap, refl, arith}
+use Rattle.std.proofs.Common.{ap, arith}
 use Rattle.ist_layout.specs.Meanings.{ref_meant}
 use Rattle.ist_tree.proofs.FreezeReadLemmas.{leaf_itself, leaf_numbered}
 use Rattle.ist_tree.proofs.freezing.frozen_leaf.Goals as goal
@@ -12,7 +12,6 @@ returns-in-Inner-clause-leaf c =
 
 pub returns-in_default : goal.returns-in_default
 returns-in_default c = record {
-  same_table = refl;
   seen = goes_on_same _ c.know.ensures.sound;
   leaf = leaf_itself _ c.args.frozen.root _ c.args.i _ c.requires.frozen c.requires.within
       c.in_default.not-Inner c.base_of-in_default.ensures.leaf;

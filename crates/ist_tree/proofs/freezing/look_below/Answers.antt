@@ -13,14 +13,14 @@ use Rattle.ist_rebuild.proofs.RefusalLemmas.{passed_on}
 
 -- before the first look nothing was done
 pub turns-init : goal.turns-init
-turns-init c = (c.requires.same_table, idle_same _ c.know.ensures.sound c.requires.ready, le_refl _)
+turns-init c = (idle_same _ c.know.ensures.sound c.requires.ready, le_refl _)
 
 -- a look begins
 begun : (c : After-begin_search)
     → GoesIdle (counted_as c.args.who.now c.begin_search.new.token.view.searches)
     (record c.turns.who { token = c.begin_search.new.token })
 begun c =
-    idle_begun c.args.who.now c.turns.who c.begin_search.new.token c.turns.invariant.1
+    idle_begun c.args.who.now c.turns.who c.begin_search.new.token c.turns.invariant.0
     c.begin_search.ensures.begun
 
 pub look-requires-clause-ready : goal.look-requires-clause-ready
@@ -36,7 +36,7 @@ returns-in_err-site-clause-full c =
 pub returns-in_err-site-clause-few_walks : goal.returns-in_err-site-clause-few_walks
 returns-in_err-site-clause-few_walks c =
     few_begun Rebuilds c.args.who.now.token.view c.turns.who.token.view c.begin_search.new.token.view
-    c.look.new.who.token.view c.turns.invariant.2 c.begin_search.ensures.begun
+    c.look.new.who.token.view c.turns.invariant.1 c.begin_search.ensures.begun
     c.in_err-site.ensures.full.idle.on.gone.went
 
 -- the last look met it
@@ -49,7 +49,7 @@ returns-in-Some-clause-met c =
 pub returns-in-Some-clause-few_walks : goal.returns-in-Some-clause-few_walks
 returns-in-Some-clause-few_walks c =
     few_begun Rebuilds c.args.who.now.token.view c.turns.who.token.view c.begin_search.new.token.view
-    c.look.new.who.token.view c.turns.invariant.2 c.begin_search.ensures.begun
+    c.look.new.who.token.view c.turns.invariant.1 c.begin_search.ensures.begun
     (subst (MayHaveMet _ c.look.new.who) c.in-Some.is c.in_ok-site.ensures.met).on.gone.went
 
 -- or nothing was met
@@ -57,10 +57,9 @@ pub turns-preserved : goal.turns-preserved
 turns-preserved c =
     let idle = none_met _ c.look.new.who c.in_ok-site.field-0 c.in_default.not-Some
     c.in_ok-site.ensures.met in (
-      c.look.ensures.same_table,
       idle_after c.args.who.now _ c.look.new.who (begun (goal.at.turns-preserved c).After-begin_search) idle,
       paid_begun c.args.who.now.token.view c.turns.who.token.view c.begin_search.new.token.view
-          c.look.new.who.token.view c.turns.invariant.2 c.begin_search.ensures.begun
+          c.look.new.who.token.view c.turns.invariant.1 c.begin_search.ensures.begun
           (ap (λ y. y.searches) idle.on.gone.went.same)
           (c.look.ensures.further (c.in_ok-site.was ∙ ap Ok c.in_default.is)),
     )

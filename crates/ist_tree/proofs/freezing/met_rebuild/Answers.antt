@@ -8,8 +8,11 @@ target_of-target-requires-clause-published c =
     started_rebuild _ c.know.ensures.sound c.args.rebuild c.requires.row.started
 
 -- the rebuild that stood there is met, by its target
-pub returns-clause-met : goal.returns-clause-met
-returns-clause-met c =
-    stood_met c.args.who.now c.target_of-target.new.token c.args.rebuild c.target_of-target.result
-    c.know.ensures.sound c.requires.ready c.target_of-target.ensures.seen c.requires.row.started
-    c.target_of-target.ensures.target c.requires.row.below c.requires.row.top
+pub returns : goal.returns
+returns c =
+    record {
+      met = stood_met c.args.who.now c.target_of-target.new.token c.args.rebuild
+          c.target_of-target.result c.know.ensures.sound c.requires.ready
+          c.target_of-target.ensures.seen c.requires.row.started
+          c.target_of-target.ensures.target c.requires.row.below c.requires.row.top;
+    }

@@ -11,17 +11,21 @@ help_rebuild-requires-clause-started c =
     other_started _ c.know.ensures.sound _ _ _ _ _ c.requires.stood
     (names_rebuild _ _ (sym c.instead_in.ensures.value ∙ c.in-Rebuild.is))
 
-pub returns-in-Ok-clause-helped : goal.returns-in-Ok-clause-helped
-returns-in-Ok-clause-helped c =
-    other_rebuilt _ _ c.args.due _ _ _ c.help_rebuild.ensures.helped
-    (names_rebuild _ _ (sym c.instead_in.ensures.value ∙ c.in-Rebuild.is)) c.requires.ready
-    c.help_rebuild.ensures.finished
+pub returns-in-Ok : goal.returns-in-Ok
+returns-in-Ok c =
+    record {
+      helped = other_rebuilt _ _ c.args.due _ _ _ c.help_rebuild.ensures.helped
+          (names_rebuild _ _ (sym c.instead_in.ensures.value ∙ c.in-Rebuild.is)) c.requires.ready
+          c.help_rebuild.ensures.finished;
+    }
 
-pub returns-in-Err-clause-helped : goal.returns-in-Err-clause-helped
-returns-in-Err-clause-helped c =
-    other_short _ _ c.args.due _ _ _ c.help_rebuild.ensures.helped
-    (names_rebuild _ _ (sym c.instead_in.ensures.value ∙ c.in-Rebuild.is)) c.know.ensures.sound
-    c.requires.stood _ c.in-Err.ensures.full
+pub returns-in-Err : goal.returns-in-Err
+returns-in-Err c =
+    record {
+      helped = other_short _ _ c.args.due _ _ _ c.help_rebuild.ensures.helped
+          (names_rebuild _ _ (sym c.instead_in.ensures.value ∙ c.in-Rebuild.is))
+          c.know.ensures.sound c.requires.stood _ c.in-Err.ensures.full;
+    }
 
 -- a change
 pub help-requires-clause-may_help : goal.help-requires-clause-may_help
@@ -29,12 +33,18 @@ help-requires-clause-may_help c =
     other_helped _ c.know.ensures.sound _ _ _ _ _ c.requires.stood _ c.requires.ready.caller.mine
     (names_change _ _ (sym c.instead_in.ensures.value ∙ c.in-Change.is))
 
-pub returns-in-Change-clause-helped : goal.returns-in-Change-clause-helped
-returns-in-Change-clause-helped c =
-    other_changed _ c.help.new.token c.args.due _ _ _ c.requires.ready c.help.ensures.went
-    (names_change _ _ (sym c.instead_in.ensures.value ∙ c.in-Change.is)) c.help.ensures.out.resolved
+pub returns-in-Change : goal.returns-in-Change
+returns-in-Change c =
+    record {
+      helped = other_changed _ c.help.new.token c.args.due _ _ _ c.requires.ready
+          c.help.ensures.went
+          (names_change _ _ (sym c.instead_in.ensures.value ∙ c.in-Change.is))
+          c.help.ensures.out.resolved;
+    }
 
-pub returns-in-Other-clause-helped : goal.returns-in-Other-clause-helped
-returns-in-Other-clause-helped c =
-    other_none _ c.args.due _ _ c.know.ensures.sound c.requires.ready
-    (sym c.instead_in.ensures.value ∙ c.in-Other.is)
+pub returns-in-Other : goal.returns-in-Other
+returns-in-Other c =
+    record {
+      helped = other_none _ c.args.due _ _ c.know.ensures.sound c.requires.ready
+          (sym c.instead_in.ensures.value ∙ c.in-Other.is);
+    }

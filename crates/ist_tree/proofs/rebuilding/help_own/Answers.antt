@@ -6,13 +6,17 @@ use Rattle.ist_tree.proofs.rebuilding.help_own.Goals as goal
 pub help_rebuild-requires-clause-started : goal.help_rebuild-requires-clause-started
 help_rebuild-requires-clause-started c = c.requires.started.started
 
-pub returns-in-Ok-clause-helped : goal.returns-in-Ok-clause-helped
-returns-in-Ok-clause-helped c =
-    own_helped _ _ c.args.due _ _ c.help_rebuild.ensures.helped c.requires.started c.requires.ready
-    (helped_either c.in-Ok.field-0 _ _ c.in-Ok.ensures.replaced
-    c.in-Ok.ensures.parent_marked)
+pub returns-in-Ok : goal.returns-in-Ok
+returns-in-Ok c =
+    record {
+      helped = own_helped _ _ c.args.due _ _ c.help_rebuild.ensures.helped c.requires.started
+          c.requires.ready (helped_either c.in-Ok.field-0 _ _ c.in-Ok.ensures.replaced
+          c.in-Ok.ensures.parent_marked);
+    }
 
-pub returns-in-Err-clause-helped : goal.returns-in-Err-clause-helped
-returns-in-Err-clause-helped c =
-    own_short _ _ c.args.due _ _ c.help_rebuild.ensures.helped c.requires.started _
-    c.in-Err.ensures.full
+pub returns-in-Err : goal.returns-in-Err
+returns-in-Err c =
+    record {
+      helped = own_short _ _ c.args.due _ _ c.help_rebuild.ensures.helped c.requires.started _
+          c.in-Err.ensures.full;
+    }

@@ -9,28 +9,31 @@ use Rattle.ist_tree.proofs.rebuilding.rebuild_due.Goals as goal
 
 pub turns-init : goal.turns-init
 turns-init c =
-    (c.requires.same_table, goes_none _ _ c.know.ensures.sound c.requires.ready, λ first done. done)
+    (goes_none _ _ c.know.ensures.sound c.requires.ready, λ first done. done)
 
 pub try_due-requires-clause-may_start : goal.try_due-requires-clause-may_start
 try_due-requires-clause-may_start c =
-    may_start_went Rebuilds _ _ c.turns.invariant.1.on.gone.went _ _ _ c.requires.may_start
+    may_start_went Rebuilds _ _ c.turns.invariant.0.on.gone.went _ _ _ c.requires.may_start
 
-pub returns-in_err-try_due-clause-rebuilt : goal.returns-in_err-try_due-clause-rebuilt
-returns-in_err-try_due-clause-rebuilt c =
-    rebuilt_short _ _ _ c.args.due _ c.turns.invariant.1 c.from_residual.result _
-    c.from_residual.ensures.1 c.in_err-try_due.ensures.tried
+pub returns-in_err-try_due : goal.returns-in_err-try_due
+returns-in_err-try_due c =
+    record {
+      rebuilt = rebuilt_short _ _ _ c.args.due _ c.turns.invariant.0 c.from_residual.result _
+          c.from_residual.ensures.1 c.in_err-try_due.ensures.tried;
+    }
 
-pub returns-then-branch-clause-rebuilt : goal.returns-then-branch-clause-rebuilt
-returns-then-branch-clause-rebuilt c =
-    rebuilt_last _ _ _ c.args.due _ c.turns.invariant.1 _ c.turns.invariant.2
-    c.in_ok-try_due.ensures.tried c.if-branch.true
+pub returns-then-branch : goal.returns-then-branch
+returns-then-branch c =
+    record {
+      rebuilt = rebuilt_last _ _ _ c.args.due _ c.turns.invariant.0 _ c.turns.invariant.1
+          c.in_ok-try_due.ensures.tried c.if-branch.true;
+    }
 
 pub turns-preserved : goal.turns-preserved
 turns-preserved c = (
-  c.try_due.ensures.same_table,
-  goes_more _ _ _ _ c.turns.invariant.1 c.try_due.ensures.tried.on,
-  done_more c.args.who.now c.turns.who c.try_due.new.who c.turns.invariant.1.on.gone.number
-      c.turns.invariant.2 c.in_ok-try_due.ensures.tried.done,
+  goes_more _ _ _ _ c.turns.invariant.0 c.try_due.ensures.tried.on,
+  done_more c.args.who.now c.turns.who c.try_due.new.who c.turns.invariant.0.on.gone.number
+      c.turns.invariant.1 c.in_ok-try_due.ensures.tried.done,
 )
 
 -- each attempt but the last saw the table make progress

@@ -1,10 +1,12 @@
 -- A put or a remove in a call of its own.
 use Rattle.std.proofs.Common.{Ok, ap, ◌∙◌, refl, sym, subst}
+use Rattle.ist_rule.specs.declared.view.View.{View}
 use Rattle.ist_rule.specs.Faces.{word_count_of}
 use Rattle.ist_updates.specs.Asking.{IsAsked, command_for}
 use Rattle.ist_updates.specs.Counting.{LeavesDue}
 use Rattle.ist_updates.specs.Meeting.{due_in}
 use Rattle.ist_tree.specs.Updates.{HasUpdated}
+use Rattle.ist_tree.proofs.GoingLemmas.{table_is}
 use Rattle.ist_tree.proofs.InstallLemmas.{applied_starts}
 use Rattle.ist_tree.proofs.UpdateResultLemmas.{applies_by, due_may_start, let_go}
 use Rattle.ist_tree.proofs.UpdateCallLemmas.{CallEnds, CallStops, always_met, begins_update, call_ends, call_may_end, call_stops, not_unmet}
@@ -28,13 +30,17 @@ end_call-requires c =
     c.in-Ok.outcome c.reply.result c.due.result c.reply.ensures.value c.due.ensures.value did.caller
     did.refused did.quiet did.number did.went did.few_walks
     (c.in-Ok.ensures.answered c.in_default.not-Unmet)
-    (c.in-Ok.ensures.counted c.in_default.not-Unmet) c.in-Ok.ensures.due in (
-      c.rebuild_topmost-refused.ensures.same_table,
+    (c.in-Ok.ensures.counted c.in_default.not-Unmet) c.in-Ok.ensures.due in
+    let carried = c.rebuild_topmost-refused.ensures.carried c.begin.new.who
+    (command_for c.args.update.key c.args.update.value) c.reply.result a m in (
+      ap (λ (v : View). v.table) carried.went.went.same
+          ∙ ap (λ (v : View). v.table) c.begin.ensures.begun.view
+          ∙ table_is c.pass.inside.caller _ _ _ _ c.pass.view_is c.requires.same_tree
+          c.tree.view_is,
       call_may_end _ _ _ _ _ _ _
           (begins_update c.pass.inside.caller c.begin.new.who _ _ _ _ _ _ c.begin.ensures.sound
           c.pass.invariant c.command.ensures.value c.begin.ensures.begun c.begin.ensures.number
-          c.pass.view_is c.requires.same_tree c.tree.view_is) _ _
-          (c.rebuild_topmost-refused.ensures.carried c.begin.new.who _ c.reply.result a m),
+          c.pass.view_is c.requires.same_tree c.tree.view_is) _ _ carried,
     )
 
 ends : (c : goal.After-pass-1) → CallEnds c.args.pass.now c.rebuild_topmost-refused.new.who
@@ -54,9 +60,7 @@ ends c =
     c.pass.view_is c.requires.same_tree c.tree.view_is) _ _
     (c.rebuild_topmost-refused.ensures.carried c.begin.new.who _ c.reply.result a m)
     (c.rebuild_topmost-refused.ensures.starts c.begin.new.who _ c.reply.result a m) _
-    c.end_call.ensures.ended
-    (c.end_call.ensures.same_table ∙ c.rebuild_topmost-refused.ensures.same_table) _
-    c.or-pass-inside.ensures
+    c.end_call.ensures.ended _ c.or-pass-inside.ensures
 
 pub invariant_of-pass-in_default : goal.invariant_of-pass-in_default
 invariant_of-pass-in_default c = (ends c).pass
@@ -91,7 +95,7 @@ refused c =
     (let_go c.begin.new.who c.apply.new.who a.caller.mine a.resolved did.caller did.refused did.number
     did.went did.few_walks short.given_up short.none_due short.uncounted)
     (applied_starts c.begin.new.who c.apply.new.who a.caller.mine did.went) _
-    c.give_up-in-Err.ensures.given_up (c.give_up-in-Err.ensures.same_table ∙ did.same_table)
+    c.give_up-in-Err.ensures.given_up
 
 pub invariant_of-pass-in-Err : goal.invariant_of-pass-in-Err
 invariant_of-pass-in-Err c = (refused c).pass
@@ -120,7 +124,7 @@ missed c =
     (subst (λ o. LeavesDue c.begin.new.who.token.view c.apply.new.who.token.view
     c.begin.new.who.number (due_in o)) c.in-Unmet.is it.due) (it.none_counted is))
     (applied_starts c.begin.new.who c.apply.new.who a.caller.mine did.went) _
-    c.give_up.ensures.given_up (c.give_up.ensures.same_table ∙ did.same_table)
+    c.give_up.ensures.given_up
 
 pub invariant_of-pass : goal.invariant_of-pass
 invariant_of-pass c = (missed c).pass

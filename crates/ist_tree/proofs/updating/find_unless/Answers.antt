@@ -2,7 +2,7 @@
 use Rattle.std.proofs.Common.{◌≡◌, ◌∙◌, subst, rules}
 use Rattle.ist_tree.specs.Insides.{face_as}
 use Rattle.ist_tree.specs.Updates.{HasMetAt}
-use Rattle.ist_tree.proofs.FindCallLemmas.{EndsFound, StopsFound, ends_found, may_end_found, may_stop_found, stops_found}
+use Rattle.ist_tree.proofs.FindCallLemmas.{EndsFound, StopsFound, ends_found, found_table, may_end_found, may_stop_found, stops_found}
 use Rattle.ist_tree.proofs.GoingLemmas.{table_is}
 use Rattle.ist_tree.proofs.updating.find_unless.Goals as goal
 use Rattle.ist_tree.proofs.updating.find_unless.Goals.{After-know-2, After-know-then-eq}
@@ -16,8 +16,7 @@ stops : (c : After-know-then-eq) → StopsFound c.args.pass.now c.pass.inside.ca
     c.pass.inside.refused c.give_up.new.token c.args.key c.begin_find-found.result.value
 stops c =
     stops_found c.pass.inside.caller _ _ _ c.pass.invariant.pass c.begin_find-found.ensures.found _ _
-    c.pass.invariant (c.give_up.ensures.same_table ∙ c.begin_find-found.ensures.same_table) _
-    c.pass.view_is c.give_up.ensures.given_up
+    c.pass.invariant _ c.pass.view_is c.give_up.ensures.given_up
 
 pub invariant_of-pass : goal.invariant_of-pass
 invariant_of-pass c = (stops c).pass
@@ -35,7 +34,7 @@ returns-then-eq-clause-met c e =
 -- it met another
 pub end_call-requires : goal.end_call-requires
 end_call-requires c = (
-  c.begin_find-found.ensures.same_table
+  found_table c.pass.inside.caller _ _ _ c.pass.invariant.pass c.begin_find-found.ensures.found
       ∙ table_is c.pass.inside.caller _ _ _ _ c.pass.view_is c.requires.same_tree c.tree.view_is,
   (
     may_end_found c.pass.inside.caller _ _ _ c.pass.invariant.pass c.begin_find-found.ensures.found,
@@ -47,8 +46,7 @@ ends : (c : After-know-2) → EndsFound c.args.pass.now c.pass.inside.caller c.p
     c.end_call.new.token c.args.key c.begin_find-found.result.value
 ends c =
     ends_found c.pass.inside.caller _ _ _ c.pass.invariant.pass c.begin_find-found.ensures.found _ _
-    c.pass.invariant (c.end_call.ensures.same_table ∙ c.begin_find-found.ensures.same_table) _
-    c.pass.view_is c.end_call.ensures.ended
+    c.pass.invariant _ c.pass.view_is c.end_call.ensures.ended
 
 pub invariant_of-pass-2 : goal.invariant_of-pass-2
 invariant_of-pass-2 c = (ends c).ends.pass

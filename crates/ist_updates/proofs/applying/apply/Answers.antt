@@ -1,4 +1,4 @@
-use Rattle.std.proofs.Common.{[], Ok, refl, sym, ◌∙◌}
+use Rattle.std.proofs.Common.{[], Ok, refl, ◌∙◌}
 use Rattle.std.proofs.Math.Nat.{le_refl}
 use Rattle.ist_rule.specs.Faces.{word_count_of}
 use Rattle.ist_rule.proofs.SearchedOnLemmas.{went_searched}
@@ -15,14 +15,14 @@ use Rattle.ist_updates.proofs.applying.apply.Goals.{After-begin_search, After-fr
 pub turns-init : goal.turns-init
 turns-init c =
     let went = went_searched Tries _ _ (went_same Tries _ c.know.ensures.sound) in
-    (refl, refl, record { went = went; asked = c.requires.asked }, le_refl _)
+    (refl, record { went = went; asked = c.requires.asked }, le_refl _)
 
 -- a walk begins, at the anchor
 turn : (c : After-begin_search) → IsTurn c.args.who.now c.turns.who c.begin_search.new.token
     c.args.update.key c.args.update.value
 turn c =
     let i = c.turns.invariant in let begun = c.begin_search.ensures.begun in
-    record { asked = c.requires.asked; number = i.1; again = i.2; paid = i.3; turned = begun }
+    record { asked = c.requires.asked; number = i.0; again = i.1; paid = i.2; turned = begun }
 
 pub descend-requires-clause-asked : goal.descend-requires-clause-asked
 descend-requires-clause-asked c =
@@ -37,7 +37,6 @@ pub turns-preserved : goal.turns-preserved
 turns-preserved c =
     let b = turn (goal.at.turns-preserved c).After-begin_search in
     let w = c.in_ok-outcome.ensures.walk in let is = c.in_default.is in (
-      c.descend.ensures.same_table ∙ sym c.requires.same_table,
       w.on.gone.number ∙ b.number,
       again_asked b is w,
       again_paid b is w,
@@ -59,9 +58,9 @@ refused c =
     let b : IsTurn c.args.who.now c.turns.who c.begin_search.new.token c.args.update.key c.args.update.value =
     record {
       asked = c.requires.asked;
-      number = i.1;
-      again = i.2;
-      paid = i.3;
+      number = i.0;
+      again = i.1;
+      paid = i.2;
       turned = c.begin_search.ensures.begun;
     } in
     turn_refused b c.from_residual.result c.from_residual.ensures.1 c.in_err-outcome.ensures.walk
@@ -92,9 +91,9 @@ ended c =
     let b : IsTurn c.args.who.now c.turns.who c.begin_search.new.token c.args.update.key c.args.update.value =
     record {
       asked = c.requires.asked;
-      number = i.1;
-      again = i.2;
-      paid = i.3;
+      number = i.0;
+      again = i.1;
+      paid = i.2;
       turned = c.begin_search.ensures.begun;
     } in
     turn_ends b c.in-Some.outcome c.in-Some.is c.in_ok-outcome.ensures.walk

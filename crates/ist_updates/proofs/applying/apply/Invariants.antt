@@ -6,8 +6,7 @@ use Rattle.ist_updates.proofs.applying.apply.Given as goal
 
 -- each walk so far took no effect, and was paid for by progress
 abbrev pub invariant-turns : goal.invariant-turns
-invariant-turns l = (l.who.token.table ≡ l.initial.who.token.table)
-    × (l.who.number ≡ l.initial.who.number)
+invariant-turns l = (l.who.number ≡ l.initial.who.number)
     × IsAskedAgain l.initial.who l.who (command_for l.update.key l.update.value)
     × (l.who.token.view.searches + progress l.initial.who.token.view.log
     ≤ l.initial.who.token.view.searches + progress l.who.token.view.log)

@@ -5,12 +5,12 @@ use Rattle.ist_updates.proofs.changing.change_open.Goals as goal
 use Rattle.ist_updates.proofs.changing.change_open.Goals.{After-know-2}
 
 -- a row was refused
-pub returns-in_err-plan-clause-changed : goal.returns-in_err-plan-clause-changed
-returns-in_err-plan-clause-changed c =
+pub returns-in_err-plan : goal.returns-in_err-plan
+returns-in_err-plan c =
     let e = c.in_err-plan.ensures in
     let h = refused_changed c.args.who.now c.args.aim c.args.way c.requires.asked _
     c.plan_for.new.who _ e.gone e.full in
-    search rules
+    record { changed = search rules }
 
 -- the plan was prepared
 ready : (c : After-know-2) → HasPreparedPlan c.args.who.now c.fill_rows.new.who c.args.aim c.args.way
@@ -26,9 +26,10 @@ carry_out-requires-clause-may_install c =
     (ready (goal.at.carry_out-requires-clause-may_install c).After-know-2).installable
 
 -- and carried out
-pub returns-clause-changed : goal.returns-clause-changed
-returns-clause-changed c =
-    carried_changed c.args.who.now c.args.aim c.args.way c.requires.asked _ c.fill_rows.new.who
-    c.carry_out.new.who c.in_ok-plan.plan c.carry_out.result
-    (ready (goal.at.returns-clause-changed c).After-know-2) c.requires.room
-    c.carry_out.ensures.carried
+pub returns : goal.returns
+returns c =
+    record {
+      changed = carried_changed c.args.who.now c.args.aim c.args.way c.requires.asked _
+          c.fill_rows.new.who c.carry_out.new.who c.in_ok-plan.plan c.carry_out.result
+          (ready (goal.at.returns c).After-know-2) c.requires.room c.carry_out.ensures.carried;
+    }

@@ -8,10 +8,13 @@ pub is_open-requires-clause-node : goal.is_open-requires-clause-node
 is_open-requires-clause-node c = slot_node _ c.args.aim c.requires.at_slot
 
 -- which isn't open
-pub returns-then-not-is_open-clause-changed : goal.returns-then-not-is_open-clause-changed
-returns-then-not-is_open-clause-changed c =
-    shut_changed c.args.who.now c.args.aim c.args.way c.requires.asked c.is_open.new.token
-    c.is_open.ensures.seen _ (λ is. not_true _ c.if-not-is_open.true (c.is_open.ensures.open.1 is))
+pub returns-then-not-is_open : goal.returns-then-not-is_open
+returns-then-not-is_open c =
+    record {
+      changed = shut_changed c.args.who.now c.args.aim c.args.way c.requires.asked
+          c.is_open.new.token c.is_open.ensures.seen _
+          (λ is. not_true _ c.if-not-is_open.true (c.is_open.ensures.open.1 is));
+    }
 
 -- or is
 pub change_open-requires-clause-asked : goal.change_open-requires-clause-asked
@@ -32,8 +35,10 @@ pub change_open-requires-clause-unrefused : goal.change_open-requires-clause-unr
 change_open-requires-clause-unrefused c =
     c.is_open.ensures.unrefused c.args.who.now.number c.if-not-is_open.false
 
-pub returns-clause-changed : goal.returns-clause-changed
-returns-clause-changed c =
-    loads_changed c.args.who.now c.args.aim c.args.way c.requires.asked c.is_open.new.token
-    c.is_open.ensures.seen _ c.change_open.result c.change_open.new.who c.requires.room
-    c.change_open.ensures.changed
+pub returns : goal.returns
+returns c =
+    record {
+      changed = loads_changed c.args.who.now c.args.aim c.args.way c.requires.asked
+          c.is_open.new.token c.is_open.ensures.seen _ c.change_open.result c.change_open.new.who
+          c.requires.room c.change_open.ensures.changed;
+    }

@@ -14,7 +14,6 @@ returns c =
       full = c.reserve-taken.ensures.full;
     } in
     record {
-      same_table = c.reserve-taken.ensures.same_table;
       gone = it.gone;
       held = it.held;
       rows = it.rows;

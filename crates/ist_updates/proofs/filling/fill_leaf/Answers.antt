@@ -10,7 +10,6 @@ returns c =
     c.know.ensures.sound c.requires.caller c.requires.row
     (omega arith) c.fill_row.ensures.stored in
     record {
-      same_table = c.fill_row.ensures.same_table;
       caller = c.fill_row.ensures.caller;
       same = it.same;
       stands = it.stands;

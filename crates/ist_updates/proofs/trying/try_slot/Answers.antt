@@ -23,35 +23,45 @@ try_empty-requires-clause-at_slot c =
     }
 
 -- the try is the walk
-pub returns-in-Some-Leaf-clause-walk : goal.returns-in-Some-Leaf-clause-walk
-returns-in-Some-Leaf-clause-walk c =
+pub returns-in-Some-Leaf : goal.returns-in-Some-Leaf
+returns-in-Some-Leaf c =
     let e = c.try_leaf.ensures in
-    tried_walk c.requires.asked c.know.ensures.sound c.requires.at_slot e.tried e.met e.missed
+    record {
+      walk = tried_walk c.requires.asked c.know.ensures.sound c.requires.at_slot e.tried e.met
+          e.missed;
+    }
 
-pub returns-in-Some-Change-clause-walk : goal.returns-in-Some-Change-clause-walk
-returns-in-Some-Change-clause-walk c =
+pub returns-in-Some-Change : goal.returns-in-Some-Change
+returns-in-Some-Change c =
     let e = c.help_change.ensures in
-    tried_walk c.requires.asked c.know.ensures.sound c.requires.at_slot e.tried
-    (none_met c.args.update.when c.help_change.result e.again)
-    (λ is. absurd (none_unmet c.help_change.result e.again is))
+    record {
+      walk = tried_walk c.requires.asked c.know.ensures.sound c.requires.at_slot e.tried
+          (none_met c.args.update.when c.help_change.result e.again)
+          (λ is. absurd (none_unmet c.help_change.result e.again is));
+    }
 
-pub returns-in-Some-Rebuild-clause-walk : goal.returns-in-Some-Rebuild-clause-walk
-returns-in-Some-Rebuild-clause-walk c =
+pub returns-in-Some-Rebuild : goal.returns-in-Some-Rebuild
+returns-in-Some-Rebuild c =
     let e = c.help_target.ensures in
-    tried_walk c.requires.asked c.know.ensures.sound c.requires.at_slot e.tried
-    (e.met c.args.update.when) (λ is. absurd (e.unmissed is))
+    record {
+      walk = tried_walk c.requires.asked c.know.ensures.sound c.requires.at_slot e.tried
+          (e.met c.args.update.when) (λ is. absurd (e.unmissed is));
+    }
 
-pub returns-in-Some-Empty-clause-walk : goal.returns-in-Some-Empty-clause-walk
-returns-in-Some-Empty-clause-walk c =
+pub returns-in-Some-Empty : goal.returns-in-Some-Empty
+returns-in-Some-Empty c =
     let e = c.try_empty.ensures in
-    tried_walk c.requires.asked c.know.ensures.sound c.requires.at_slot e.tried e.met e.missed
+    record {
+      walk = tried_walk c.requires.asked c.know.ensures.sound c.requires.at_slot e.tried e.met
+          e.missed;
+    }
 
 -- the word names a leaf, a change, a rebuild or nothing
-pub returns-in-Some-Inner-clause-walk : goal.returns-in-Some-Inner-clause-walk
-returns-in-Some-Inner-clause-walk c = absurd (search rules)
+pub returns-in-Some-Inner : goal.returns-in-Some-Inner
+returns-in-Some-Inner c = absurd (search rules)
 
-pub returns-in-Some-Unset-clause-walk : goal.returns-in-Some-Unset-clause-walk
-returns-in-Some-Unset-clause-walk c = absurd (search rules)
+pub returns-in-Some-Unset : goal.returns-in-Some-Unset
+returns-in-Some-Unset c = absurd (search rules)
 
-pub returns-in-None-clause-walk : goal.returns-in-None-clause-walk
-returns-in-None-clause-walk c = absurd (search rules)
+pub returns-in-None : goal.returns-in-None
+returns-in-None c = absurd (search rules)

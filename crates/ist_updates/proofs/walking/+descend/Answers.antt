@@ -1,6 +1,7 @@
 use borrow.Author.Gap.{counting}
 use borrow.Author.Rules.{rules}
 use Rattle.std.proofs.Common.{ℕ, Some, ap, subst, ◌∙◌}
+use Rattle.ist_rule.specs.declared.view.View.{View}
 use Rattle.ist_rule.proofs.WentOnLemmas.{goes_on_went}
 use Rattle.ist_find.specs.Searches.{Names}
 use Rattle.ist_find.proofs.RowLemmas.{not_anchor}
@@ -39,11 +40,13 @@ try_slot-requires-clause-at_slot t c =
     at_slot (down t (goal.at.try_slot-requires-clause-at_slot t c).After-step_down-child)
     (c.inner_in.ensures.no_inner c.in_default.is)
 
-pub returns-in_default-clause-walk : goal.returns-in_default-clause-walk
-returns-in_default-clause-walk t c =
+pub returns-in_default : goal.returns-in_default
+returns-in_default t c =
     let e = c.try_slot.ensures.walk in
-    here_walk (down t (goal.at.returns-in_default-clause-walk t c).After-step_down-child)
-    e.on e.walked e.further e.met e.missed
+    record {
+      walk = here_walk (down t (goal.at.returns-in_default t c).After-step_down-child)
+          e.on e.walked e.further e.met e.missed;
+    }
 
 -- ---- if it goes on from a row
 
@@ -56,7 +59,7 @@ descend-requires t c =
     let top = c.decreases in (
       search (rules, counting),
       (
-        c.step_down-child.ensures.same_table ∙ c.requires.same_table,
+        ap (λ (v : View). v.table) c.step_down-child.ensures.seen.same ∙ c.requires.same_table,
         (
           d.asked,
           (
@@ -68,11 +71,13 @@ descend-requires t c =
       ),
     )
 
-pub returns-in_err-outcome-clause-walk : goal.returns-in_err-outcome-clause-walk
-returns-in_err-outcome-clause-walk t c =
-    refused_walk (down t (goal.at.returns-in_err-outcome-clause-walk t c).After-step_down-child)
-    (c.inner_in.ensures.inner _ c.in-Some.is) c.from_residual.result c.from_residual.ensures.1
-    c.in_err-outcome.ensures.walk
+pub returns-in_err-outcome : goal.returns-in_err-outcome
+returns-in_err-outcome t c =
+    record {
+      walk = refused_walk (down t (goal.at.returns-in_err-outcome t c).After-step_down-child)
+          (c.inner_in.ensures.inner _ c.in-Some.is) c.from_residual.result c.from_residual.ensures.1
+          c.in_err-outcome.ensures.walk;
+    }
 
 -- if the walk from there took effect
 pub count_update-done-requires-clause-can : goal.count_update-done-requires-clause-can
@@ -85,21 +90,29 @@ count_update-done-requires-clause-stood t c =
     (come_back (down t (goal.at.count_update-done-requires-clause-stood t c).After-step_down-child)
     (c.inner_in.ensures.inner _ c.in-Some.is) (c.in-Some-2.is ∙ ap Some c.in-Took.is) c.in_ok-outcome.ensures.walk).stood
 
-pub returns-in-Took-clause-walk : goal.returns-in-Took-clause-walk
-returns-in-Took-clause-walk t c =
+pub returns-in-Took : goal.returns-in-Took
+returns-in-Took t c =
     let e = c.count_update-done.ensures in
-    (come_back (down t (goal.at.returns-in-Took-clause-walk t c).After-step_down-child)
-    (c.inner_in.ensures.inner _ c.in-Some.is) (c.in-Some-2.is ∙ ap Some c.in-Took.is) c.in_ok-outcome.ensures.walk).walk
-    c.count_update-done.result c.count_update-done.new.who e.on e.counted e.reply
+    record {
+      walk = (come_back (down t (goal.at.returns-in-Took t c).After-step_down-child)
+          (c.inner_in.ensures.inner _ c.in-Some.is) (c.in-Some-2.is ∙ ap Some c.in-Took.is)
+          c.in_ok-outcome.ensures.walk).walk
+          c.count_update-done.result c.count_update-done.new.who e.on e.counted e.reply;
+    }
 
 -- and if it took none
-pub returns-in_default-outcome-clause-walk : goal.returns-in_default-outcome-clause-walk
-returns-in_default-outcome-clause-walk t c =
-    below_walk (down t (goal.at.returns-in_default-outcome-clause-walk t c).After-step_down-child)
-    (c.inner_in.ensures.inner _ c.in-Some.is) c.in-Some-2.is
-    (not_took c.in-Some-2.outcome c.in_default-outcome.not-Took) c.in_ok-outcome.ensures.walk
+pub returns-in_default-outcome : goal.returns-in_default-outcome
+returns-in_default-outcome t c =
+    record {
+      walk = below_walk (down t (goal.at.returns-in_default-outcome t c).After-step_down-child)
+          (c.inner_in.ensures.inner _ c.in-Some.is) c.in-Some-2.is
+          (not_took c.in-Some-2.outcome c.in_default-outcome.not-Took) c.in_ok-outcome.ensures.walk;
+    }
 
-pub returns-in-None-clause-walk : goal.returns-in-None-clause-walk
-returns-in-None-clause-walk t c =
-    below_walk (down t (goal.at.returns-in-None-clause-walk t c).After-step_down-child)
-    (c.inner_in.ensures.inner _ c.in-Some.is) c.in-None.is none_took c.in_ok-outcome.ensures.walk
+pub returns-in-None : goal.returns-in-None
+returns-in-None t c =
+    record {
+      walk = below_walk (down t (goal.at.returns-in-None t c).After-step_down-child)
+          (c.inner_in.ensures.inner _ c.in-Some.is) c.in-None.is none_took
+          c.in_ok-outcome.ensures.walk;
+    }

@@ -1,4 +1,5 @@
 use Rattle.std.proofs.Common.{ap, sym, subst, ◌∙◌, arith}
+use Rattle.ist_rule.specs.declared.view.View.{View}
 use Rattle.ist_rows.specs.declared.callers.Caller.{Caller}
 use Rattle.ist_dcss.specs.Installing.{Filling, IsInstallable, IsInstalled}
 use Rattle.test_parts.proofs.PutLemmas.{put_filled, put_helps}
@@ -15,7 +16,9 @@ fill_row-requires-2-clause-row g c =
 -- the rows are filled, and the call has begun
 pub install-requires : goal.install-requires
 install-requires g c = (
-  c.begin_call.ensures.same_table ∙ c.fill_row-2.ensures.same_table,
+  ap (λ (v : View). v.table) c.begin_call.ensures.begun.view
+      ∙ ap (λ (x : Caller). x.token.view.table) c.fill_row-2.ensures.stored
+      ∙ ap (λ (x : Caller). x.token.view.table) c.fill_row.ensures.stored ∙ c.requires.0,
   subst (λ (f : Filling). IsInstallable c.begin_call.new.token.view c.args.change f)
       (sym c.requires.1.0)
       (put_filled c.args.who.now c.fill_row.new.who c.fill_row-2.new.who _ _ _ _ _ _

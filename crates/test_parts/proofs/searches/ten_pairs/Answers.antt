@@ -1,8 +1,10 @@
-use Rattle.std.proofs.Common.{zero, suc, map, subst, sym, ◌∙◌, arith}
+use Rattle.std.proofs.Common.{zero, suc, map, subst, sym, ap, ◌∙◌, arith}
+use Rattle.std.proofs.lemmas.Result.{IfOk-weaker}
 use Rattle.std.specs.List.Sorted.{IsStrictlyIncreasing}
 use Rattle.ist_core.specs.ExampleTables.{ten_pairs}
 use Rattle.ist_core.specs.Lawful.{CanOpen}
 use Rattle.ist_core.proofs.WordLemmas.{ideal_words_nine}
+use Rattle.ist_rule.specs.declared.view.View.{View}
 use Rattle.test_parts.proofs.searches.ten_pairs.Goals as goal
 
 rising : IsStrictlyIncreasing (map (λ pair. pair.key) ten_pairs)
@@ -37,3 +39,11 @@ pub open_table-requires-clause-opens : goal.open_table-requires-clause-opens
 open_table-requires-clause-opens c =
     subst (CanOpen c.in_ok-pairs.pairs.items) (sym c.in_ok-image.ensures.size)
     (subst (λ ps. CanOpen ps 100) (sym c.in_ok-pairs.ensures.items) opens)
+
+-- the token is of the table
+pub returns : goal.returns
+returns c =
+    record {
+      same_table = IfOk-weaker c.open_table.result _ _ (λ t h. ap (λ (v : View). v.table) h)
+          c.open_table.ensures.token;
+    }

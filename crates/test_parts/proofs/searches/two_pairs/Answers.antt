@@ -1,4 +1,4 @@
-use Rattle.std.proofs.Common.{◌∷◌, [], refl, subst, sym, ap₂, ◌∙◌}
+use Rattle.std.proofs.Common.{◌∷◌, [], refl, subst, sym, ap, ap₂, ◌∙◌}
 use Rattle.std.specs.Prelude.{IfOk, Result, Ok, Err}
 use Rattle.ist_core.specs.Arithmetic.{degree, square_root, root_up_to, part_len, part_lens}
 use Rattle.ist_core.specs.Shapes.{ideal_words, ideal_words_within}
@@ -6,6 +6,8 @@ use Rattle.ist_core.specs.ExampleTables.{two_pairs}
 use Rattle.ist_core.specs.Lawful.{CanOpen}
 use Rattle.ist_core.specs.StartLayout.{rows_within}
 use Rattle.ist_image.proofs.RisingLemmas.{two_open}
+use Rattle.ist_rule.specs.declared.view.TableName.{TableName}
+use Rattle.ist_rule.specs.declared.view.View.{View}
 use Rattle.ist_rule.specs.Rule.{opened_view}
 use Rattle.ist_find.specs.Searches.{IsRow}
 use Rattle.test_parts.proofs.searches.two_pairs.Goals as goal
@@ -24,9 +26,9 @@ open_table-requires-clause-opens c =
     (subst (λ ps. CanOpen ps 20) (sym c.in_ok-pairs.ensures.items) two_open)
 
 -- the row at 4 is published
-row_there : IsRow (opened_view two_pairs 20) 4
+row_there : (table : TableName) → IsRow (opened_view table two_pairs 20) 4
 unfolding ideal_words ideal_words_within rows_within degree square_root root_up_to part_len part_lens
-row_there =
+row_there table =
     record {
       row = record {
         status = 0;
@@ -45,9 +47,15 @@ ok_with : {T E : Type 0} {P Q : T → Type 0} (r : Result T E) → ((t : T) → 
 ok_with (Ok t) f h = f t h
 ok_with (Err e) f h = h
 
+-- the token is of the table
+pub returns-clause-same_table : goal.returns-clause-same_table
+returns-clause-same_table c =
+    ok_with c.open_table.result (λ t h. ap (λ (v : View). v.table) h) c.open_table.ensures.token
+
 pub returns-clause-row : goal.returns-clause-row
 returns-clause-row c =
     ok_with c.open_table.result
     (λ t h. subst (λ v. IsRow v 4)
-    (sym (h ∙ ap₂ opened_view c.in_ok-pairs.ensures.items c.in_ok-image.ensures.size)) row_there)
+    (sym (h ∙ ap₂ (opened_view t.0.table) c.in_ok-pairs.ensures.items c.in_ok-image.ensures.size))
+    (row_there t.0.table))
     c.open_table.ensures.token

@@ -7,7 +7,7 @@ use Rattle.test_rebuilds.proofs.leaves.are_pairs.Given as goal
 -- both tokens are of the table, and the target is finished still
 abbrev pub invariant-loop-i : goal.invariant-loop-i
 invariant-loop-i l =
-    (l.maker.table ≡ l.table.table)
-    × (l.who.token.table ≡ l.table.table)
+    (l.maker.view.table ≡ l.table.table)
+    × (l.who.token.view.table ≡ l.table.table)
     × IsReady l.who
     × HasMarkedTarget (now l.who.token.view) l.rebuild l.marked.target l.marked.keys

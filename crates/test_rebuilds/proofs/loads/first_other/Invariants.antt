@@ -7,6 +7,6 @@ use Rattle.test_rebuilds.proofs.loads.first_other.Given as goal
 -- the token is of the table, and the target is finished still
 abbrev pub invariant-loop-i : goal.invariant-loop-i
 invariant-loop-i l =
-    (l.who.token.table ≡ l.table.table)
+    (l.who.token.view.table ≡ l.table.table)
     × IsReady l.who
     × HasMarkedTarget (now l.who.token.view) l.rebuild l.marked.target l.marked.keys

@@ -2,6 +2,7 @@ use Rattle.std.proofs.Common.{◌+◌, ap, ◌∙◌, arith}
 use Rattle.ist_core.specs.References.{ref_of}
 use Rattle.ist_core.proofs.ReferenceLemmas.{ref_of-word_of}
 use Rattle.ist_layout.specs.Meanings.{ref_meant}
+use Rattle.ist_rule.specs.declared.view.View.{View}
 use Rattle.ist_rule.specs.Learning.{now}
 use Rattle.test_rebuilds.specs.Races.{HasLaid}
 use Rattle.test_rebuilds.proofs.RaceLemmas.{may_build, has_laid, has_built}
@@ -29,7 +30,8 @@ pub load-stood-requires-clause-within : goal.load-stood-requires-clause-within
 load-stood-requires-clause-within c =
     let low = laid_low _ _ _ _ c.know-2.ensures.sound
     (laid (goal.at.load-stood-requires-clause-within c).After-know-2) in
-    let same = ap (λ t. t.words) c.build_part.ensures.same_table in
+    let same = ap (λ (v : View). v.table.words) c.build_part.ensures.went.same
+    ∙ ap (λ t. t.words) c.requires.same_table in
     omega (arith, c.from.ensures, c.know-2.ensures.words)
 
 pub load-stood-requires-clause-no_walk : goal.load-stood-requires-clause-no_walk

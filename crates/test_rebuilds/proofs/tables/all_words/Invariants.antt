@@ -3,4 +3,4 @@ use Rattle.test_rebuilds.proofs.tables.all_words.Given as goal
 
 -- the token is of the table
 abbrev pub invariant-loop-place : goal.invariant-loop-place
-invariant-loop-place l = l.token.table ≡ l.table.table
+invariant-loop-place l = l.token.view.table ≡ l.table.table

@@ -1,4 +1,5 @@
-use Rattle.std.proofs.Common.{subst, sym}
+use Rattle.std.proofs.Common.{ap, subst, sym, ◌∙◌}
+use Rattle.ist_rule.specs.declared.view.View.{View}
 use Rattle.ist_updates.specs.Asking.{MayEnd, command_for}
 use Rattle.test_rebuilds.proofs.UpdateLemmas.{ended_pass, may_end}
 use Rattle.test_rebuilds.proofs.updates.update.Goals as goal
@@ -7,7 +8,8 @@ use Rattle.test_rebuilds.proofs.updates.update.Goals as goal
 pub end_call-requires : goal.end_call-requires
 end_call-requires c =
     let done = c.in-Ok.ensures in (
-      done.same_table,
+      ap (λ (v : View). v.table) done.went.went.same
+          ∙ ap (λ (v : View). v.table) c.ask.ensures.begun.view ∙ c.requires.same_table,
       may_end c.args.who.now c.ask.new.who c.apply.new.who (command_for c.args.key c.args.value)
           c.ask.ensures.sound c.requires.pass c.ask.ensures.begun c.ask.ensures.number done.went
           done.number done.caller c.reply.result

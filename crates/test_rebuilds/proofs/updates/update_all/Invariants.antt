@@ -4,4 +4,4 @@ use Rattle.test_rebuilds.proofs.updates.update_all.Given as goal
 
 -- the caller is of the table, and in no call
 abbrev pub invariant-loop-key : goal.invariant-loop-key
-invariant-loop-key l = (l.who.token.table ≡ l.table.table) × IsPass l.who
+invariant-loop-key l = (l.who.token.view.table ≡ l.table.table) × IsPass l.who

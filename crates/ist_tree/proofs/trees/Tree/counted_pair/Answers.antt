@@ -11,8 +11,7 @@ ends : (c : After-pair_and_loads) → ReadEnds c.args.pass.now c.pass.inside.cal
     c.pair_and_loads.new.token c.args.frozen.now
 ends c =
     read_ends c.pass.inside.caller c.pass.inside.refused c.pair_and_loads.new.token c.pass.invariant
-    c.pair_and_loads.ensures.seen c.pair_and_loads.ensures.same_table c.args.frozen.now c.args.pass.now
-    c.pass.view_is c.requires.frozen
+    c.pair_and_loads.ensures.seen c.args.frozen.now c.args.pass.now c.pass.view_is c.requires.frozen
 
 pub invariant_of-pass : goal.invariant_of-pass
 invariant_of-pass c = (ends c).pass

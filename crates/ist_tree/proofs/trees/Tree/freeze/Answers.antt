@@ -1,12 +1,12 @@
 -- A freeze in a call of its own, which is given up.
-use Rattle.std.proofs.Common.{None, sym, ap, ◌∙◌}
+use Rattle.std.proofs.Common.{None, ap}
 use Rattle.ist_rule.specs.declared.view.View.{View}
 use Rattle.ist_rule.specs.Learning.{giving_up}
 use Rattle.ist_rows.specs.declared.callers.Caller.{Caller}
 use Rattle.ist_tree.specs.FreezeSteps.{counted_as}
 use Rattle.ist_tree.proofs.FreezeCallLemmas.{may_give_up, way_of}
 use Rattle.ist_tree.proofs.FreezeResultLemmas.{FreezeEnds, StopEnds, freeze_ends, stop_ends}
-use Rattle.ist_tree.proofs.GoingLemmas.{table_is, words_are}
+use Rattle.ist_tree.proofs.GoingLemmas.{words_are}
 use Rattle.ist_tree.proofs.SearchCountLemmas.{ready_counted, turned_counted}
 use Rattle.ist_tree.proofs.WalkCountLemmas.{walks_end}
 use Rattle.ist_tree.proofs.trees.Tree.freeze.Goals as goal
@@ -31,8 +31,6 @@ ends c =
     (turned_counted _ _ _ c.begin.ensures.begun) (ready_counted _ _ c.begin.ensures.ready)
     c.in-Ok.ensures.froze.on c.give_up.ensures.given_up) _ _ c.pass.invariant _
     (words_are c.pass.inside.caller _ _ _ _ c.pass.view_is c.requires.same_tree c.self.view_is)
-    (c.give_up.ensures.same_table ∙ c.freeze_below.ensures.same_table ∙ sym
-    (table_is c.pass.inside.caller _ _ _ _ c.pass.view_is c.requires.same_tree c.self.view_is))
     c.in-Ok.outcome c.in-Ok.ensures.froze c.or-pass-inside.ensures _ c.pass.view_is
 
 pub invariant_of-pass : goal.invariant_of-pass
@@ -77,8 +75,6 @@ stops c =
     (turned_counted _ _ _ c.begin.ensures.begun) (ready_counted _ _ c.begin.ensures.ready)
     c.in-Err.ensures.full.idle.on c.give_up-in-Err.ensures.given_up) _ c.pass.invariant _
     (words_are c.pass.inside.caller _ _ _ _ c.pass.view_is c.requires.same_tree c.self.view_is)
-    (c.give_up-in-Err.ensures.same_table ∙ c.freeze_below.ensures.same_table ∙ sym
-    (table_is c.pass.inside.caller _ _ _ _ c.pass.view_is c.requires.same_tree c.self.view_is))
     _ c.in-Err.ensures.full _ c.pass.view_is
 
 pub invariant_of-pass-in-Err : goal.invariant_of-pass-in-Err

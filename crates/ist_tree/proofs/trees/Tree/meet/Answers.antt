@@ -12,8 +12,7 @@ ends : (c : After-join) → MeetEnds c.args.pass.now c.args.note c.pass.inside.c
     c.join.new.token
 ends c =
     meet_ends c.pass.inside.caller c.note.inside.token c.join.new.token c.pass.inside.refused
-    c.pass.invariant
-    c.note.invariant c.join.ensures.joined.0 c.join.ensures.same_table c.join.ensures.joined.1
+    c.pass.invariant c.note.invariant c.join.ensures.joined.0 c.join.ensures.joined.1
     c.join.ensures.later c.join.ensures.other_later c.join.ensures.heard
     (ap (λ (p : PassFace). p.tree) c.note.view_is ∙ c.requires.its_tree
     ∙ sym (ap (λ (p : PassFace). p.tree) c.pass.view_is ∙ c.requires.same_tree))

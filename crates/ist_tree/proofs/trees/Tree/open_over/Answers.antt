@@ -12,6 +12,6 @@ returns-clause-new c =
     let size : length c.words.result.now ≡ c.args.words = search rules in
     let room : words_for c.args.pairs.now ≤ c.args.words = search rules in
     new_tree t.ensures.first c.args.words c.args.pairs.now t.table t.token room
-    (t.ensures.start ∙ kept) t.ensures.same_table (t.ensures.words ∙ size)
-    (t.ensures.token ∙ ap (λ ps. opened_view ps (length c.words.result.now)) kept
-    ∙ ap (opened_view c.args.pairs.now) size)
+    (t.ensures.start ∙ kept) (t.ensures.words ∙ size)
+    (t.ensures.token ∙ ap (λ ps. opened_view t.table.table ps (length c.words.result.now)) kept
+    ∙ ap (opened_view t.table.table c.args.pairs.now) size)

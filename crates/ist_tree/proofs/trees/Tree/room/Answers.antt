@@ -21,7 +21,7 @@ ends : (c : After-word_count) → RoomEnds c.args.pass.now c.pass.inside.caller 
     c.glance-next.new.token (c.word_count.result - c.glance-next.result)
 ends c =
     room_ends c.pass.inside.caller _ c.glance-next.new.token c.pass.invariant c.know.ensures.sound
-    c.glance-next.result _ c.glance-next.ensures.glanced c.glance-next.ensures.same_table
+    c.glance-next.result _ c.glance-next.ensures.glanced
     (room_sum _ _ _ _ c.glance-next.ensures.glanced (all_words c)).1 _ c.pass.view_is
 
 pub invariant_of-pass : goal.invariant_of-pass

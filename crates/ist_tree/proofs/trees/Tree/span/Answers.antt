@@ -1,5 +1,4 @@
 -- A span is read by a search in no call.
-use Rattle.std.proofs.Common.{◌∙◌}
 use Rattle.ist_tree.proofs.SpanLemmas.{SpanEnds, read_begun, span_ends}
 use Rattle.ist_tree.proofs.trees.Tree.span.Goals as goal
 use Rattle.ist_tree.proofs.trees.Tree.span.Goals.{After-find_span}
@@ -14,9 +13,9 @@ ends : (c : After-find_span) → SpanEnds c.args.pass.now c.pass.inside.caller c
 ends c =
     span_ends c.pass.inside.caller c.pass.inside.refused _ c.find_span.new.token c.pass.invariant
     c.begin_read.ensures.begun c.find_span.ensures.seen
-    (c.find_span.ensures.same_table ∙ c.begin_read.ensures.same_table) c.args.key c.find_span.result.first
-    c.find_span.result.last c.find_span.result.pair c.find_span.ensures.loads
-    c.find_span.ensures.edges c.find_span.ensures.values c.args.pass.now c.pass.view_is
+    c.args.key c.find_span.result.first c.find_span.result.last c.find_span.result.pair
+    c.find_span.ensures.loads c.find_span.ensures.edges c.find_span.ensures.values
+    c.args.pass.now c.pass.view_is
 
 pub invariant_of-pass : goal.invariant_of-pass
 invariant_of-pass c = (ends c).pass

@@ -1,5 +1,4 @@
 -- A range is swept in no call.
-use Rattle.std.proofs.Common.{◌∙◌}
 use Rattle.ist_tree.proofs.SweepLemmas.{SweepEnds, sweep_ends}
 use Rattle.ist_tree.proofs.trees.Tree.sweep.Goals as goal
 use Rattle.ist_tree.proofs.trees.Tree.sweep.Goals.{After-sweep}
@@ -11,8 +10,8 @@ ends : (c : After-sweep) → SweepEnds c.args.pass.now c.pass.inside.caller c.pa
 ends c =
     sweep_ends c.pass.inside.caller c.pass.inside.refused _ c.sweep.new.token c.pass.invariant
     c.begin_read.ensures.begun c.sweep.ensures.seen
-    (c.sweep.ensures.same_table ∙ c.begin_read.ensures.same_table) c.args.first c.args.last c.args.found.now.items
-    c.sweep.new.found.items c.sweep.result c.sweep.ensures.swept c.args.pass.now c.pass.view_is
+    c.args.first c.args.last c.args.found.now.items c.sweep.new.found.items c.sweep.result
+    c.sweep.ensures.swept c.args.pass.now c.pass.view_is
 
 pub invariant_of-pass : goal.invariant_of-pass
 invariant_of-pass c = (ends c).pass

@@ -1,0 +1,28 @@
+-- Which table a seat is of: the table's name tells it. Serves the steps.
+use Rattle.std.proofs.Common.{◌≡◌, List, sym, ap, ◌∙◌}
+use Rattle.atomic_table.specs.Seated.{TableId}
+use Rattle.ist_core.specs.declared.pairs.Pair.{Pair}
+use Rattle.ist_rule.specs.declared.view.TableName.{TableName}
+use Rattle.ist_rule.specs.declared.view.View.{View}
+use Rattle.ist_rule.specs.Faces.{TokenFace, TableFace, name_of}
+
+-- the table that has this name
+abbrev id_of : TableName → TableId
+id_of name =
+    record {
+      words = name.words;
+      slots = name.slots;
+      views_name = name.views_name;
+      atom = name.atom;
+      block = name.block;
+      offset = name.offset;
+      slot_names = name.slot_names;
+    }
+
+-- a seat whose view has the table's name is of the table
+pub same_id : {x y : TableId} {v : View} {start : List Pair} {s : TokenFace} {t : TableFace}
+    → v.table ≡ name_of x → record { view = v } ≡ s → record { table = name_of y; start = start } ≡ t
+    → s.view.table ≡ t.table → x ≡ y
+same_id named seen table same =
+    ap id_of (sym named ∙ ap (λ (s : TokenFace). s.view.table) seen ∙ same
+    ∙ sym (ap (λ (t : TableFace). t.table) table))
