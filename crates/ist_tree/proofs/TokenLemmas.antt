@@ -1,9 +1,10 @@
 -- New passes and notes. Serves `pass`, `take_back`, `note` and `learn`.
-use Rattle.std.proofs.Common.{◌≡◌, ℕ, ◌+◌, ◌≤◌, ◌&&◌, ◌||◌, not, Bool, true, false, if◌then◌else◌, List, [], ◌∷◌, length, map, filter, is_some, Option, Some, None, refl, sym, ap, ◌∙◌, subst, nat_lt, suc, arith}
+use Rattle.std.proofs.Common.{◌≡◌, ℕ, ◌+◌, ◌≤◌, ◌&&◌, ◌||◌, max, not, Bool, true, false, if◌then◌else◌, List, [], ◌∷◌, length, map, filter, is_some, Option, Some, None, refl, sym, ap, ◌∙◌, subst, nat_lt, suc, arith}
 use Rattle.ist_core.specs.declared.lists.HeldRow.{HeldRow}
 use Rattle.ist_core.specs.declared.ports.Full.{Full}
 use Rattle.ist_core.specs.Elements.{Each}
 use Rattle.ist_core.specs.Enabled.{caller_limit}
+use Rattle.ist_core.specs.Histories.{PassCalls}
 use Rattle.ist_core.specs.Logs.{GoesOn, one_event}
 use Rattle.ist_core.specs.declared.events.Event.TheVariants.{Enter}
 use Rattle.ist_rule.specs.declared.view.Taken.{Taken}
@@ -11,7 +12,9 @@ use Rattle.ist_rule.specs.declared.view.View.{View}
 use Rattle.ist_core.specs.declared.events.Who.{Who}
 use Rattle.ist_core.specs.declared.events.Who.TheVariants.{Maker, Caller as CallerOf, Note}
 use Rattle.ist_core.specs.Authors.{IsIdleIn}
+use Rattle.ist_rule.specs.Faces.{TokenFace}
 use Rattle.ist_rule.specs.Rule.{IsSound}
+use Rattle.ist_rule.specs.Speaking.{MomentsGoOn}
 use Rattle.ist_rule.specs.Learning.{now, Looked}
 use Rattle.ist_rule.specs.Seating.{awaits_seat, is_maker, joined, noted_by, plain, split_right, with_taken}
 use Rattle.ist_rule.proofs.LaterLemmas.{later-goes_on}
@@ -19,7 +22,9 @@ use Rattle.ist_rows.specs.declared.callers.Caller.{Caller}
 use Rattle.ist_rows.specs.Rows.{spares_of, is_spare, held_by, IsCaller}
 use Rattle.ist_rows.specs.Building.{AreStuck, none_stuck}
 use Rattle.ist_rows.specs.Entering.{HasEntered}
-use Rattle.ist_tree.specs.Insides.{IsPass, IsPassWith, IsMaker, IsMakerWith, IsMakerCounted, HasSettled, IsNote, taken_pass}
+use Rattle.ist_tree.specs.Faces.{PassFace, MakerFace}
+use Rattle.ist_tree.specs.Calls.{MakerHasLearnt, MakerHasSeenMore}
+use Rattle.ist_tree.specs.Insides.{IsPass, IsPassWith, IsMaker, IsMakerWith, IsMakerCounted, HasSettled, IsNote, maker_face, taken_pass, tree_of}
 use Rattle.ist_tree.proofs.IdleCallerLemmas.{has_its_calls}
 use Rattle.ist_tree.proofs.SettlingLemmas.{idle_settled}
 use Rattle.ist_tree.proofs.TakenLemmas.{taken_few}
@@ -199,3 +204,43 @@ new_note who w s p is =
       in_none = refl;
       calls = has_its_calls v who.number s p.caller.mine p.in_none;
     }
+
+-- ---- what a maker knows after it met a pass or a note
+
+module _ (old new : TokenFace) (w : View) (word : ℕ) (l : Looked (joined old.view w) 0 word new.view)
+  where
+    -- it has seen more, and has these passes back
+    pub maker_more : GoesOn old.view.log new.view.log
+        → MomentsGoOn old.view.moments new.view.moments → (before after : Bool)
+        → (taken : List PassCalls) → map taken_pass new.view.taken ≡ taken
+        → MakerHasSeenMore (record (maker_face old before) { taken = taken; refused = after })
+        (maker_face new after)
+    maker_more on heard before after taken is =
+        let up : new.view.stamp ≡ max old.view.stamp w.stamp = ap (λ (y : View). y.stamp) l.view in
+        record {
+          same =
+              ap (λ (y : View). record (maker_face new after) {
+                tree = record { table = y.table; start = y.start; words = y.words };
+                made = y.made;
+              }) l.view
+              ∙ ap (λ ts. record (maker_face new after) {
+                tree = tree_of old;
+                made = old.view.made;
+                taken = ts;
+              }) is;
+          seen = on;
+          heard = heard;
+          stamp = omega arith;
+        }
+
+    -- and what that one knew
+    pub maker_learnt : GoesOn w.log new.view.log → MomentsGoOn w.moments new.view.moments
+        → (p : PassFace) → p.seen ≡ w.log → p.moments ≡ w.moments → p.stamp ≡ w.stamp
+        → (after : Bool) → MakerHasLearnt (maker_face new after) p
+    maker_learnt on heard p seen_is moments_is stamp_is after =
+        let up : new.view.stamp ≡ max old.view.stamp w.stamp = ap (λ (y : View). y.stamp) l.view in
+        record {
+          seen = subst (λ log. GoesOn log new.view.log) (sym seen_is) on;
+          heard = subst (λ ms. MomentsGoOn ms new.view.moments) (sym moments_is) heard;
+          stamp = omega arith;
+        }

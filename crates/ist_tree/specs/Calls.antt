@@ -21,7 +21,7 @@ use Rattle.laws_histories.specs.Searching.{Searched}
 use Rattle.laws_calls.specs.Walking.{IsChainOf}
 use Rattle.ist_rule.specs.Speaking.{MomentsGoOn}
 use Rattle.ist_find.specs.Searches.{keys_in}
-use Rattle.ist_tree.specs.Faces.{PassFace, changes_seen, calls_in, HasItsCalls}
+use Rattle.ist_tree.specs.Faces.{PassFace, MakerFace, changes_seen, calls_in, HasItsCalls}
 use Rattle.ist_tree.specs.RealTime.{RunsInTime}
 
 -- ---- seeing and learning
@@ -41,6 +41,21 @@ pub record HasLearnt (p other : PassFace) : Type 0 where
   pub tree : other.tree ≡ p.tree
   pub seen : GoesOn other.seen p.seen
   pub stamp : other.stamp ≤ p.stamp
+
+-- the maker is as it was, but for this: it has seen all that it had seen, and perhaps more, and so with
+-- the moments of all calls; and its stamp didn't fall
+pub record MakerHasSeenMore (m n : MakerFace) : Type 0 where
+  pub same : n ≡ record m { seen = n.seen; stamp = n.stamp; moments = n.moments }
+  pub seen : GoesOn m.seen n.seen
+  pub heard : MomentsGoOn m.moments n.moments
+  pub stamp : m.stamp ≤ n.stamp
+
+-- the maker has learnt what a pass knew, or a note of one: it has seen all that the pass had seen, and
+-- so with the moments; and its stamp is no lower
+pub record MakerHasLearnt (m : MakerFace) (p : PassFace) : Type 0 where
+  pub seen : GoesOn p.seen m.seen
+  pub heard : MomentsGoOn p.moments m.moments
+  pub stamp : p.stamp ≤ m.stamp
 
 -- ---- one more call
 

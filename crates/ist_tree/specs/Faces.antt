@@ -1,5 +1,5 @@
 -- A tree, its passes, notes and maker, as contracts see them.
-use Rattle.std.specs.Prelude.{ℕ, ◌==◌, if◌then◌else◌, Bool, List, [], ◌∷◌, Option, None}
+use Rattle.std.specs.Prelude.{ℕ, ◌==◌, ◌||◌, if◌then◌else◌, Bool, is_some, List, [], ◌∷◌, Option, None}
 use Rattle.ist_core.specs.declared.calls.Call.{Call}
 use Rattle.ist_core.specs.declared.pairs.Pair.{Pair}
 use Rattle.ist_core.specs.declared.ports.Full.{Full}
@@ -62,6 +62,27 @@ calls_in p = record { number = p.number; calls = p.calls }
 -- above the pass's own
 abbrev pub HasItsCalls : PassFace → Type 0
 HasItsCalls p = HasCalls p.tree.start p.tree.words p.seen p.number p.stamp p.calls
+
+-- a pass of this tree that the maker made now, by its number: it has seen what the maker has seen, and
+-- has done nothing yet
+abbrev pub fresh_pass : TreeFace → MakerFace → ℕ → PassFace
+fresh_pass tree m number =
+    record {
+      tree = tree;
+      number = number;
+      seen = m.seen;
+      stamp = m.stamp;
+      calls = [];
+      moments = m.moments;
+      loaded = 0;
+      searches = 0;
+      refused = None;
+    }
+
+-- the maker that has taken this pass back
+abbrev pub with_back : PassFace → MakerFace → MakerFace
+with_back p m =
+    record m { taken = calls_in p ∷ m.taken; refused = m.refused || is_some p.refused }
 
 -- what a note of a pass keeps: all that the pass knew, but none of its loads, walks and refusals
 abbrev pub noted : PassFace → PassFace

@@ -1,9 +1,8 @@
 //! What a pass has seen, handed on by notes.
-ghost use Rattle.std.specs.Prelude.{◌≡◌, ◌≤◌};
-ghost use Rattle.ist_core.specs.Logs.{GoesOn};
+ghost use Rattle.std.specs.Prelude.{◌≡◌};
 ghost use Rattle.ist_rule.specs.Speaking.{MomentsGoOn};
 ghost use Rattle.ist_tree.specs.Faces.{noted};
-ghost use Rattle.ist_tree.specs.Calls.{HasSeenMore, HasLearnt, WeavesWith};
+ghost use Rattle.ist_tree.specs.Calls.{HasSeenMore, HasLearnt, MakerHasLearnt, MakerHasSeenMore, WeavesWith};
 
 use crate::passes::{Maker, Note, Pass};
 use crate::trees::Tree;
@@ -46,16 +45,8 @@ impl Tree {
     pub fn learn(&self, maker: &mut Maker, note: Note)
         requires same_tree { maker.old.tree ≡ self.now }
         requires its_tree { note.tree ≡ self.now }
-        ensures same_tree { maker.new.tree ≡ maker.old.tree }
-        ensures made { maker.new.made ≡ maker.old.made }
-        ensures taken { maker.new.taken ≡ maker.old.taken }
-        ensures seen { GoesOn maker.old.seen maker.new.seen }
-        ensures stamp { maker.old.stamp ≤ maker.new.stamp }
-        ensures note_seen { GoesOn note.seen maker.new.seen }
-        ensures note_stamp { note.stamp ≤ maker.new.stamp }
-        ensures heard { MomentsGoOn maker.old.moments maker.new.moments }
-        ensures note_heard { MomentsGoOn note.moments maker.new.moments }
-        ensures refused { maker.new.refused ≡ maker.old.refused }
+        ensures maker { MakerHasSeenMore maker.old maker.new }
+        ensures learnt { MakerHasLearnt maker.new note }
     {
         let Note { token } = note;
         join(&self.table, &mut maker.token, token);

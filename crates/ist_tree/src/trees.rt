@@ -1,5 +1,5 @@
 //! The tree and its calls.
-ghost use Rattle.std.specs.Prelude.{◌≡◌, ◌+◌, ◌^◌, ◌<◌, ◌≤◌, ◌||◌, true, [], ◌∷◌, length, map, is_some};
+ghost use Rattle.std.specs.Prelude.{◌≡◌, ◌+◌, ◌^◌, ◌<◌, ◌≤◌, true, [], length, map};
 ghost use Rattle.std.specs.Prelude.{Some, None, IfSome, IfOk, IfErr, OnOk, OnErr};
 ghost use Rattle.std.specs.List.Sorted.{IsStrictlyIncreasing};
 ghost use Rattle.ist_core.specs.RowLayout.{place_limit};
@@ -10,10 +10,9 @@ ghost use Rattle.ist_core.specs.Logs.{GoesOn};
 ghost use Rattle.ist_core.specs.Standing.{makes_entry};
 ghost use Rattle.ist_core.specs.StartLayout.{start};
 ghost use Rattle.laws_histories.specs.Searching.{HasPosition};
-ghost use Rattle.ist_rule.specs.Speaking.{MomentsGoOn};
 ghost use Rattle.ist_find.specs.Spans.{pair_value, EndAtEdges};
-ghost use Rattle.ist_tree.specs.Faces.{calls_in, HasItsCalls};
-ghost use Rattle.ist_tree.specs.Calls.{HasSeenMore, AddsCall, BeginsFewWalks, HasLoadedFew};
+ghost use Rattle.ist_tree.specs.Faces.{fresh_pass, with_back, HasItsCalls};
+ghost use Rattle.ist_tree.specs.Calls.{HasSeenMore, MakerHasLearnt, MakerHasSeenMore, AddsCall, BeginsFewWalks, HasLoadedFew};
 ghost use Rattle.ist_tree.specs.Closing.{ClosesWith};
 ghost use Rattle.ist_tree.specs.DueRows.{CountsNowhere, FinishesUpdate, HasCountedInCall, LeavesNoneDue, StartsOnlyDue};
 ghost use Rattle.ist_tree.specs.Opening.{IsNewTree, IsFaultOf};
@@ -108,18 +107,10 @@ impl Tree {
     pub fn pass(&self, maker: &mut Maker) -> Pass
         requires same_tree { maker.old.tree ≡ self.now }
         requires few { maker.old.made < caller_limit }
-        ensures tree { result.tree ≡ self.now }
-        ensures number { result.number ≡ maker.old.made }
-        ensures no_calls { result.calls ≡ [] }
-        ensures seen { (result.seen ≡ maker.new.seen) × (result.stamp ≡ maker.new.stamp) }
-        ensures heard { result.moments ≡ maker.new.moments }
-        ensures unrefused { result.refused ≡ None }
-        ensures same_tree { maker.new.tree ≡ maker.old.tree }
-        ensures made { maker.new.made ≡ maker.old.made + 1 }
-        ensures taken { maker.new.taken ≡ maker.old.taken }
+        ensures fresh { result ≡ fresh_pass self.now maker.new maker.old.made }
+        ensures maker { maker.new
+            ≡ record maker.old { made = maker.old.made + 1; seen = maker.new.seen } }
         ensures maker_seen { GoesOn maker.old.seen maker.new.seen }
-        ensures stamp { maker.new.stamp ≡ maker.old.stamp }
-        ensures refused { maker.new.refused ≡ maker.old.refused }
     {
         let caller = enter(&self.table, &mut maker.token);
         maker.made = u64::from(caller.number) + 1;
@@ -135,16 +126,8 @@ impl Tree {
     pub fn take_back(&self, maker: &mut Maker, pass: Pass)
         requires same_tree { maker.old.tree ≡ self.now }
         requires its_tree { pass.tree ≡ self.now }
-        ensures same_tree { maker.new.tree ≡ maker.old.tree }
-        ensures made { maker.new.made ≡ maker.old.made }
-        ensures taken { maker.new.taken ≡ calls_in pass ∷ maker.old.taken }
-        ensures seen { GoesOn maker.old.seen maker.new.seen }
-        ensures stamp { maker.old.stamp ≤ maker.new.stamp }
-        ensures pass_seen { GoesOn pass.seen maker.new.seen }
-        ensures pass_stamp { pass.stamp ≤ maker.new.stamp }
-        ensures heard { MomentsGoOn maker.old.moments maker.new.moments }
-        ensures pass_heard { MomentsGoOn pass.moments maker.new.moments }
-        ensures refused { maker.new.refused ≡ (maker.old.refused || is_some pass.refused) }
+        ensures maker { MakerHasSeenMore (with_back pass maker.old) maker.new }
+        ensures learnt { MakerHasLearnt maker.new pass }
     {
         let Pass { caller, refused } = pass;
         let Caller { token, .. } = caller;

@@ -1,6 +1,7 @@
 use Rattle.std.proofs.Common.{◌≡◌, ◌≤◌, [], ◌∷◌, length, All, ap, ◌∙◌, sym, subst, arith}
 use Rattle.std.proofs.Common.{length-append}
 use Rattle.std.proofs.lemmas.List.Elements.{All-push}
+use Rattle.ist_tree.specs.Faces.{MakerFace, PassFace}
 use Rattle.try_stress.specs.declared.workers.Worker.{Worker}
 use Rattle.try_stress.proofs.rounds.make_workers.Goals as goal
 
@@ -10,18 +11,18 @@ loop-number-preserved c =
     let old = c.loop-number.invariant in
     let items = c.in_ok-push.ensures.items in
     let long = ap length items ∙ length-append c.loop-number.workers.items (c.new.result ∷ []) in
-    let made = c.pass-pass.ensures.made in
+    let made = ap (λ (m : MakerFace). m.made) c.pass-pass.ensures.maker in
     record {
       trees = subst (All (λ (w : Worker). w.pass.tree ≡ c.args.tree.now)) (sym items)
           (All-push (λ (w : Worker). w.pass.tree ≡ c.args.tree.now) c.loop-number.workers.items
           c.new.result old.trees
-          (ap (λ p. p.tree) c.new.ensures.pass ∙ c.pass-pass.ensures.tree));
+          (ap (λ p. p.tree) c.new.ensures.pass ∙ ap (λ (p : PassFace). p.tree) c.pass-pass.ensures.fresh));
       spans = subst (All (λ (w : Worker). 1 ≤ w.plan.span)) (sym items)
           (All-push (λ (w : Worker). 1 ≤ w.plan.span) c.loop-number.workers.items
           c.new.result old.spans
           (subst (λ p. 1 ≤ p.span) (sym c.new.ensures.plan) c.requires.some));
       made = omega (arith, long, made, old.made);
-      same_tree = c.pass-pass.ensures.same_tree ∙ old.same_tree;
-      taken = c.pass-pass.ensures.taken ∙ old.taken;
+      same_tree = ap (λ (m : MakerFace). m.tree) c.pass-pass.ensures.maker ∙ old.same_tree;
+      taken = ap (λ (m : MakerFace). m.taken) c.pass-pass.ensures.maker ∙ old.taken;
       count = omega (arith, long, old.count);
     }
