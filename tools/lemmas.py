@@ -108,9 +108,13 @@ class Block:
         self.inside = next((depth(it) for it in lines[end + 1 :] if it.strip()), 0)
 
 
+def variables_of(text):
+    return {it for found in BINDERS for own in found.findall(text) for it in own.split()}
+
+
 def plain(file, text):
     """Returns a text with numbers for its variables, parentheses for braces, and other files' names as they are there."""
-    bound = {it for found in BINDERS for own in found.findall(text) for it in own.split()}
+    bound = variables_of(text)
     numbers = {}
 
     def told(token):
@@ -125,7 +129,7 @@ def plain(file, text):
 def key(lemma):
     """Returns what two lemmas with the same statement have in common."""
     said = f"{lemma.around} {lemma.statement()}"
-    own = sorted({it.partition(".")[0] for it in TOKEN.findall(said)} & {*lemma.file.own})
+    own = sorted(({it.partition(".")[0] for it in TOKEN.findall(said)} & {*lemma.file.own}) - variables_of(said))
     return (plain(lemma.file, said), *(plain(lemma.file, lemma.file.own[it].text()) for it in own))
 
 

@@ -14,7 +14,7 @@ use Rattle.ist_core.specs.Building.{IsRoot, root_whole, root_top, CanRoot}
 use Rattle.ist_core.proofs.LeafLemmas.{same_leaves}
 use Rattle.ist_core.proofs.OptionLemmas.{same_rebuild, same_inner}
 use Rattle.ist_core.proofs.UnderLemmas.{each_mapped}
-use Rattle.check_builds.specs.Standing.{HeldAreFree}
+use Rattle.check_builds.specs.HeldRows.{HeldAreFree}
 use Rattle.check_builds.specs.Reading.{Gathers}
 use Rattle.check_builds.specs.Publishing.{MayPublish, HasRootOf}
 use Rattle.check_builds.specs.Built.{IsRootOf, whole, top_alone}

@@ -14,7 +14,7 @@ use Rattle.ist_core.proofs.LeafLemmas.{same_leaves}
 use Rattle.ist_core.proofs.RisingLemmas.{each_of_cut, part_of_each}
 use Rattle.ist_core.proofs.OptionLemmas.{same_rebuild}
 use Rattle.check_events.specs.Mirroring.{RowHolds}
-use Rattle.check_builds.specs.Standing.{HeldAreFree}
+use Rattle.check_builds.specs.HeldRows.{HeldAreFree}
 use Rattle.check_builds.specs.Reading.{Gathers}
 use Rattle.check_builds.specs.Publishing.{MayPublish, HasPart, IsPartOf}
 use Rattle.check_builds.specs.Built.{key_of_leaf, BuildsRef, BuildsAt}

@@ -42,7 +42,7 @@ use Rattle.ist_core.proofs.ElementLemmas.{each_append, each-append, each-among}
 use Rattle.ist_core.proofs.RowLemmas.{with_row-same, with_row-other, with_inners-other}
 use Rattle.ist_core.proofs.RisingLemmas.{each_of_cut}
 use Rattle.ist_core.proofs.PublishingLemmas.{row_among}
-use Rattle.check_builds.specs.Standing.{HeldAreFree}
+use Rattle.check_builds.specs.HeldRows.{HeldAreFree}
 use Rattle.check_builds.specs.Built.{
   key_of_leaf,
   BuildsRef,

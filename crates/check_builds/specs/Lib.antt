@@ -1,5 +1,5 @@
 -- what the public contracts rest on, in the order to read them
-pub mod Standing
+pub mod HeldRows
 -- what the functions inside this crate promise each other
 pub mod Reading
 pub mod Built

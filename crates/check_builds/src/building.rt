@@ -6,7 +6,7 @@ ghost use Rattle.ist_core.specs.Snapshots.{Snapshot, bases_of, HoldsRows};
 ghost use Rattle.ist_core.specs.Building.{CanRoot, CanPlace};
 ghost use Rattle.check_events.specs.Mirroring.{Mirrors, RowHolds};
 ghost use Rattle.check_events.specs.Remembering.{KnowsStarts, KnowsLeaves};
-ghost use Rattle.check_builds.specs.Standing.{HeldAreFree};
+ghost use Rattle.check_builds.specs.HeldRows.{HeldAreFree};
 ghost use Rattle.check_builds.specs.Publishing.{MayPublish, HasRootOf, HasPart, IsPartOf};
 
 use crate::ideals::nth_part;

@@ -9,7 +9,7 @@ use Rattle.ist_core.specs.Slots.{SlotHolds}
 use Rattle.ist_core.specs.Links.{WasLinked}
 use Rattle.ist_core.specs.Statuses.{undecided}
 use Rattle.ist_core.specs.Installing.{IsUnrefused, ComesByKey, PutsLeaf, PutsPair, Removes, Starts, Finishes, FitsKind, a_put, a_pair, a_remove, a_start, a_finish, CanInstall}
-use Rattle.check_events.specs.Standing.{MayStand, FitsByKey}
+use Rattle.check_events.specs.InstallRows.{MayStand, FitsByKey}
 use Rattle.check_fairness.proofs.AfterLemmas.{following, split_first}
 
 -- words that are read as a change are its words

@@ -6,4 +6,4 @@ pub mod Remembering
 pub mod Passing
 pub mod Ways
 pub mod Kinds
-pub mod Standing
+pub mod InstallRows

@@ -5,7 +5,7 @@ ghost use Rattle.ist_core.specs.Logs.{Log, state};
 ghost use Rattle.ist_core.specs.Installing.{CanInstall, FitsKind, IsUnrefused, ComesByKey};
 ghost use Rattle.check_events.specs.Mirroring.{Mirrors};
 ghost use Rattle.check_events.specs.Remembering.{KnowsSlots, KnowsWays, KnowsRefusals, KnowsStarts};
-ghost use Rattle.check_events.specs.Standing.{MayStand, FitsByKey};
+ghost use Rattle.check_events.specs.InstallRows.{MayStand, FitsByKey};
 ghost use Rattle.check_events.specs.Ways.{KeysStay};
 
 use crate::climbing::was_linked;

@@ -18,17 +18,11 @@ use Rattle.ist_core.specs.Fairness.{IsBuild, build_whole, build_top, build_part}
 use Rattle.ist_core.proofs.ElementLemmas.{among-append, among_left, among_right}
 use Rattle.ist_core.proofs.RootLemmas.{least_degree-le}
 use Rattle.ist_core.proofs.PartLemmas.{part_len-long, part_len-short}
-use Rattle.ist_core.proofs.ShapeLemmas.{shape_none, shape_one, shape_many}
+use Rattle.ist_core.proofs.ShapeLemmas.{shape_many}
 use Rattle.check_fairness.specs.Answers.{Holds}
 use Rattle.check_fairness.specs.Builds.{lists_of, AddsList, AddsLists, BeginsWith, HasShapes}
 
 -- ---- shapes
-
--- fewer than two keys have no inner rows
-pub shape_few : (n : ℕ) → n < 2 → shape n ≡ []
-shape_few zero h = shape_none
-shape_few (suc zero) h = shape_one
-shape_few (suc (suc n)) h = absurd (omega arith)
 
 -- the shapes of the first parts of a node
 abbrev pub first_shapes : ℕ → ℕ → List ℕ

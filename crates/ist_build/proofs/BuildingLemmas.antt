@@ -1,6 +1,5 @@
 -- What a build requires and returns, from what it has built. Serves `build`.
-use Rattle.std.proofs.Common.{◌≡◌, ◌≢◌, ℕ, ◌+◌, ◌-◌, ◌<◌, ◌≤◌, ◌==◌, true, false, List, [], ◌∷◌, ◌++◌, length, take, drop, Some, slice_index_or, refl, sym, ap, ap₂, ◌∙◌, subst, append-nil, append_assoc, ⊎_elim, arith}
-use Rattle.std.proofs.lemmas.Bool.{cases_lt}
+use Rattle.std.proofs.Common.{◌≡◌, ◌≢◌, ℕ, ◌+◌, ◌-◌, ◌<◌, ◌≤◌, ◌==◌, true, false, List, [], ◌∷◌, ◌++◌, length, take, drop, Some, slice_index_or, refl, sym, ap, ap₂, ◌∙◌, subst, append-nil, append_assoc, arith}
 use Rattle.std.proofs.lemmas.Bool.Decides.{nat_tests}
 use Rattle.std.proofs.lemmas.List.{length-map}
 use Rattle.std.specs.List.{flat_map}
@@ -17,7 +16,7 @@ use Rattle.ist_core.proofs.PlaceLemmas.{placed, claimed_within}
 use Rattle.ist_core.proofs.ReferenceLemmas.{ref_of-word_of}
 use Rattle.ist_core.proofs.RootLemmas.{least_degree-le}
 use Rattle.ist_core.proofs.RoomLemmas.{next_within, words_same}
-use Rattle.ist_core.proofs.ShapeLemmas.{shape_none, shape_one, shape_many}
+use Rattle.ist_core.proofs.ShapeLemmas.{shape_few, shape_many}
 use Rattle.laws_calls.specs.Dividing.{lens_to, parts_to, share_of}
 use Rattle.laws_calls.proofs.PartLemmas.{parts_all, lens_all}
 use Rattle.ist_rule.specs.declared.view.View.{View}
@@ -38,12 +37,6 @@ use Rattle.ist_rows.proofs.ShortLemmas.{short_from}
 use Rattle.ist_build.proofs.ShortLemmas.{short_for_more}
 
 -- ---- few leaves
-
--- a subtree over at most one leaf has no row
-pub no_row : (n : ℕ) → n < 2 → shape n ≡ []
-no_row n few =
-    ⊎_elim (λ none. ap shape (let q : n ≡ 0 = omega arith in q) ∙ shape_none)
-    (λ one. ap shape (let q : n ≡ 1 = omega arith in q) ∙ shape_one) (cases_lt n 1)
 
 -- tests of the number of leaves
 pub is_none : (n : ℕ) → (n == 0) ≡ true → n ≡ 0
@@ -69,7 +62,7 @@ one_good v s leaves have one = at leaves have.0 have.1 one
 pub small_taken : (who : Caller) (leaves : List ℕ) → length leaves < 2
     → HasTaken who (shape (length leaves)) who
 small_taken who leaves few stuck done rest h =
-    let e : shape (length leaves) ≡ [] = no_row (length leaves) few in
+    let e : shape (length leaves) ≡ [] = shape_few (length leaves) few in
     subst (λ xs. IsInBuild who stuck (done ++ xs) rest) (sym e)
     (subst (λ xs. IsInBuild who stuck xs rest) (sym (append-nil done))
     (subst (λ xs. IsInBuild who stuck done (xs ++ rest)) e h))

@@ -36,7 +36,7 @@ use Rattle.ist_rows.specs.Building.{sizes_built}
 use Rattle.laws_stability.proofs.SetLemmas.{set_later}
 use Rattle.laws_coming.proofs.AddingLemmas.{draw_comes}
 use Rattle.ist_rule.proofs.WentOnLemmas.{later_by-goes_on}
-use Rattle.ist_build.specs.Naming.{drawing}
+use Rattle.ist_build.specs.BuildEvents.{drawing}
 use Rattle.ist_build.specs.Calls.{IsBuiltOut}
 use Rattle.ist_build.specs.declared.shared.SharedRoot.{SharedRoot}
 use Rattle.ist_build.specs.Putting.{PutOn, IsShared, IsSlotSet}

@@ -38,7 +38,7 @@ use Rattle.ist_rows.proofs.CallerLemmas.{spare_kind}
 use Rattle.ist_rows.proofs.CallerGoingLemmas.{base_same}
 use Rattle.ist_rows.proofs.HeldListLemmas.{held_by_later}
 use Rattle.ist_rule.proofs.WentOnLemmas.{later_by, later_by_more, later_by_all, later_by-goes_on}
-use Rattle.ist_build.specs.Naming.{is_from, row_stored, held_rows_from}
+use Rattle.ist_build.specs.BuildEvents.{is_from, row_stored, held_rows_from}
 use Rattle.ist_build.specs.Laying.{IsReservation, BuiltOn, OwnsRows}
 use Rattle.ist_rows.proofs.HeldAfterLemmas.{filter_swap}
 use Rattle.ist_build.proofs.BuiltLemmas.{built_now, built_lawful}

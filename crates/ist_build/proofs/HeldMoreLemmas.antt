@@ -26,7 +26,7 @@ use Rattle.ist_rule.specs.Learning.{now}
 use Rattle.ist_rows.specs.Rows.{held_by}
 use Rattle.ist_rows.proofs.HeldListLemmas.{held_by_step}
 use Rattle.ist_core.specs.Authors.{no_more, one_more, LaterBy}
-use Rattle.ist_build.specs.Naming.{row_stored}
+use Rattle.ist_build.specs.BuildEvents.{row_stored}
 use Rattle.ist_build.specs.Midway.{words_at}
 use Rattle.ist_build.specs.Laying.{Rises, IsReservation}
 use Rattle.ist_build.proofs.LaidOnLemmas.{next_between}

@@ -29,7 +29,7 @@ use Rattle.laws_coming.specs.Builds.{IsPartBuilt, WasUnset}
 use Rattle.laws_coming.proofs.PartLemmas.{part_comes_or_loses}
 use Rattle.laws_coming.proofs.PlacedLemmas.{part_sizes}
 use Rattle.ist_build.specs.Laying.{IsLaid, IsShort}
-use Rattle.ist_build.specs.Naming.{placing, losing, held_rows_from}
+use Rattle.ist_build.specs.BuildEvents.{placing, losing, held_rows_from}
 use Rattle.ist_build.specs.declared.shared.SharedRoot.{SharedRoot}
 use Rattle.ist_build.specs.Putting.{IsRowOfDegree, IsShared, IsStopped}
 use Rattle.ist_build.specs.Back.{IsBack, HasBuilt, IsSharedAs, IsPartMade, IsFilledAt}

@@ -4,7 +4,6 @@ use Rattle.ist_core.specs.declared.events.Event.{Event}
 use Rattle.ist_core.specs.declared.events.Event.TheVariants.{Root}
 use Rattle.ist_core.specs.Building.{IsRoot, root_whole, root_top}
 use Rattle.ist_core.specs.Elements.{Each}
-use Rattle.ist_core.specs.Growing.{AllGrow}
 use Rattle.ist_core.specs.Ideals.{IsIdeal, of_none, of_one}
 use Rattle.ist_core.specs.Leaves.{PlacedLeaf, HasLeaves}
 use Rattle.ist_core.specs.Marking.{HasTarget}
@@ -13,9 +12,8 @@ use Rattle.ist_core.specs.Rebuilding.{IsFinishedWith}
 use Rattle.ist_core.specs.References.{Ref, Empty, LeafAt, InnerAt, Unset, IsGoodBase, ref_of, word_of, unset_word}
 use Rattle.ist_core.specs.RowLayout.{rebuild_root_offset}
 use Rattle.ist_core.specs.Shapes.{share_from, share_from_fits}
-use Rattle.ist_core.specs.Snapshots.{Snapshot}
-use Rattle.ist_core.proofs.GrowingLemmas.{rebuild_there}
 use Rattle.ist_core.proofs.ReferenceLemmas.{ref_of-unset, ref_of-word_of}
+use Rattle.laws_links.proofs.FinishedLemmas.{target_grows}
 use Rattle.ist_rule.specs.declared.view.View.{View}
 use Rattle.ist_core.specs.declared.events.Who.TheVariants.{Caller as CallerOf}
 use Rattle.ist_core.proofs.DrawLemmas.{finished_once}
@@ -32,7 +30,7 @@ use Rattle.ist_rows.specs.Building.{sizes_built}
 use Rattle.laws_coming.specs.Builds.{IsRootBuilt, WasUnset}
 use Rattle.laws_coming.proofs.RootLemmas.{root_comes}
 use Rattle.ist_build.specs.Laying.{BuiltOn, IsRootLaid, IsTarget, IsLeaf}
-use Rattle.ist_build.specs.Naming.{rooting_few}
+use Rattle.ist_build.specs.BuildEvents.{rooting_few}
 use Rattle.ist_build.specs.Calls.{IsTold}
 use Rattle.ist_build.proofs.BuiltLemmas.{built_grow, loads_built, leaf_goes_on}
 use Rattle.ist_build.proofs.ReadingLemmas.{leaves_number}
@@ -236,12 +234,6 @@ pub record IsFound (old new : Caller) (rebuild target k : ℕ) : Type 0 where
   pub told : IsTold (now new.token.view) rebuild k
   pub target_is : HasTarget (now new.token.view) rebuild target
 
-target_on : (t u : Snapshot) → AllGrow t.pieces u.pieces → (rebuild target : ℕ)
-    → HasTarget t rebuild target → HasTarget u rebuild target
-target_on t u g rebuild target h =
-    let it = rebuild_there t.pieces u.pieces g rebuild h.row h.published in
-    record { row = it.0; published = it.1; target_is = it.2.target ∙ h.target_is }
-
 -- the target is finished
 pub target_done : (v w : View) → GoesOnTo v w → (rebuild target k : ℕ) → IsTold (now v) rebuild k
     → HasTarget (now w) rebuild target → IsFinished (now w) target
@@ -260,7 +252,7 @@ found_so old token last r first second rebuild target k n told h f =
     let goes = goes_on_more v token.view last.view first second in
     let on = told_on (now v) (now last.view) (built_grow v last.view (loads_built v last.view goes))
     rebuild k told in
-    let there = target_on (now token.view) (now last.view)
+    let there = target_grows (now token.view) (now last.view)
     (built_grow token.view last.view (loads_built token.view last.view second)) rebuild target h in
     let t = told_target (now last.view) rebuild target k on there in
     let same : k ≡ n = finished_once (now last.view) target k n t.finished f in

@@ -22,7 +22,7 @@ use Rattle.ist_rows.specs.Building.{sizes_built}
 use Rattle.laws_coming.specs.Builds.{IsRootBuilt, WasUnset}
 use Rattle.laws_coming.proofs.RootLemmas.{root_comes_or_loses}
 use Rattle.ist_build.specs.Laying.{BuiltOn, OwnsRows, IsRootLaid, IsTarget}
-use Rattle.ist_build.specs.Naming.{rooting, losing, held_rows_from}
+use Rattle.ist_build.specs.BuildEvents.{rooting, losing, held_rows_from}
 use Rattle.ist_build.specs.Back.{HasBuilt, IsRootMade, HasPutRoot}
 use Rattle.ist_build.proofs.HeldBeforeLemmas.{rows_named}
 use Rattle.laws_links.proofs.FinishedLeafLemmas.{finished_leaves}

@@ -11,7 +11,7 @@ use Rattle.ist_core.specs.Shapes.{shape}
 use Rattle.ist_core.specs.Snapshots.{Snapshot, HoldsRow}
 use Rattle.ist_core.proofs.RootLemmas.{least_degree-le}
 use Rattle.ist_core.proofs.ReferenceLemmas.{ref_of-word_of}
-use Rattle.ist_core.proofs.ShapeLemmas.{shape_many}
+use Rattle.ist_core.proofs.ShapeLemmas.{shape_few, shape_many}
 use Rattle.ist_rule.specs.declared.view.View.{View}
 use Rattle.ist_rule.specs.declared.view.OwnWord.{OwnWord}
 use Rattle.ist_rule.specs.Rule.{IsSound, own_at}
@@ -22,7 +22,6 @@ use Rattle.ist_rows.specs.Rows.{IsCaller}
 use Rattle.ist_rows.proofs.ReserveLemmas.{next_low}
 use Rattle.ist_dcss.proofs.FieldLemmas.{good_base}
 use Rattle.ist_rows.specs.Block.{HoldsBlock}
-use Rattle.ist_build.proofs.BuildingLemmas.{no_row}
 use Rattle.ist_build.specs.Laying.{ArePlaced, IsLaidBelow}
 use Rattle.ist_build.specs.Midway.{lens_from, IsLaying, opening}
 use Rattle.ist_build.proofs.LayingLemmas.{row_within}
@@ -30,7 +29,7 @@ use Rattle.ist_build.proofs.PartsLemmas.{lens_first}
 
 -- a subtree over at most one leaf takes no place
 pub small_end : (n next : ℕ) → n < 2 → next ≡ next + sum (shape n)
-small_end n next few = let e : sum (shape n) ≡ 0 = ap sum (no_row n few) in omega arith
+small_end n next few = let e : sum (shape n) ≡ 0 = ap sum (shape_few n few) in omega arith
 
 -- over no leaf, the Empty word is the ideal subtree, in no row
 pub none_below : (v : View) (number low word : ℕ) (leaves : List ℕ) → length leaves ≡ 0

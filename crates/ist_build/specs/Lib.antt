@@ -7,4 +7,4 @@ pub mod Back
 pub mod Left
 pub mod Midway
 pub mod Reading
-pub mod Naming
+pub mod BuildEvents

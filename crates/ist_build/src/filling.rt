@@ -11,7 +11,7 @@ ghost use Rattle.ist_rule.specs.Learning.{now, ExchangedOrLost};
 ghost use Rattle.ist_rule.specs.Conditions.{CanExchangeOrLose};
 ghost use Rattle.ist_rows.specs.Taken.{HasTakenFewIn, TakesNoWords};
 ghost use Rattle.laws_coming.specs.Builds.{WasUnset};
-ghost use Rattle.ist_build.specs.Naming.{placing, losing};
+ghost use Rattle.ist_build.specs.BuildEvents.{placing, losing};
 ghost use Rattle.ist_build.specs.Calls.{IsTold, IsBuildable, IsRooted, IsBuiltOut, parts_words};
 ghost use Rattle.ist_build.specs.Left.{left_for, slot_is_set};
 ghost use Rattle.ist_build.specs.Putting.{IsSlotSet, IsStopped};

@@ -7,7 +7,7 @@ use Rattle.ist_core.specs.Logs.{Log}
 use Rattle.ist_core.specs.Lawful.{Lawful, state_of}
 use Rattle.ist_core.proofs.SoundLemmas.{sound}
 use Rattle.ist_core.proofs.StartLemmas.{sound_start}
-use Rattle.check_builds.specs.Standing.{HeldAreFree}
+use Rattle.check_builds.specs.HeldRows.{HeldAreFree}
 
 module _ (pairs : List Pair) (words : ℕ) (log : Log) (lawful : Lawful pairs words log) where
   -- if a row is held, none is published there

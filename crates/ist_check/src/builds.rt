@@ -5,7 +5,7 @@ ghost use Rattle.ist_core.specs.Logs.{Log};
 ghost use Rattle.check_events.specs.Mirroring.{Mirrors};
 ghost use Rattle.check_events.specs.Remembering.{KnowsStarts, KnowsDraws, KnowsBuilds, KnowsLeaves};
 ghost use Rattle.check_fairness.specs.Knowing.{KnowsLists};
-ghost use Rattle.check_builds.specs.Standing.{HeldAreFree};
+ghost use Rattle.check_builds.specs.HeldRows.{HeldAreFree};
 ghost use Rattle.ist_check.specs.Failing.{TellsCondition};
 ghost use Rattle.ist_check.specs.Conditions.{root_says, draw_says, place_says, lose_says};
 

@@ -6,6 +6,7 @@ use Rattle.std.proofs.Common.{
   zero,
   suc,
   ◌+◌,
+  ◌<◌,
   ◌≤◌,
   max,
   List,
@@ -132,6 +133,12 @@ shape_none = refl
 pub shape_one : shape 1 ≡ []
 unfolding shape shape_within
 shape_one = refl
+
+-- fewer than two keys have no inner rows
+pub shape_few : (n : ℕ) → n < 2 → shape n ≡ []
+shape_few zero h = shape_none
+shape_few (suc zero) h = shape_one
+shape_few (suc (suc n)) h = absurd (omega arith)
 
 -- the shape of a node is its row's length and the shapes of its parts
 pub shape_many : (n : ℕ) → 2 ≤ n

@@ -31,7 +31,7 @@ use Rattle.ist_rule.proofs.LaterLemmas.{later-goes_on}
 use Rattle.ist_rule.proofs.GoingOnLemmas.{callers_later}
 use Rattle.ist_rule.proofs.WatchLemmas.{shown_in_row, change_node, if_some, status_place_inner, status_place_anchor}
 use Rattle.ist_dcss.specs.Helping.{MayHelp, Serves}
-use Rattle.ist_dcss.specs.Naming.{settled, okayed, closed, IsField, deciding, IsDecidable}
+use Rattle.ist_dcss.specs.HelpEvents.{settled, okayed, closed, IsField, deciding, IsDecidable}
 use Rattle.ist_rule.specs.Going.{WentOn}
 use Rattle.ist_rule.proofs.WentOnLemmas.{looked_went, logged_load_went, went_now, went_more, went_who}
 use Rattle.ist_dcss.proofs.HelperLemmas.{went_row}

@@ -14,7 +14,7 @@ use Rattle.ist_core.specs.Shown.{IsShown, shown_row}
 use Rattle.ist_rule.specs.Rule.{IsSound}
 use Rattle.ist_rule.specs.Learning.{now, Looked, Logged, Exchanged}
 use Rattle.ist_dcss.specs.Helping.{Serves, IsDecided, WasOpen, WasClosed}
-use Rattle.ist_dcss.specs.Naming.{standing, deciding}
+use Rattle.ist_dcss.specs.HelpEvents.{standing, deciding}
 use Rattle.ist_rule.specs.Going.{WentOn}
 use Rattle.ist_rule.proofs.WentOnLemmas.{looked_went, logged_went, went_now, went_more}
 use Rattle.ist_dcss.proofs.DecideLemmas.{MayDecide, deciding_is}

@@ -21,7 +21,7 @@ use Rattle.ist_rule.specs.Rule.{IsSound}
 use Rattle.ist_rule.specs.Learning.{now, GoesOnTo, Looked}
 use Rattle.ist_rule.proofs.WatchLemmas.{place_inner}
 use Rattle.ist_dcss.specs.Helping.{MayHelp, Serves}
-use Rattle.ist_dcss.specs.Naming.{IsField, IsSlot, IsSlotOf}
+use Rattle.ist_dcss.specs.HelpEvents.{IsField, IsSlot, IsSlotOf}
 use Rattle.ist_rule.specs.Going.{WentOn}
 use Rattle.ist_rule.proofs.GoingOnLemmas.{looked_goes_on}
 use Rattle.ist_rule.proofs.WentOnLemmas.{goes_on_went, looked_went, goes_on_grow}

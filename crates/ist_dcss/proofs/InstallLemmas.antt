@@ -42,7 +42,7 @@ use Rattle.ist_rule.proofs.ChangeLemmas.{ChangeComes, stood, is_installed, chang
 use Rattle.ist_rule.proofs.UndecidedLemmas.{resolved_decided}
 use Rattle.ist_rule.proofs.CallLemmas.{between_later, resolved_later}
 use Rattle.ist_dcss.specs.Installing.{Filling, rows_of, IsInstallable}
-use Rattle.ist_dcss.specs.Naming.{HasFilled, IsSlot}
+use Rattle.ist_dcss.specs.HelpEvents.{HasFilled, IsSlot}
 use Rattle.ist_rule.proofs.WentOnLemmas.{goes_on_now, goes_on_lawful, goes_on_grow}
 use Rattle.ist_dcss.proofs.SlotPlaceLemmas.{slot_shown, shown_in_slot, slot_place_later}
 use Rattle.ist_dcss.proofs.FitsLemmas.{fits_later}

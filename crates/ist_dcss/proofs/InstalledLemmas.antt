@@ -30,7 +30,7 @@ use Rattle.ist_rule.proofs.LaterLemmas.{later-goes_on}
 use Rattle.ist_rule.proofs.GoingOnLemmas.{goes_on_more, goes_on_who, looked_goes_on}
 use Rattle.ist_rule.proofs.FitLemmas.{each_map}
 use Rattle.ist_dcss.specs.Installing.{Filling, rows_of, IsInstallable, IsInstalled, IsOther}
-use Rattle.ist_dcss.specs.Naming.{HasFilled, IsSlot, IsAimed, installing}
+use Rattle.ist_dcss.specs.HelpEvents.{HasFilled, IsSlot, IsAimed, installing}
 use Rattle.ist_dcss.specs.declared.decisions.Installed.TheVariants.{Other}
 use Rattle.ist_rule.proofs.WentOnLemmas.{goes_on_now, goes_on_lawful}
 use Rattle.ist_dcss.proofs.SlotPlaceLemmas.{slot_shown, slot_place_later}

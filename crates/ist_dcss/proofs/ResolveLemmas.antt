@@ -26,7 +26,7 @@ use Rattle.ist_rule.specs.Conditions.{MayCome, CanExchange}
 use Rattle.ist_rule.specs.Watching.{number_of}
 use Rattle.ist_rule.proofs.LaterLemmas.{later-goes_on}
 use Rattle.ist_dcss.specs.Helping.{MayHelp, Serves, IsDecided, IsOut}
-use Rattle.ist_dcss.specs.Naming.{resolving, IsField, IsSlotOf, outcome_offset_of}
+use Rattle.ist_dcss.specs.HelpEvents.{resolving, IsField, IsSlotOf, outcome_offset_of}
 use Rattle.ist_rule.specs.Going.{WentOn}
 use Rattle.ist_rule.proofs.WentOnLemmas.{looked_went, logged_went, later_by-goes_on, went_more, went_who, went_now, went_lawful}
 use Rattle.ist_dcss.proofs.HelperLemmas.{went_row}

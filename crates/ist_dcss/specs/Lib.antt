@@ -4,4 +4,4 @@ pub mod Installing
 pub mod Opening
 pub mod Reading
 -- what the functions inside this crate promise each other
-pub mod Naming
+pub mod HelpEvents

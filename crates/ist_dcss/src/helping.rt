@@ -7,7 +7,7 @@ ghost use Rattle.ist_dcss.specs.declared.decisions.Decision.TheVariants.{Yes, No
 ghost use Rattle.ist_rule.specs.Going.{WentOn, KeepsSearch};
 ghost use Rattle.ist_dcss.specs.Helping.{MayHelp, Serves, is_yes, IsDecided};
 ghost use Rattle.ist_dcss.specs.Helping.{WasOpen, WasClosed, IsOut};
-ghost use Rattle.ist_dcss.specs.Naming.{standing, outcome_offset_of, IsField, IsSlotOf};
+ghost use Rattle.ist_dcss.specs.HelpEvents.{standing, outcome_offset_of, IsField, IsSlotOf};
 
 use crate::decisions::Decision;
 use crate::opening::status_place;

@@ -3,7 +3,7 @@ ghost use Rattle.std.specs.Prelude.{◌≡◌, ◌<◌, ℕ, List, length, slice
 ghost use Rattle.ist_dcss.specs.declared.decisions.Installed.TheVariants.{Yes, Other};
 ghost use Rattle.ist_rule.specs.Learning.{GoesOnTo};
 ghost use Rattle.ist_dcss.specs.Installing.{Filling, IsInstallable, IsInstalled, IsOther};
-ghost use Rattle.ist_dcss.specs.Naming.{HasFilled, IsAimed};
+ghost use Rattle.ist_dcss.specs.HelpEvents.{HasFilled, IsAimed};
 
 use crate::decisions::Installed;
 use crate::slots::slot_at;

@@ -2,7 +2,7 @@
 ghost use Rattle.std.specs.Prelude.{◌≡◌};
 ghost use Rattle.ist_core.specs.Writing.{place_of_slot};
 ghost use Rattle.ist_rule.specs.Learning.{now, GoesOnTo};
-ghost use Rattle.ist_dcss.specs.Naming.{IsSlot};
+ghost use Rattle.ist_dcss.specs.HelpEvents.{IsSlot};
 
 use ist_layout::{ANCHOR, ANCHOR_SLOT_PLACE, INNER_DEGREE_OFFSET, slot_place};
 use ist_rule::{TreeTable, TreeToken, know, load};

@@ -18,7 +18,7 @@ use Rattle.laws_histories.specs.Loads.{IsLoad}
 use Rattle.laws_histories.specs.Searching.{no_change, by_to, by_from, no_rebuild, by_target, of_nothing, of_other, of_key}
 use Rattle.ist_rule.proofs.WentOnLemmas.{goes_on_grow}
 use Rattle.ist_find.specs.Searches.{IsRow, SeesLeaf, SeesChange, SeesRebuild, Names}
-use Rattle.ist_dcss.specs.Naming.{outcome_offset_of}
+use Rattle.ist_dcss.specs.HelpEvents.{outcome_offset_of}
 use Rattle.ist_find.specs.Reads.{IsPlain, IsFoundAs, IsEnd, loaded_in, HasSideRead, TellsSide, TellsTarget, TellsValue}
 use Rattle.ist_find.proofs.LoadLemmas.{goes_length, looked_load, load_later}
 

@@ -6,7 +6,7 @@ ghost use Rattle.ist_layout.specs.Meanings.{ref_meant};
 ghost use Rattle.ist_find.specs.Searches.{SeesLeaf, SeesChange, SeesRebuild, Names};
 ghost use Rattle.ist_find.specs.Reads.{IsPlain, IsEnd};
 ghost use Rattle.ist_core.specs.Statuses.{decided_yes};
-ghost use Rattle.ist_dcss.specs.Naming.{outcome_offset_of};
+ghost use Rattle.ist_dcss.specs.HelpEvents.{outcome_offset_of};
 ghost use Rattle.ist_find.specs.Reads.{TellsSide, TellsTarget, TellsValue};
 
 use crate::answers::Counted;

@@ -31,7 +31,7 @@ use Rattle.laws_coming.proofs.ComingLemmas.{exchange_comes}
 use Rattle.ist_rule.proofs.WentOnLemmas.{logged_went, looked_went}
 use Rattle.laws_coming.proofs.KnownLemmas.{gone_missed, mark_gone}
 use Rattle.ist_mark.specs.Marking.{the_node, Marks}
-use Rattle.ist_mark.specs.Naming.{finishing}
+use Rattle.ist_mark.specs.MarkEvents.{finishing}
 use Rattle.ist_mark.specs.Passing.{MayFinish, AreCounted}
 use Rattle.ist_mark.proofs.CountLemmas.{counted_all, passed_once}
 use Rattle.ist_mark.proofs.KeepingLemmas.{inner_went, counted_went}

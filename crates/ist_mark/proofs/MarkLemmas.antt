@@ -30,7 +30,7 @@ use Rattle.laws_coming.proofs.ComingLemmas.{exchange_comes}
 use Rattle.ist_rule.proofs.WentOnLemmas.{logged_went, looked_went, went_who}
 use Rattle.laws_coming.proofs.KnownLemmas.{in_piece, fast_known, gone_missed, open_gone}
 use Rattle.ist_mark.specs.Marking.{MayMark, the_node, Marks}
-use Rattle.ist_mark.specs.Naming.{marking}
+use Rattle.ist_mark.specs.MarkEvents.{marking}
 use Rattle.ist_mark.specs.Passing.{IsClosed, MayPass}
 use Rattle.ist_mark.proofs.KeepingLemmas.{inner_went, closed_went}
 use Rattle.ist_mark.proofs.NodeLemmas.{called_inner}

@@ -2,4 +2,4 @@
 pub mod Marking
 -- what the functions inside this crate promise each other
 pub mod Passing
-pub mod Naming
+pub mod MarkEvents

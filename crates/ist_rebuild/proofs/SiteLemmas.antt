@@ -27,7 +27,7 @@ use Rattle.ist_rule.specs.Watching.{IsNode}
 use Rattle.ist_rule.proofs.GoingOnLemmas.{goes_on_more, looked_goes_on}
 use Rattle.ist_rule.proofs.WatchLemmas.{change_node}
 use Rattle.ist_rule.proofs.WentOnLemmas.{goes_on_grow, goes_on_went, later_by-goes_on, went_grow, went_lawful}
-use Rattle.ist_dcss.specs.Naming.{IsSlot}
+use Rattle.ist_dcss.specs.HelpEvents.{IsSlot}
 use Rattle.ist_dcss.specs.Reading.{IsRebuildRow}
 use Rattle.ist_dcss.proofs.FieldLemmas.{looked_row}
 use Rattle.ist_dcss.proofs.FitsLemmas.{fits_later}

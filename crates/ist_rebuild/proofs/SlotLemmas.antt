@@ -22,7 +22,7 @@ use Rattle.ist_rule.specs.Rule.{IsSound}
 use Rattle.ist_rule.proofs.GoingOnLemmas.{looked_goes_on}
 use Rattle.ist_rule.proofs.WentOnLemmas.{went_now, went_lawful, later_by-goes_on}
 use Rattle.ist_rule.proofs.WatchLemmas.{place_inner}
-use Rattle.ist_dcss.specs.Naming.{IsSlot}
+use Rattle.ist_dcss.specs.HelpEvents.{IsSlot}
 use Rattle.ist_dcss.proofs.FieldLemmas.{row_above}
 use Rattle.ist_dcss.proofs.InstallLemmas.{slot_on}
 use Rattle.ist_dcss.proofs.InstalledLemmas.{place_on}

@@ -20,7 +20,7 @@ use Rattle.laws_links.proofs.LinkLemmas.{open_unfinished}
 use Rattle.laws_links.proofs.FinishedLemmas.{target_grows}
 use Rattle.laws_calls.proofs.DueLemmas.{due_was_linked}
 use Rattle.laws_stability.proofs.LaterLemmas.{ever_later}
-use Rattle.laws_stability.specs.Standing.{StandsAtRow, by_change, by_rebuild, its_own}
+use Rattle.laws_stability.specs.OpenRows.{StandsAtRow, by_change, by_rebuild, its_own}
 use Rattle.laws_stability.proofs.StandingLemmas.{open_stands_for}
 use Rattle.ist_rule.specs.declared.view.View.{View}
 use Rattle.ist_rule.specs.Going.{WentOn}

@@ -17,7 +17,7 @@ use Rattle.ist_rule.specs.Watching.{IsNode}
 use Rattle.ist_rule.proofs.GoingOnLemmas.{goes_on_more}
 use Rattle.ist_rule.proofs.WentOnLemmas.{went_lawful, later_by-goes_on, goes_on_grow}
 use Rattle.ist_rows.specs.declared.callers.Caller.{Caller}
-use Rattle.ist_dcss.specs.Naming.{IsSlot}
+use Rattle.ist_dcss.specs.HelpEvents.{IsSlot}
 use Rattle.ist_dcss.proofs.FitsLemmas.{fits_later}
 use Rattle.ist_dcss.proofs.InstallLemmas.{slot_on}
 use Rattle.ist_find.specs.Searches.{HasCome}

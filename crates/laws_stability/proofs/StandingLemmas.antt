@@ -18,7 +18,7 @@ use Rattle.ist_core.proofs.SlotLemmas.{slot_once}
 use Rattle.laws_links.proofs.LinkLemmas.{open_linked}
 use Rattle.laws_links.proofs.UntouchedLemmas.{not_the_anchor}
 use Rattle.laws_links.proofs.ReturnLemmas.{one_inner}
-use Rattle.laws_stability.specs.Standing.{StandsAtRow, by_change, by_rebuild, its_own}
+use Rattle.laws_stability.specs.OpenRows.{StandsAtRow, by_change, by_rebuild, its_own}
 
 -- a row's word is no change's, and set
 no_change : (row base : ℕ) → InnerAt row ≢ ChangeAt base

@@ -5,4 +5,4 @@ pub mod Stability
 pub mod Needs
 pub mod Progress
 pub mod Standstill
-pub mod Standing
+pub mod OpenRows

@@ -3,7 +3,7 @@
 ghost use Rattle.laws_stability.specs.Progress.{ProgressIsWithinWords, ProgressIsBounded, ProgressNeverFalls};
 ghost use Rattle.laws_stability.specs.Progress.{ResolvingIsProgress, InstallingIsProgress};
 ghost use Rattle.laws_stability.specs.Standstill.{SlotsStand, OpenNodesStand, OpenNodesHaveOpenChildren};
-ghost use Rattle.laws_stability.specs.Standing.{OpenRowsStand};
+ghost use Rattle.laws_stability.specs.OpenRows.{OpenRowsStand};
 
 /// How far a table has come is at most the number of its words: each change is installed once and
 /// taken out of its slot once, and each row is marked once. It never falls, and it rises when a

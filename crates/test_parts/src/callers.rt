@@ -36,7 +36,7 @@ fn reserve_and_fill(table: &TreeTable, who: &mut Caller) -> Result<u32, Full>
 
 // What is seen in a table of 14 words: the numbers of two callers; what the first one is told that reserves a leaf row twice, and
 // the next row then; what it is told of a change row; and the leaf's value and the next row in the closed table.
-type Seen = (
+type ReservedTwice = (
     (u32, u32),
     (Result<u32, Full>, Result<u32, Full>),
     u64,
@@ -44,7 +44,7 @@ type Seen = (
     (u64, u64),
 );
 
-fn see_reserved(alloc: Global) -> Result<Seen, AllocError> {
+fn see_reserved(alloc: Global) -> Result<ReservedTwice, AllocError> {
     let (table, mut maker) = empty_table(alloc, 14)?;
     let mut first = enter(&table, &mut maker);
     let second = enter(&table, &mut maker);

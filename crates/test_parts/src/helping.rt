@@ -51,7 +51,7 @@ fn put_late(table: &TreeTable, who: &mut Caller) -> Option<u64>
 }
 
 #[derive(Clone, Copy, Debug, PartialEq, Eq, Drop)]
-struct Seen {
+struct HelpedTwice {
     words: [u64; 3],
     by_second: Option<Decision>,
     by_first: Decision,
@@ -66,7 +66,7 @@ fn help_in_turn(
     maker: &mut TreeToken,
     first: &mut Caller,
     second: &mut Caller,
-) -> Option<Seen>
+) -> Option<HelpedTwice>
     requires maker_table { maker.old.view.table ≡ table.now.table }
     requires first_table { first.old.token.view.table ≡ table.now.table }
     requires second_table { second.old.token.view.table ≡ table.now.table }
@@ -85,7 +85,7 @@ fn help_in_turn(
     let left = word_at(table, maker, ANCHOR_SLOT_PLACE);
     let by_first = help(table, &mut first.token, 6);
     let again = word_at(table, maker, ANCHOR_SLOT_PLACE);
-    Some(Seen {
+    Some(HelpedTwice {
         words: [installed, left, again],
         by_second,
         by_first,
@@ -94,7 +94,7 @@ fn help_in_turn(
 }
 
 // The same in an empty table.
-fn help_two(alloc: Global) -> Result<Option<Seen>, AllocError> {
+fn help_two(alloc: Global) -> Result<Option<HelpedTwice>, AllocError> {
     let (table, mut maker) = empty_table(alloc, 26)?;
     let mut first = enter(&table, &mut maker);
     let mut second = enter(&table, &mut maker);
@@ -106,7 +106,7 @@ fn help_two(alloc: Global) -> Result<Option<Seen>, AllocError> {
 fn a_put_is_decided_once_and_leaves_its_slot(rt: HostRuntime) {
     let change = Ref::Change { base: 6 }.to_word();
     let leaf = Ref::Leaf { base: 4 }.to_word();
-    let wanted = Seen {
+    let wanted = HelpedTwice {
         words: [change, leaf, leaf],
         by_second: Some(Decision::Yes),
         by_first: Decision::Yes,

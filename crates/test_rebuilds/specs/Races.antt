@@ -12,7 +12,7 @@ use Rattle.ist_rule.specs.Conditions.{StoredAll}
 use Rattle.ist_rule.specs.Learning.{now}
 use Rattle.ist_rule.specs.Watching.{number_of}
 use Rattle.laws_coming.specs.Builds.{IsRootBuilt, WasUnset}
-use Rattle.ist_build.specs.Naming.{row_stored}
+use Rattle.ist_build.specs.BuildEvents.{row_stored}
 
 -- the one row of the root that the word names, with the words that the token stored there
 abbrev pub row_named : View → ℕ → List Row

@@ -36,9 +36,9 @@ fn give_up(table: &TreeTable, who: &mut Caller) -> Option<u32>
 
 // What one caller sees that holds a pair row, and gives it up once another has put a key beside the
 // only one: the row that it held, the row that the other published, and the next row that it reserves.
-type Seen = (Result<u32, Full>, Option<u32>, Result<u32, Full>);
+type DroppedRow = (Result<u32, Full>, Option<u32>, Result<u32, Full>);
 
-fn reserve_again(table: &TreeTable, low: &mut Caller, other: &mut Caller) -> Option<Seen>
+fn reserve_again(table: &TreeTable, low: &mut Caller, other: &mut Caller) -> Option<DroppedRow>
     requires same_table { low.old.token.view.table ≡ table.now.table }
     requires caller { IsCaller low.old }
     requires other_table { other.old.token.view.table ≡ table.now.table }
@@ -53,7 +53,7 @@ fn reserve_again(table: &TreeTable, low: &mut Caller, other: &mut Caller) -> Opt
 }
 
 // The same in a new table of one pair.
-fn see_dropped(alloc: Global) -> Result<Option<Seen>, OpenFault> {
+fn see_dropped(alloc: Global) -> Result<Option<DroppedRow>, OpenFault> {
     let Opened {
         table,
         mut maker,

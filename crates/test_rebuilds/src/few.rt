@@ -18,7 +18,7 @@ use std::alloc::Global;
 // What is seen of a rebuild: how many keys its finished target has, whether it was replaced, and
 // what is below the anchor then.
 #[derive(Clone, Copy, Debug, PartialEq, Eq, Drop)]
-struct Seen {
+struct RebuiltRow {
     keys: u64,
     replaced: bool,
     below: Option<Ref>,
@@ -31,7 +31,7 @@ fn see_in(
     most: &mut Caller,
     who: &mut Caller,
     removes: &[(u64, Option<u64>)],
-) -> Option<Seen>
+) -> Option<RebuiltRow>
     requires maker_table { maker.old.view.table ≡ table.now.table }
     requires most_table { most.old.token.view.table ≡ table.now.table }
     requires most_pass { IsPass most.old }
@@ -45,7 +45,7 @@ fn see_in(
     let keys = mark(table, who, rebuild).keys;
     let replaced = help_on(table, who, rebuild) == Ok(Helped::Replaced);
     let below = Ref::from_word(word_at(table, maker, 3));
-    Some(Seen {
+    Some(RebuiltRow {
         keys,
         replaced,
         below,
@@ -53,7 +53,7 @@ fn see_in(
 }
 
 // The same in a new table of the pairs (1, 1) and (2, 2).
-fn see(alloc: Global, removes: &[(u64, Option<u64>)]) -> Result<Option<Seen>, OpenFault> {
+fn see(alloc: Global, removes: &[(u64, Option<u64>)]) -> Result<Option<RebuiltRow>, OpenFault> {
     let Opened {
         table,
         mut maker,
@@ -76,7 +76,7 @@ fn a_row_of_one_leaf_is_replaced_by_it_and_one_of_none_by_nothing(rt: HostRuntim
         (&[(2, None), (1, None)], 0, Ref::Empty),
     ];
     for (removes, keys, below) in cases {
-        let wanted = Seen {
+        let wanted = RebuiltRow {
             keys,
             replaced: true,
             below: Some(below),

@@ -39,7 +39,7 @@ struct Rebuilt {
 // What is seen of a tree of some shape: the tags of the first three slots at the moment of building, the
 // rebuild, and the result of the late put.
 #[derive(Clone, Copy, Debug, PartialEq, Eq, Drop)]
-struct Seen {
+struct FrozenRow {
     tags: (u64, u64, u64),
     rebuilt: Rebuilt,
     late: Option<Decision>,
@@ -180,7 +180,7 @@ fn see_late(
     helper: &mut Caller,
     builder: &mut Caller,
     shape: Shape,
-) -> Result<Option<Seen>, OpenFault>
+) -> Result<Option<FrozenRow>, OpenFault>
     requires maker_table { maker.old.view.table ≡ table.now.table }
     requires last_table { last.old.token.view.table ≡ table.now.table }
     requires last_pass { IsPass last.old }
@@ -196,7 +196,7 @@ fn see_late(
     let map = map_of(alloc, shape)?;
     let rebuilt = rebuild_over(table, alloc, maker, helper, builder, rebuild, &map)?;
     let late = end_late(table, last, put, installed);
-    Ok(Some(Seen {
+    Ok(Some(FrozenRow {
         tags,
         rebuilt,
         late,
@@ -209,7 +209,7 @@ fn see_in(
     alloc: Global,
     maker: &mut TreeToken,
     shape: Shape,
-) -> Result<Option<Seen>, OpenFault>
+) -> Result<Option<FrozenRow>, OpenFault>
     requires same_table { maker.old.view.table ≡ table.now.table }
     requires maker { maker.old.view.who ≡ Maker }
     requires given { maker.old.view.given ≡ maker.old.view.made }
@@ -233,7 +233,7 @@ fn see_in(
 }
 
 // The same in a new tree.
-fn see(alloc: Global, shape: Shape) -> Result<Option<Seen>, OpenFault> {
+fn see(alloc: Global, shape: Shape) -> Result<Option<FrozenRow>, OpenFault> {
     let Opened {
         table,
         mut maker,
@@ -260,7 +260,7 @@ fn a_rebuild_has_the_leaves_of_the_map_whatever_stands_in_the_slots(rt: HostRunt
             rebuilt,
             late,
         };
-        let wanted = Seen {
+        let wanted = FrozenRow {
             tags,
             rebuilt: Rebuilt {
                 leaves: true,

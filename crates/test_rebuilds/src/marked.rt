@@ -41,7 +41,7 @@ const SEVEN: [(u64, Option<u64>); 7] = [
 // both pairs, another tries to, a third marks the row, and a fourth installs its put after that and
 // helps it. The row's status and count were read between the marking and the late put.
 #[derive(Clone, Copy, Debug, PartialEq, Eq, Drop)]
-struct Seen {
+struct MarkedStarts {
     due: Due,
     starts: (Result<Started, Full>, Result<Started, Full>),
     frozen: Frozen,
@@ -149,7 +149,7 @@ fn see_in(
     third: &mut Caller,
     fourth: &mut Caller,
     at: (u64, u64),
-) -> Option<Seen>
+) -> Option<MarkedStarts>
     requires maker_table { maker.old.view.table ≡ table.now.table }
     requires first_table { first.old.token.view.table ≡ table.now.table }
     requires second_table { second.old.token.view.table ≡ table.now.table }
@@ -168,7 +168,7 @@ fn see_in(
     let put = prepare(table, fourth, at.0, 9)?;
     let starts = start_both(table, first, second, due, target);
     let frozen = freeze_and_put(table, maker, third, fourth, put, at.1)?;
-    Some(Seen {
+    Some(MarkedStarts {
         due,
         starts,
         frozen,
@@ -176,7 +176,7 @@ fn see_in(
 }
 
 // The same from a new table on.
-fn see(alloc: Global, key: u64, place: u64) -> Result<Option<Seen>, OpenFault> {
+fn see(alloc: Global, key: u64, place: u64) -> Result<Option<MarkedStarts>, OpenFault> {
     let Opened {
         table,
         mut maker,
@@ -208,7 +208,7 @@ fn a_put_that_is_installed_after_a_marking_is_decided_no(rt: HostRuntime) {
         is_as_before: true,
     };
     // Eight puts took 88 words after the 15 of the opening, and the late one 11.
-    let wanted = Seen {
+    let wanted = MarkedStarts {
         due: Due {
             parent: ANCHOR,
             index: 0,

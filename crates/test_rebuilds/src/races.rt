@@ -139,7 +139,7 @@ fn names_lost(
 // target is then replaced; the used words and the root below the anchor afterwards, and whether the
 // ideal tree is there; and whether some word names the row that was lost.
 #[derive(Clone, Copy, Debug, PartialEq, Eq, Drop)]
-struct Seen {
+struct RootRace {
     rebuilds: (u32, u32, u32),
     raced: Option<Raced>,
     ended: (Option<Ref>, bool),
@@ -156,7 +156,7 @@ fn see_in(
     first: &mut Caller,
     second: &mut Caller,
     image: &[u64],
-) -> Result<Option<Seen>, OpenFault>
+) -> Result<Option<RootRace>, OpenFault>
     requires maker_table { maker.old.view.table ≡ table.now.table }
     requires starter_table { starter.old.token.view.table ≡ table.now.table }
     requires first_table { first.old.token.view.table ≡ table.now.table }
@@ -175,7 +175,7 @@ fn see_in(
     let ended = end(table, starter, rebuild);
     let words = root_in(table, alloc, maker, image)?;
     let names_lost = names_lost(table, alloc, maker, raced)?;
-    Ok(Some(Seen {
+    Ok(Some(RootRace {
         rebuilds: (rebuild, one, two),
         raced,
         ended,
@@ -185,7 +185,7 @@ fn see_in(
 }
 
 // The same in a new table.
-fn see(alloc: Global) -> Result<Option<Seen>, OpenFault> {
+fn see(alloc: Global) -> Result<Option<RootRace>, OpenFault> {
     let Opened {
         table,
         mut maker,
@@ -210,7 +210,7 @@ fn of_two_that_build_a_root_at_once_the_second_loses_its_row(rt: HostRuntime) {
     // Each has a row of its own: the rows of the start end at 29.
     let stands = Ref::Inner { base: 29 };
     let lost = Ref::Inner { base: 36 };
-    let wanted = Seen {
+    let wanted = RootRace {
         rebuilds: (15, 15, 15),
         raced: Some(Raced {
             built: (stands.to_word(), lost.to_word()),

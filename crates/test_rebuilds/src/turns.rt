@@ -24,7 +24,7 @@ const NINE: Pair = Pair { key: 9, value: 1 };
 // whether the ideal tree is there; the help that came too late, with the change row that its caller
 // still holds, and the words used then.
 #[derive(Clone, Copy, Debug, PartialEq, Eq, Drop)]
-struct Seen {
+struct TakenTurns {
     starts: (Result<Started, Full>, Result<Started, Full>),
     held: (Option<u32>, Option<u32>),
     marked: (u32, u32, u64, u64),
@@ -77,7 +77,7 @@ fn see_in(
     starter: &mut Caller,
     helper: &mut Caller,
     image: &[u64],
-) -> Result<Option<Seen>, OpenFault>
+) -> Result<Option<TakenTurns>, OpenFault>
     requires maker_table { maker.old.view.table ≡ table.now.table }
     requires starter_table { starter.old.token.view.table ≡ table.now.table }
     requires starter_ready { IsReady starter.old }
@@ -97,7 +97,7 @@ fn see_in(
         Ok(Started::Yes { rebuild }) => Some(help_on(table, starter, rebuild)),
         _ => None,
     };
-    Ok(Some(Seen {
+    Ok(Some(TakenTurns {
         starts: (start, other),
         held,
         marked,
@@ -108,7 +108,7 @@ fn see_in(
 }
 
 // The same in a new table.
-fn see(alloc: Global) -> Result<Option<Seen>, OpenFault> {
+fn see(alloc: Global) -> Result<Option<TakenTurns>, OpenFault> {
     let Opened {
         table,
         mut maker,
@@ -121,7 +121,7 @@ fn see(alloc: Global) -> Result<Option<Seen>, OpenFault> {
 
 #[test]
 fn a_rebuild_is_ended_by_another_than_who_started_it(rt: HostRuntime) {
-    let wanted = Seen {
+    let wanted = TakenTurns {
         // The other finds the rebuild of the first, and holds its own rows, which lie from 29 on.
         starts: (
             Ok(Started::Yes { rebuild: 15 }),

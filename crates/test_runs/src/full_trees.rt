@@ -36,7 +36,7 @@ fn size(tree: &Closed) -> (u64, u64) {
 
 /// What a test sees of a round and of the shelf after it.
 #[derive(Clone, Copy, Debug, PartialEq, Eq, Drop)]
-struct Seen {
+struct ShelfAfter {
     /// How many trees ran full, and the refusal of the first.
     fulls: (usize, Option<Full>),
     /// How many answers there are, and the last of them.
@@ -56,12 +56,12 @@ fn see(
     shelf: &Kept<Closed>,
     round: &Round,
     pairs: (&[Pair], &[Pair]),
-) -> Result<Seen, AllocError> {
+) -> Result<ShelfAfter, AllocError> {
     let fulls = round.fulls.as_slice();
     let answers = round.answers.as_slice();
     let first = has_pairs(alloc, shelf.get(0), pairs.0)?;
     let last = round.closed.pairs(alloc)?;
-    Ok(Seen {
+    Ok(ShelfAfter {
         fulls: (fulls.len(), fulls.first().copied()),
         answers: (answers.len(), answers.last().copied()),
         first: (shelf.get(0).map(size), first),
@@ -78,7 +78,7 @@ fn see_round<R: Threads + Wait + Sync>(
     pairs: &[Pair],
     tasks: &[Task],
     kept: (&[Pair], &[Pair]),
-) -> Result<Seen, AllocError>
+) -> Result<ShelfAfter, AllocError>
     requires keys { IsStrictlyIncreasing (map (λ pair. pair.key) pairs.now) }
     requires lines { IsStrictlyIncreasing (task_lines tasks.now) }
     requires few { length pairs.now + length tasks.now ≤ 2 ^ 24 }
@@ -94,7 +94,7 @@ fn see_small<R: Threads + Wait + Sync>(
     pairs: &[Pair],
     tasks: &[Task],
     kept: (&[Pair], &[Pair]),
-) -> Result<Seen, AllocError>
+) -> Result<ShelfAfter, AllocError>
     requires keys { IsStrictlyIncreasing (map (λ pair. pair.key) pairs.now) }
     requires lines { IsStrictlyIncreasing (task_lines tasks.now) }
     requires few { length pairs.now + length tasks.now ≤ 2 ^ 24 }
@@ -120,7 +120,7 @@ fn a_fourth_put_finds_no_room_in_64_words(rt: HostRuntime) {
         line: 4,
         reply: None,
     };
-    let wanted = Seen {
+    let wanted = ShelfAfter {
         fulls: (1, Some(full)),
         answers: (4, Some(answer)),
         first: (Some((64, 60)), true),
@@ -158,7 +158,7 @@ fn a_line_that_finds_no_room_is_answered_at_rest(rt: HostRuntime) {
         reply: None,
     };
     // no lane has a line on the last tree: it is as it was opened
-    let wanted = Seen {
+    let wanted = ShelfAfter {
         fulls: (1, Some(full)),
         answers: (1, Some(answer)),
         first: (Some((64, 62)), true),

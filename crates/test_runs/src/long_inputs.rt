@@ -65,10 +65,10 @@ fn answers(alloc: Global) -> Result<Vec<u8>, AllocError> {
 
 /// Of a run, whether it wrote the output, its status, how many trees of its last round ran full, and whether it has a
 /// last tree; and how many trees were given to the shelf.
-type Seen = ((bool, u8, u64, bool), u64);
+type DayRun = ((bool, u8, u64, bool), u64);
 
 // Runs over the readings.
-fn run_day<R: Threads + Wait + Sync>(rt: &R, alloc: Global) -> Result<Seen, AllocError> {
+fn run_day<R: Threads + Wait + Sync>(rt: &R, alloc: Global) -> Result<DayRun, AllocError> {
     let input = readings(alloc)?;
     let mut shelf = Counted { given: 0 };
     let ran = run_over(rt, alloc, &[], &input, &NoGate, &mut shelf)?;

@@ -111,7 +111,7 @@ fn words_and_pairs(
 /// Of a run, whether it wrote the output, and its status; of its first tree, how many words and callers
 /// it has, and whether it has the pairs of its round; whether no further tree is kept; of the last tree,
 /// how many words it has, and whether it has all pairs.
-type Seen = (
+type MetTrees = (
     (bool, u8),
     (Option<u64>, bool),
     Option<u64>,
@@ -120,7 +120,7 @@ type Seen = (
 );
 
 // Returns what a test sees of the trees after the run over the two rounds.
-fn see_trees(alloc: Global, shelf: &Kept<Closed>, ran: &Ran) -> Result<Seen, AllocError> {
+fn see_trees(alloc: Global, shelf: &Kept<Closed>, ran: &Ran) -> Result<MetTrees, AllocError> {
     let pairs = [one(2), one(3), one(4)];
     let first = words_and_pairs(alloc, shelf.get(0), &pairs[..2])?;
     let last = words_and_pairs(alloc, ran.outcome.last.as_ref(), &pairs)?;
@@ -134,7 +134,7 @@ fn see_trees(alloc: Global, shelf: &Kept<Closed>, ran: &Ran) -> Result<Seen, All
 }
 
 // Runs over the two rounds by two workers.
-fn keep_trees<R: Threads + Wait + Sync>(rt: &R, alloc: Global) -> Result<Seen, AllocError> {
+fn keep_trees<R: Threads + Wait + Sync>(rt: &R, alloc: Global) -> Result<MetTrees, AllocError> {
     let more = ["--workers", "2"];
     let mut shelf = Kept::new();
     let ran = run_over(rt, alloc, &more, INPUT, &NoGate, &mut shelf)?;

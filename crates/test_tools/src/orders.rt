@@ -19,15 +19,15 @@ type Following = Vec<Vec<usize>>;
 
 // What a thread has seen of a key: the last value, and whether it has been gone since.
 #[derive(Clone, Copy, Drop)]
-struct Seen {
+struct KeySeen {
     key: u64,
     last: Option<Place>,
     gone: bool,
 }
 
-impl Seen {
-    fn nothing_of(key: u64) -> Seen {
-        Seen {
+impl KeySeen {
+    fn nothing_of(key: u64) -> KeySeen {
+        KeySeen {
             key,
             last: None,
             gone: false,
@@ -123,11 +123,11 @@ fn judge_thread(
 ) -> Result<(), Misfit> {
     let mut told = told.to_vec(alloc)?;
     told.sort_by_key(|one| one.asked.key())?;
-    let mut seen = Seen::nothing_of(0);
+    let mut seen = KeySeen::nothing_of(0);
     for one in told.iter() {
         let key = one.asked.key();
         if key != seen.key {
-            seen = Seen::nothing_of(key);
+            seen = KeySeen::nothing_of(key);
         }
         seen.hear(chains, *one, following)?;
     }

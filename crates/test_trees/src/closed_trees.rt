@@ -40,19 +40,19 @@ fn first_other(closed: &Closed, words: &[u64]) -> Option<usize> {
 
 // How many words a closed table uses, how many it has, whether it is settled, and the first of these words that it
 // doesn't have.
-type Seen = (u64, u64, bool, Option<usize>);
+type ClosedShape = (u64, u64, bool, Option<usize>);
 
-fn see(closed: &Closed, words: &[u64]) -> Seen {
+fn see(closed: &Closed, words: &[u64]) -> ClosedShape {
     let other = first_other(closed, words);
     (closed.used(), closed.word_count(), closed.settled(), other)
 }
 
-fn see_one(alloc: Global) -> Result<Seen, OpenFault> {
+fn see_one(alloc: Global) -> Result<ClosedShape, OpenFault> {
     let words = [6, 0, 0, 33, 5, 7, 0, 0, 0, 0, 0, 0, 0, 0, 0, 0];
     Ok(see(&one_closed(alloc)?, &words))
 }
 
-fn see_two(alloc: Global) -> Result<Seen, OpenFault> {
+fn see_two(alloc: Global) -> Result<ClosedShape, OpenFault> {
     let words = [
         15, 0, 0, 34, 0, 0, 2, 2, 9, 89, 105, 5, 7, 9, 1, 0, 0, 0, 0, 0,
     ];

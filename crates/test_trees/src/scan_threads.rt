@@ -16,7 +16,7 @@ const KEYS: u64 = 300;
 
 // What a thread saw: how many shots it took, and how many of them weren't one moment of the writers.
 #[derive(Drop)]
-struct Seen {
+struct ShotCounts {
     taken: u64,
     others: u64,
 }
@@ -75,11 +75,11 @@ fn look(alloc: Global, tree: &Tree, pass: &mut Pass) -> Result<bool, AllocError>
 }
 
 // Takes so many shots.
-fn scan(alloc: Global, tree: &Tree, pass: Pass) -> Result<Seen, AllocError>
+fn scan(alloc: Global, tree: &Tree, pass: Pass) -> Result<ShotCounts, AllocError>
     requires same_tree { pass.tree ≡ tree.now }
 {
     let mut pass = pass;
-    let mut seen = Seen {
+    let mut seen = ShotCounts {
         taken: 0,
         others: 0,
     };
@@ -93,7 +93,7 @@ fn scan(alloc: Global, tree: &Tree, pass: Pass) -> Result<Seen, AllocError>
     Ok(seen)
 }
 
-// Two threads write, and two scan. Whether each write was answered, and what each scanner saw, as `Seen` has it.
+// Two threads write, and two scan. Whether each write was answered, and what each scanner saw, as `ShotCounts` has it.
 fn write_and_scan<R: Threads + Sync>(
     rt: &R,
     alloc: Global,
@@ -130,7 +130,7 @@ fn write_beside<R: Threads + Sync>(
     writer: Pass,
     start: u64,
     scanner: Pass,
-) -> (bool, Result<Seen, AllocError>)
+) -> (bool, Result<ShotCounts, AllocError>)
     requires writer { writer.tree ≡ tree.now }
     requires scanner { scanner.tree ≡ tree.now }
     requires low { start ≤ 1 }

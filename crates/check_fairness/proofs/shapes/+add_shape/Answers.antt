@@ -1,5 +1,6 @@
 use Rattle.std.proofs.Common.{◌∙◌, ◌++◌, ap, sym, append-nil, arith}
-use Rattle.check_fairness.proofs.BuildLemmas.{shape_few, shape_step, shape_whole}
+use Rattle.ist_core.proofs.ShapeLemmas.{shape_few}
+use Rattle.check_fairness.proofs.BuildLemmas.{shape_step, shape_whole}
 use Rattle.check_fairness.proofs.shapes.+add_shape.Goals as goal
 
 pub returns-then-n-lt2 : goal.returns-then-n-lt2

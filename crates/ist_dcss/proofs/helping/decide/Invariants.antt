@@ -1,4 +1,4 @@
-use Rattle.ist_dcss.specs.Naming.{deciding}
+use Rattle.ist_dcss.specs.HelpEvents.{deciding}
 use Rattle.ist_dcss.proofs.helping.decide.Given as goal
 
 -- the event is the Decide of the change at this base

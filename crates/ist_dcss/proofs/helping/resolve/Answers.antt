@@ -7,7 +7,7 @@ use Rattle.ist_rule.specs.Learning.{Exchanged}
 use Rattle.ist_rule.proofs.KnownPlaceLemmas.{known_low}
 use Rattle.ist_rule.specs.Going.{WentOn}
 use Rattle.ist_dcss.specs.Helping.{Serves, is_yes, IsOut}
-use Rattle.ist_dcss.specs.Naming.{IsField}
+use Rattle.ist_dcss.specs.HelpEvents.{IsField}
 use Rattle.ist_rule.proofs.WentOnLemmas.{went_more}
 use Rattle.ist_rule.proofs.KeptSearchLemmas.{keeps_more, exchanged_keeps}
 use Rattle.ist_dcss.proofs.FieldLemmas.{good_base}

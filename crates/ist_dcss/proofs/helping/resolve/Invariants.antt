@@ -1,6 +1,6 @@
 use Rattle.std.specs.Prelude.{◌/◌}
 use Rattle.ist_core.specs.References.{tag_count}
-use Rattle.ist_dcss.specs.Naming.{resolving}
+use Rattle.ist_dcss.specs.HelpEvents.{resolving}
 use Rattle.ist_dcss.proofs.helping.resolve.Given as goal
 
 -- the event is the Resolve of the change whose word is expected

@@ -1,6 +1,6 @@
 use Rattle.std.specs.Prelude.{◌/◌}
 use Rattle.ist_core.specs.References.{tag_count}
-use Rattle.ist_dcss.specs.Naming.{installing}
+use Rattle.ist_dcss.specs.HelpEvents.{installing}
 use Rattle.ist_dcss.proofs.installing.install.Given as goal
 
 -- it aims with the same filling

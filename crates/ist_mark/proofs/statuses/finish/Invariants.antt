@@ -1,4 +1,4 @@
-use Rattle.ist_mark.specs.Naming.{finishing}
+use Rattle.ist_mark.specs.MarkEvents.{finishing}
 use Rattle.ist_mark.proofs.statuses.finish.Given as goal
 
 -- the event is the Finish of the node whose status lies there, with the number of the new word

@@ -1,4 +1,4 @@
-use Rattle.ist_mark.specs.Naming.{marking}
+use Rattle.ist_mark.specs.MarkEvents.{marking}
 use Rattle.ist_mark.proofs.statuses.mark_open.Given as goal
 
 -- the event is the Mark of the node whose status lies there

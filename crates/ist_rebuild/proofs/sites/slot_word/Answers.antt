@@ -1,7 +1,7 @@
 use Rattle.std.proofs.Common.{ap, arith, subst, sym, ◌∙◌}
 use Rattle.ist_rule.specs.declared.view.View.{View}
 use Rattle.ist_rule.proofs.GoingOnLemmas.{goes_on_more, looked_goes_on}
-use Rattle.ist_dcss.specs.Naming.{IsSlot}
+use Rattle.ist_dcss.specs.HelpEvents.{IsSlot}
 use Rattle.ist_rebuild.proofs.SiteLemmas.{parent_slot}
 use Rattle.ist_rebuild.proofs.SlotLemmas.{plan_slot_low, plan_slot_off, plan_slot_told}
 use Rattle.ist_rebuild.proofs.sites.slot_word.Goals as goal
