@@ -1,10 +1,9 @@
 //! A pass with the tree that it calls, and a note with its tree.
-ghost use Rattle.std.specs.Prelude.{◌≡◌, IfOk, IfErr, OnErr};
+ghost use Rattle.std.specs.Prelude.{◌≡◌, IfOk, IfErr};
 ghost use Rattle.std.specs.Arc.{arc_value};
 ghost use Rattle.ist_updates.specs.Asking.{command_for};
-ghost use Rattle.ist_tree.specs.Calls.{HasSeenMore, AddsCall};
 ghost use Rattle.ist_tree.specs.Faces.{noted};
-ghost use Rattle.ist_tree.specs.Refusals.{IsRefused};
+ghost use Rattle.ist_tree.specs.Updates.{HasUpdated, HasWorked, IsTurnedAway};
 
 use crate::trees::NumberedTree;
 use ist_core::{Full, Reply};
@@ -33,11 +32,10 @@ impl TreePass {
     /// key had.
     pub fn update(&mut self, key: u64, value: Option<u64>) -> Result<Reply, Full>
         ensures tree { arc_value self.new.tree ≡ arc_value self.old.tree }
-        ensures seen { HasSeenMore self.old.pass self.new.pass }
-        ensures added { IfOk result (λ reply.
-            AddsCall self.old.pass self.new.pass (command_for key value) reply) }
-        ensures full { IfErr result (λ full. IsRefused self.old.pass self.new.pass key value full) }
-        ensures calls { OnErr result (self.new.pass.calls ≡ self.old.pass.calls) }
+        ensures worked { HasWorked self.old.pass self.new.pass }
+        ensures updated { IfOk result
+            (HasUpdated self.old.pass self.new.pass (command_for key value)) }
+        ensures turned_away { IfErr result (IsTurnedAway self.old.pass self.new.pass key value) }
     {
         match value {
             Some(value) => self.tree.tree.put(&mut self.pass, key, value),

@@ -7,15 +7,16 @@ use Rattle.ist_core.specs.Logs.{Log, GoesOn, same_log}
 use Rattle.ist_core.proofs.PrefixLemmas.{goes_on_more}
 use Rattle.ist_tree.specs.Calls.{HasSeenMore}
 use Rattle.ist_tree.specs.Faces.{TreeFace, PassFace}
-use Rattle.ist_tree.specs.Refusals.{IsRefused, KeepsRowRefusal}
+use Rattle.ist_tree.specs.Refusals.{KeepsRowRefusal}
+use Rattle.ist_tree.specs.Updates.{IsTurnedAway}
 use Rattle.ist_map.specs.Refusing.{IsRefusedTo, to_update, to_rebuild, WasRefusedSince, IsRefusalOn}
 
 -- ---- one call
 
 -- a refused update was refused to the pass
 pub update_refused : {A : Type 0} (p q : PassFace) (key : ℕ) (value : Option ℕ) (r : Result A Full)
-    → IfErr r (λ full. IsRefused p q key value full) → IfErr r (IsRefusedTo p q)
-update_refused p q key value r = IfErr-weaker r _ _ (λ full refused. to_update refused)
+    → IfErr r (IsTurnedAway p q key value) → IfErr r (IsRefusedTo p q)
+update_refused p q key value r = IfErr-weaker r _ _ (λ full away. to_update away.cause)
 
 -- so was a rebuild that the pass keeps the refusal of, if it kept none before
 pub rebuild_refused : (p q : PassFace) → KeepsRowRefusal p q → (full : Full)

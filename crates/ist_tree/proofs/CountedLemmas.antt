@@ -1,5 +1,5 @@
 -- What a caller counted in a log, by what it counted in the parts of it. Serves `apply_in_call` and
--- `update_if`.
+-- `run_rounds`.
 use Rattle.std.proofs.Common.{◌≡◌, ◌≢◌, ℕ, ◌⊎◌, [], ◌∷◌, Option, refl, sym, subst, inl, inr, ⊎_elim}
 use Rattle.ist_core.specs.declared.commands.Command.{Command}
 use Rattle.ist_core.specs.declared.events.Event.TheVariants.{Count}

@@ -1,5 +1,5 @@
 -- A lawful log has few changes of the map, and a value that a key had and has no longer is one more
--- of them. Serves `update_if`.
+-- of them. Serves `run_rounds`.
 use Rattle.std.proofs.Common.{◌≡◌, ◌≢◌, ◌⊎◌, ◌-◌, ℕ, ◌<◌, ◌≤◌, zero, suc, List, [], ◌∷◌, length, slice_get, Option, Some, refl, sym, ap, ◌∙◌, subst, ⊎_elim, arith}
 use Rattle.std.specs.FinMap as fin
 use Rattle.ist_core.specs.declared.pairs.Pair.{Pair}

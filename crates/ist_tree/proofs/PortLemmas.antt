@@ -13,6 +13,7 @@ use Rattle.ist_tree.proofs.HeardLemmas.{seen_more_then, seen_same}
 use Rattle.ist_tree.specs.Calls.{HasSeenMore}
 use Rattle.ist_tree.specs.Faces.{PassFace, TreeFace}
 use Rattle.ist_tree.specs.Insides.{IsPort}
+use Rattle.ist_tree.specs.Updates.{IsTurnedAway}
 use Rattle.ist_tree.specs.Refusals.{IsAskedIn, IsForNode, IsRefused, IsRefusedCall, LeavesTooFew, MayBeAsked, PassWasRefused, for_leaf, for_pair, for_put, for_rebuild, for_remove}
 use Rattle.ist_tree.proofs.AskedLemmas.{puts_rise}
 
@@ -102,17 +103,16 @@ port_more tree p q said m i =
 -- a result that is such a refusal
 pub answer_refused : {A : Type 0} (answer : Result A Full) (p q : PassFace) (key : ℕ)
     (value : Option ℕ) (command : Command) → HasSeenMore p q → ((k : ℕ) → command ≢ Get k)
-    → command ≡ command_for key value → IfErr answer (λ full. IsRefused p q key value full)
+    → command ≡ command_for key value → IfErr answer (IsTurnedAway p q key value)
     → IfErr answer (λ full. PassWasRefused q (refusal command full))
 answer_refused (Ok a) p q key value command m update is r = tt
 answer_refused (Err full) p q key value command m update is r =
-    refused_now p q key value command full m update is r
+    refused_now p q key value command full m update is r.cause
 
 -- a refusal of the call with this command
 pub answer_cause : {A : Type 0} (answer : Result A Full) (p q : PassFace) (key : ℕ)
     (value : Option ℕ) (command : Command) → command ≡ command_for key value
-    → IfErr answer (λ full. IsRefused p q key value full)
-    → IfErr answer (IsRefusedCall p q command)
+    → IfErr answer (IsTurnedAway p q key value) → IfErr answer (IsRefusedCall p q command)
 answer_cause (Ok a) p q key value command is r = tt
 answer_cause (Err full) p q key value command is r =
-    record { key = key; value = value; command_is = is; cause = r }
+    record { key = key; value = value; command_is = is; cause = r.cause }

@@ -1,5 +1,5 @@
 -- A pass that has let calls go: what its next call does holds since the beginning too. Serves
--- `update_if`.
+-- `run_rounds`.
 use Rattle.std.proofs.Common.{◌≡◌, ℕ, ◌∷◌, Option, sym, ap, ◌∙◌, subst, refl, ⊎_elim}
 use Rattle.std.proofs.Math.Nat.{le_trans}
 use Rattle.ist_core.specs.declared.commands.Command.{Command}

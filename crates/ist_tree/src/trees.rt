@@ -1,24 +1,22 @@
 //! The tree and its calls.
-ghost use Rattle.std.specs.Prelude.{◌≡◌, ◌+◌, ◌^◌, ◌<◌, ◌≤◌, true, [], length, map};
-ghost use Rattle.std.specs.Prelude.{Some, None, IfSome, IfOk, IfErr, OnOk, OnErr};
+ghost use Rattle.std.specs.Prelude.{◌≡◌, ◌+◌, ◌^◌, ◌<◌, ◌≤◌, length, map};
+ghost use Rattle.std.specs.Prelude.{Some, None, IfSome, IfOk, IfErr, OnOk};
 ghost use Rattle.std.specs.List.Sorted.{IsStrictlyIncreasing};
 ghost use Rattle.ist_core.specs.RowLayout.{place_limit};
 ghost use Rattle.ist_core.specs.declared.commands.Command.TheVariants.{Get, Put, Remove};
 ghost use Rattle.ist_core.specs.Enabled.{caller_limit};
 ghost use Rattle.ist_core.specs.Images.{IsImage};
 ghost use Rattle.ist_core.specs.Logs.{GoesOn};
-ghost use Rattle.ist_core.specs.Standing.{makes_entry};
 ghost use Rattle.ist_core.specs.StartLayout.{start};
 ghost use Rattle.laws_histories.specs.Searching.{HasPosition};
 ghost use Rattle.ist_find.specs.Spans.{pair_value, EndAtEdges};
-ghost use Rattle.ist_tree.specs.Faces.{fresh_pass, with_back, HasItsCalls};
-ghost use Rattle.ist_tree.specs.Calls.{HasSeenMore, MakerHasLearnt, MakerHasSeenMore, AddsCall, BeginsFewWalks, HasLoadedFew};
+ghost use Rattle.ist_tree.specs.Faces.{fresh_pass, with_back};
+ghost use Rattle.ist_tree.specs.Calls.{HasSeenMore, MakerHasLearnt, MakerHasSeenMore, AddsCall, HasLoadedFew};
 ghost use Rattle.ist_tree.specs.Closing.{ClosesWith};
-ghost use Rattle.ist_tree.specs.DueRows.{CountsNowhere, FinishesUpdate, HasCountedInCall, LeavesNoneDue, StartsOnlyDue};
 ghost use Rattle.ist_tree.specs.Opening.{IsNewTree, IsFaultOf};
 ghost use Rattle.ist_tree.specs.RealTime.{ReturnsInTime, ClosesInTime};
-ghost use Rattle.ist_tree.specs.Refusals.{HasStartsDone, IsRefused, KeepsRowRefusal};
 ghost use Rattle.ist_tree.specs.Spans.{AllHave, HasLoadedFewOver, state_seen};
+ghost use Rattle.ist_tree.specs.Updates.{HasUpdated, HasWorked, IsTurnedAway};
 
 use crate::faults::OpenFault;
 use crate::finding::begin_find;
@@ -198,22 +196,11 @@ impl Tree {
     /// words, the call returns its reply, and the pass keeps the first such refusal.
     pub fn put(&self, pass: &mut Pass, key: u64, value: u64) -> Result<Reply, Full>
         requires same_tree { pass.old.tree ≡ self.now }
-        ensures seen { HasSeenMore pass.old pass.new }
-        ensures added { IfOk result (λ reply. AddsCall pass.old pass.new (Put key value) reply) }
+        ensures worked { HasWorked pass.old pass.new }
         ensures timed { IfOk result (λ reply.
             ReturnsInTime pass.old pass.new (Put key value) reply) }
-        ensures counted { OnOk result (HasCountedInCall pass.old pass.new (Put key value)) }
-        ensures due { OnOk result (LeavesNoneDue pass.old pass.new) }
-        ensures starts { StartsOnlyDue pass.old pass.new }
-        ensures few_walks { BeginsFewWalks pass.old pass.new }
-        ensures full { IfErr result (λ full. IsRefused pass.old pass.new key (Some value) full) }
-        ensures calls { OnErr result (pass.new.calls ≡ pass.old.calls) }
-        ensures placed { OnErr result (HasItsCalls pass.new) }
-        ensures uncounted { OnErr result (CountsNowhere pass.old pass.new) }
-        ensures unrefused { OnErr result (pass.new.refused ≡ pass.old.refused) }
-        ensures refused { KeepsRowRefusal pass.old pass.new }
-        ensures finished { FinishesUpdate pass.old pass.new }
-        ensures done { HasStartsDone pass.new }
+        ensures updated { IfOk result (HasUpdated pass.old pass.new (Put key value)) }
+        ensures turned_away { IfErr result (IsTurnedAway pass.old pass.new key (Some value)) }
     {
         let value = Some(value);
         let when = When::Always;
@@ -227,23 +214,11 @@ impl Tree {
     /// `put`. If the key has no value, nothing is changed or counted.
     pub fn remove(&self, pass: &mut Pass, key: u64) -> Result<Reply, Full>
         requires same_tree { pass.old.tree ≡ self.now }
-        ensures seen { HasSeenMore pass.old pass.new }
-        ensures added { IfOk result (λ reply. AddsCall pass.old pass.new (Remove key) reply) }
+        ensures worked { HasWorked pass.old pass.new }
         ensures timed { IfOk result (λ reply.
             ReturnsInTime pass.old pass.new (Remove key) reply) }
-        ensures counted { IfOk result (λ reply. makes_entry (Remove key) reply ≡ true
-            → HasCountedInCall pass.old pass.new (Remove key)) }
-        ensures due { OnOk result (LeavesNoneDue pass.old pass.new) }
-        ensures starts { StartsOnlyDue pass.old pass.new }
-        ensures few_walks { BeginsFewWalks pass.old pass.new }
-        ensures full { IfErr result (λ full. IsRefused pass.old pass.new key None full) }
-        ensures calls { OnErr result (pass.new.calls ≡ pass.old.calls) }
-        ensures placed { OnErr result (HasItsCalls pass.new) }
-        ensures uncounted { OnErr result (CountsNowhere pass.old pass.new) }
-        ensures unrefused { OnErr result (pass.new.refused ≡ pass.old.refused) }
-        ensures refused { KeepsRowRefusal pass.old pass.new }
-        ensures finished { FinishesUpdate pass.old pass.new }
-        ensures done { HasStartsDone pass.new }
+        ensures updated { IfOk result (HasUpdated pass.old pass.new (Remove key)) }
+        ensures turned_away { IfErr result (IsTurnedAway pass.old pass.new key None) }
     {
         let value = None;
         let when = When::Always;

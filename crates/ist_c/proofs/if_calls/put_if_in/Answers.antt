@@ -10,7 +10,7 @@ returns-in-Ok c =
     record {
       updates = updated_if c.args.held.now c.in-Pass.pass _ c.args.key c.args.expected
           (Some c.args.value) c.put_if.result c.in-Ok.reply c.replied.result c.args.short.now
-          c.in-Pass.is c.in-Ok.is refl e.seen e.put e.got c.replied.ensures.status
+          c.in-Pass.is c.in-Ok.is refl e.run.seen e.answered c.replied.ensures.status
           c.replied.ensures.reply;
     }
 
@@ -20,7 +20,7 @@ returns-in-Err c =
     record {
       updates = was_refused_if c.args.held.now c.in-Pass.pass _ c.args.key
           c.args.expected (Some c.args.value) c.put_if.result c.in-Err.numbers c.refused.result
-          c.args.short.now c.refused.new.shortage c.in-Pass.is c.in-Err.is refl e.seen e.full e.calls
+          c.args.short.now c.refused.new.shortage c.in-Pass.is c.in-Err.is refl e.run.seen e.turned_away
           c.refused.ensures.status c.refused.ensures.numbers;
     }
 

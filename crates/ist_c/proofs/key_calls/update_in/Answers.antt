@@ -9,7 +9,7 @@ returns-in-Ok c =
     record {
       updates = updated c.args.held.now c.in-Pass.pass c.update.new.self c.args.key c.args.value
           c.update.result c.in-Ok.reply c.replied.result c.args.short.now c.in-Pass.is c.in-Ok.is
-          e.tree e.seen e.added c.replied.ensures.status c.replied.ensures.reply;
+          e.tree e.worked.seen e.updated c.replied.ensures.status c.replied.ensures.reply;
     }
 
 pub returns-in-Err : goal.returns-in-Err
@@ -18,7 +18,7 @@ returns-in-Err c =
     record {
       updates = was_refused c.args.held.now c.in-Pass.pass c.update.new.self c.args.key c.args.value
           c.update.result c.in-Err.numbers c.refused.result c.args.short.now c.refused.new.shortage
-          c.in-Pass.is c.in-Err.is e.tree e.seen e.full e.calls c.refused.ensures.status
+          c.in-Pass.is c.in-Err.is e.tree e.worked.seen e.turned_away c.refused.ensures.status
           c.refused.ensures.numbers;
     }
 

@@ -5,10 +5,10 @@ use Rattle.test_trees.proofs.shots.remove_beside.Goals as goal
 pub returns-clause-frozen : goal.returns-clause-frozen
 returns-clause-frozen c =
     let pass = c.args.pass.now in
-    let seen = c.remove-reply.ensures.seen in
+    let seen = c.remove-reply.ensures.worked.seen in
     let on : GoesOnWell pass c.remove-reply.new.pass
     = record { tree = seen.tree; seen = seen.seen; lawful = c.know.ensures.lawful } in
     frozen_on pass c.remove-reply.new.pass on c.args.shot.now c.requires.frozen
 
 pub returns-clause-same_tree : goal.returns-clause-same_tree
-returns-clause-same_tree c = c.remove-reply.ensures.seen.tree ∙ c.requires.same_tree
+returns-clause-same_tree c = c.remove-reply.ensures.worked.seen.tree ∙ c.requires.same_tree

@@ -9,10 +9,10 @@ loop-init c = got_more _ _ _ _ _ (got_none _ _) c.find-counter.ensures.seen c.fi
 
 -- a try that found another number
 pub loop-preserved : goal.loop-preserved
-loop-preserved c = got_more _ _ _ _ _ c.loop.invariant c.put_if.ensures.seen
-    (c.in_ok-had.ensures.got (search rules))
+loop-preserved c = got_more _ _ _ _ _ c.loop.invariant c.put_if.ensures.run.seen
+    (c.in_ok-had.ensures.answered.got (search rules))
 
 -- a try that was refused made no call
 pub returns-in_err-had-clause-full : goal.returns-in_err-had-clause-full
 returns-in_err-had-clause-full c = on_err _ _
-    (got_still _ _ _ _ c.loop.invariant c.put_if.ensures.seen c.in_err-had.ensures.calls)
+    (got_still _ _ _ _ c.loop.invariant c.put_if.ensures.run.seen c.in_err-had.ensures.turned_away.calls)

@@ -1,22 +1,16 @@
 use Rattle.std.proofs.Common.{refl, subst, sym}
 use Rattle.ist_core.specs.declared.commands.Command.TheVariants.{Put}
-use Rattle.ist_tree.specs.Calls.{AddsCall}
 use Rattle.ist_tree.specs.RealTime.{ReturnsInTime}
+use Rattle.ist_tree.specs.Updates.{HasUpdated}
 use Rattle.ist_tree.proofs.trees.Tree.put.Goals as goal
 
 -- an update that should take effect at any value did
-pub returns-in-Ok-clause-added : goal.returns-in-Ok-clause-added
-returns-in-Ok-clause-added c =
-    subst (AddsCall c.args.pass.now c.apply_in_call.new.pass (Put c.args.key c.args.value)) (sym c.reply.ensures.value)
-    (c.in-Ok.ensures.always refl).added
+pub returns-in-Ok-clause-updated : goal.returns-in-Ok-clause-updated
+returns-in-Ok-clause-updated c =
+    subst (HasUpdated c.args.pass.now c.apply_in_call.new.pass (Put c.args.key c.args.value)) (sym c.reply.ensures.value)
+    (c.in-Ok.ensures.always refl)
 
 pub returns-in-Ok-clause-timed : goal.returns-in-Ok-clause-timed
 returns-in-Ok-clause-timed c =
     subst (ReturnsInTime c.args.pass.now c.apply_in_call.new.pass (Put c.args.key c.args.value))
     (sym c.reply.ensures.value) (c.in-Ok.ensures.always refl).timed
-
-pub returns-in-Ok-clause-counted : goal.returns-in-Ok-clause-counted
-returns-in-Ok-clause-counted c = (c.in-Ok.ensures.always refl).counted refl
-
-pub returns-in-Ok-clause-due : goal.returns-in-Ok-clause-due
-returns-in-Ok-clause-due c = (c.in-Ok.ensures.always refl).due
