@@ -1,6 +1,6 @@
 -- What the calls of this crate return, in terms of references and of the one relation between a
 -- caller's views. Serves `calls`.
-use Rattle.std.proofs.Common.{le_refl, ◌≡◌, ◌≢◌, ℕ, zero, suc, List, [], ◌∷◌, map, take, drop, Option, None, Some, refl, ap, sym, ◌∙◌}
+use Rattle.std.proofs.Common.{◌≡◌, ◌≢◌, ℕ, zero, suc, List, [], ◌∷◌, map, take, drop, Option, None, Some, refl, ap, sym, ◌∙◌}
 use Rattle.ist_core.specs.declared.ports.Full.{Full}
 use Rattle.ist_core.specs.Leaves.{PlacedLeaf, HasLeaves}
 use Rattle.ist_core.specs.Pieces.{Rebuild}
@@ -12,12 +12,13 @@ use Rattle.ist_rule.specs.declared.view.View.{View}
 use Rattle.ist_rule.specs.Going.{WentOn}
 use Rattle.ist_rule.specs.Rule.{IsSound}
 use Rattle.ist_rule.specs.Learning.{now}
-use Rattle.ist_build.specs.Laying.{BuiltOn, IsLaid, IsShort}
-use Rattle.ist_build.specs.Calls.{Builds, MayBuild, IsOutOfWords, RebuildIsShort, IsLeafAmong}
+use Rattle.ist_rows.specs.Shortage.{RanShort}
+use Rattle.ist_build.specs.Laying.{BuiltOn, IsForNode, IsLaid, IsShort}
+use Rattle.ist_build.specs.Calls.{Builds, MayBuild, RebuildIsShort, IsLeafAmong}
 use Rattle.ist_build.specs.Putting.{PutOn, HasRoot, IsStopped}
 use Rattle.ist_build.proofs.LaidOnLemmas.{laid_went}
 use Rattle.ist_build.proofs.PutOnLemmas.{built_put}
-use Rattle.ist_build.proofs.ShortLemmas.{short_for_more}
+use Rattle.ist_rows.proofs.ShortLemmas.{short_from}
 
 -- ---- leaves
 
@@ -53,23 +54,15 @@ put_went v w b = laid_went Builds v w b
 
 -- a build that was refused
 pub short_out : (v w : View) (words keys : ℕ) (full : Full) → IsShort v words keys full w
-    → IsOutOfWords v words keys full w
+    → RanShort (WentOn Builds) (IsForNode keys) v words full w
 short_out v w words keys full h =
-    short_for_more BuiltOn (WentOn Builds) v v (λ x. built_went v x) words keys keys full w
-    (le_refl keys)
-    h
+    short_from BuiltOn (WentOn Builds) v v (λ x. built_went v x) words full w h (λ node. node)
 
 -- a call that was stopped is short of words for the rebuild
 pub stopped_out : (v w : View) (rebuild words : ℕ) (full : Full)
     → IsStopped v rebuild words full w → RebuildIsShort v rebuild words full w
 stopped_out v w rebuild words full h =
-    record {
-      k = h.k;
-      told = h.told;
-      out = short_for_more PutOn (WentOn Builds) v v (λ x. put_went v x) words h.k h.k full w
-          (le_refl h.k)
-          h.out;
-    }
+    short_from PutOn (WentOn Builds) v v (λ x. put_went v x) words full w h (λ build. build)
 
 -- ---- words that name something
 

@@ -1,5 +1,5 @@
 -- What a build requires and returns, from what it has built. Serves `build`.
-use Rattle.std.proofs.Common.{◌≡◌, ◌≢◌, ℕ, ◌+◌, ◌-◌, ◌<◌, ◌≤◌, ◌==◌, true, false, List, [], ◌∷◌, ◌++◌, length, take, drop, Some, slice_index_or, refl, sym, ap, ap₂, ◌∙◌, subst, append-nil, append_assoc, arith}
+use Rattle.std.proofs.Common.{le_refl, ◌≡◌, ◌≢◌, ℕ, ◌+◌, ◌-◌, ◌<◌, ◌≤◌, ◌==◌, true, false, List, [], ◌∷◌, ◌++◌, length, take, drop, Some, slice_index_or, refl, sym, ap, ap₂, ◌∙◌, subst, append-nil, append_assoc, arith}
 use Rattle.std.proofs.lemmas.Bool.Decides.{nat_tests}
 use Rattle.std.proofs.lemmas.List.{length-map}
 use Rattle.std.specs.List.{flat_map}
@@ -22,7 +22,6 @@ use Rattle.laws_calls.proofs.PartLemmas.{parts_all, lens_all}
 use Rattle.ist_rule.specs.declared.view.View.{View}
 use Rattle.ist_rule.specs.Rule.{IsSound}
 use Rattle.ist_rule.specs.Learning.{now, GoesOnTo}
-use Rattle.ist_rule.proofs.GoingOnLemmas.{goes_on_more, looked_goes_on}
 use Rattle.ist_dcss.proofs.FieldLemmas.{good_base}
 use Rattle.ist_rows.specs.declared.callers.Caller.{Caller}
 use Rattle.ist_rows.specs.Rows.{IsCaller, IsFull, spares_of}
@@ -33,7 +32,7 @@ use Rattle.ist_build.proofs.BuiltLemmas.{built_more, loads_built}
 use Rattle.ist_build.proofs.JoinedSubtreeLemmas.{laid_top}
 use Rattle.ist_build.proofs.PartLeafLemmas.{part_placed, length-share_of}
 use Rattle.ist_build.proofs.PartsLemmas.{lens_first, lens_last, sizes_left}
-use Rattle.ist_rows.proofs.ShortLemmas.{short_from}
+use Rattle.ist_rows.proofs.ShortLemmas.{short_from, short_goes_on}
 use Rattle.ist_build.proofs.ShortLemmas.{short_for_more}
 
 -- ---- few leaves
@@ -87,19 +86,14 @@ next_row who n d two same h =
 pub row_short : (v : View) (words n d : ℕ) (full : Full) (w : View) → 2 ≤ n → d ≡ degree n
     → IsFull v words (inner_words d) full w → IsShort v words n full w
 row_short v words n d full w two same f =
-    record {
-      short = short_from GoesOnTo BuiltOn v v (λ x. loads_built v x) words full w f.short;
-      some = n;
-      several = two;
-      few = omega arith;
-      asked = f.asked ∙ ap inner_words same;
-    }
+    short_from GoesOnTo BuiltOn v v (λ x. loads_built v x) words full w f
+    (λ is. record { some = n; least = two; most = le_refl n; asked_is = is ∙ ap inner_words same })
 
 -- a refused reservation only made loads, and so built on
 pub full_built : (v : View) (words size : ℕ) (full : Full) (w : View) → IsFull v words size full w
     → BuiltOn v w
 full_built v words size full w f =
-    loads_built v w (goes_on_more _ _ _ f.short.seen (looked_goes_on _ _ _ _ f.short.looked))
+    loads_built v w (short_goes_on v words full w f)
 
 -- so no row of the build is there, and the caller is where it was
 pub row_refused : (old new : Caller) (words n d : ℕ) (full : Full) → 2 ≤ n → d ≡ degree n

@@ -1,5 +1,5 @@
 -- A root whose slots are all set is filled. Serves `filling`.
-use Rattle.std.proofs.Common.{le_refl, ◌≡◌, ◌≢◌, ℕ, ◌+◌, ◌/◌, ◌^◌, ◌<◌, ◌≤◌, slice_get, Some, None, refl, sym, ap, ◌∙◌, subst, arith}
+use Rattle.std.proofs.Common.{◌≡◌, ◌≢◌, ℕ, ◌+◌, ◌/◌, ◌^◌, ◌<◌, ◌≤◌, slice_get, Some, None, refl, sym, ap, ◌∙◌, subst, arith}
 use Rattle.ist_core.specs.declared.ports.Full.{Full}
 use Rattle.ist_core.specs.declared.states.InnerRow.{InnerRow}
 use Rattle.ist_core.specs.Arithmetic.{degree}
@@ -28,12 +28,12 @@ use Rattle.ist_dcss.proofs.FieldLemmas.{looked_row}
 use Rattle.ist_dcss.proofs.SlotPlaceLemmas.{has_degree}
 use Rattle.laws_calls.specs.Rooting.{HasRootForm, IsWholeRow}
 use Rattle.laws_calls.proofs.RootFormLemmas.{root_has_form}
-use Rattle.ist_build.specs.Calls.{IsTold, IsRooted, IsBuiltOut}
+use Rattle.ist_build.specs.Calls.{IsForBuild, IsTold, IsRooted, IsBuiltOut}
 use Rattle.ist_build.specs.Putting.{PutOn, IsShared, IsSlotSet, IsStopped}
 use Rattle.ist_build.proofs.BuiltLemmas.{built_grow, loads_built}
 use Rattle.ist_build.proofs.PutOnLemmas.{put_grow, put_more}
 use Rattle.ist_build.proofs.RootReadyLemmas.{told_on, told_target}
-use Rattle.ist_build.proofs.ShortLemmas.{short_for_more}
+use Rattle.ist_rows.proofs.ShortLemmas.{short_from}
 
 -- a root stays
 pub rooted_on : (t u : Snapshot) → AllGrow t.pieces u.pieces → (rebuild : ℕ) → IsRooted t rebuild
@@ -172,14 +172,14 @@ names_root v w rebuild target k place word told g h many at l =
 pub err_stopped_on : (u v w : View) (rebuild words k : ℕ) → IsTold (now u) rebuild k → PutOn u v
     → (full : Full) → IsStopped v rebuild words full w → IsStopped u rebuild words full w
 err_stopped_on u v w rebuild words k told a full h =
-    let on = told_on (now u) (now v) (put_grow u v a) rebuild k told in
-    let row_is = same_rebuild ((now v).pieces rebuild) on.row h.told.row on.published
-    h.told.published in
-    let same = finished_once (now v) h.told.row.target k h.k
-    (subst (λ r. IsFinishedWith (now v) r.target k) row_is on.finished) h.told.finished in
-    record {
-      k = h.k;
-      told = subst (IsTold (now u) rebuild) same told;
-      out = short_for_more PutOn PutOn u v (λ x. put_more u v x a) words h.k h.k full w (le_refl h.k)
-          h.out;
-    }
+    short_from PutOn PutOn u v (λ x. put_more u v x a) words full w h here
+  where
+    -- what was asked for then was asked for before
+    here : IsForBuild (now v) rebuild full.asked → IsForBuild (now u) rebuild full.asked
+    here build =
+        let on = told_on (now u) (now v) (put_grow u v a) rebuild k told in
+        let row_is = same_rebuild ((now v).pieces rebuild) on.row build.told.row on.published
+        build.told.published in
+        let same = finished_once (now v) build.told.row.target k build.k
+        (subst (λ r. IsFinishedWith (now v) r.target k) row_is on.finished) build.told.finished in
+        record { k = build.k; told = subst (IsTold (now u) rebuild) same told; node = build.node }

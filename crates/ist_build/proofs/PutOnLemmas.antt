@@ -1,5 +1,5 @@
 -- What a caller does while it builds and puts in place. Serves `root`.
-use Rattle.std.proofs.Common.{le_refl, ◌≡◌, ℕ}
+use Rattle.std.proofs.Common.{◌≡◌, ℕ}
 use Rattle.ist_core.specs.declared.events.Event.{Event}
 use Rattle.ist_core.specs.declared.events.Event.TheVariants.{Reserve}
 use Rattle.ist_core.specs.declared.ports.Full.{Full}
@@ -13,7 +13,7 @@ use Rattle.ist_build.proofs.LaidOnLemmas.{laid_now, laid_lawful, laid_grow, laid
 use Rattle.ist_build.specs.Laying.{IsReservation, BuiltOn, IsShort}
 use Rattle.ist_build.specs.Calls.{Builds, IsTold}
 use Rattle.ist_build.specs.Putting.{PutOn, IsStopped}
-use Rattle.ist_build.proofs.ShortLemmas.{short_for_more}
+use Rattle.ist_rows.proofs.ShortLemmas.{short_from}
 
 -- the state after the log, by the first view's table
 pub put_now : (v w : View) → PutOn v w → now w ≡ state_of v.start v.words w.log
@@ -54,9 +54,5 @@ put_same v s = built_put v v (built_same v s)
 pub short_stopped : (u v w : View) (rebuild words k : ℕ) (full : Full) → IsTold (now u) rebuild k
     → PutOn u v → IsShort v words k full w → IsStopped u rebuild words full w
 short_stopped u v w rebuild words k full told a h =
-    record {
-      k = k;
-      told = told;
-      out = short_for_more BuiltOn PutOn u v (λ x s. put_more u v x a (built_put v x s)) words k k
-          full w (le_refl k) h;
-    }
+    short_from BuiltOn PutOn u v (λ x s. put_more u v x a (built_put v x s)) words full w h
+    (λ node. record { k = k; told = told; node = node })

@@ -140,14 +140,7 @@ short_on v w g words keys full x h =
 pub short_more : (v : View) (words few many : ℕ) (full : Full) (w : View) → few ≤ many
     → IsShort v words few full w → IsShort v words many full w
 short_more v words few many full w le h =
-    let fewer = h.few in
-    record {
-      short = h.short;
-      some = h.some;
-      several = h.several;
-      few = omega arith;
-      asked = h.asked;
-    }
+    short_for_more BuiltOn BuiltOn v v (λ x on. on) words few many full w le h
 
 -- ---- shares
 

@@ -19,7 +19,8 @@ use Rattle.ist_rule.specs.declared.view.View.{View}
 use Rattle.ist_rule.specs.Going.{WentOn}
 use Rattle.ist_rule.specs.Learning.{now}
 use Rattle.ist_rows.specs.declared.callers.Caller.{Caller}
-use Rattle.ist_build.specs.Laying.{OwnsRows, IsShortFor}
+use Rattle.ist_rows.specs.Shortage.{RanShort}
+use Rattle.ist_build.specs.Laying.{OwnsRows, IsForNode}
 
 -- ---- what is required
 
@@ -116,13 +117,14 @@ pub record IsBuiltOut (t : Snapshot) (rebuild : ℕ) : Type 0 where
   pub published : t.pieces rebuild ≡ Some (Rebuild row)
   pub built : IsBuilt t row.root
 
--- too few words are left for a row over at least two keys and no more than `keys`; until then the
--- caller made only steps of building
-abbrev pub IsOutOfWords : View → ℕ → ℕ → Full → View → Type 0
-IsOutOfWords v words keys full w = IsShortFor (WentOn Builds) v words keys full w
-
--- the same, for a row over no more keys than the finished target of the rebuild has
-pub record RebuildIsShort (v : View) (rebuild words : ℕ) (full : Full) (w : View) : Type 0 where
+-- this many words are asked for, for a node over no more keys than the finished target of the
+-- rebuild has
+pub record IsForBuild (t : Snapshot) (rebuild asked : ℕ) : Type 0 where
   pub k : ℕ
-  pub told : IsTold (now v) rebuild k
-  pub out : IsOutOfWords v words k full w
+  pub told : IsTold t rebuild k
+  pub node : IsForNode k asked
+
+-- too few words are left for such a node; until then the caller made only steps of building
+abbrev pub RebuildIsShort : View → ℕ → ℕ → Full → View → Type 0
+RebuildIsShort v rebuild words full w =
+    RanShort (WentOn Builds) (IsForBuild (now v) rebuild) v words full w

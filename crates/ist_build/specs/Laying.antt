@@ -22,7 +22,8 @@ use Rattle.ist_rule.specs.declared.view.View.{View}
 use Rattle.ist_rule.specs.Rule.{IsSound, own_at}
 use Rattle.ist_rule.specs.Learning.{now}
 use Rattle.ist_rule.specs.Conditions.{StoredAll}
-use Rattle.ist_rows.specs.Rows.{IsCaller, RanShort}
+use Rattle.ist_rows.specs.Rows.{IsCaller}
+use Rattle.ist_rows.specs.Shortage.{RanShort}
 use Rattle.ist_rows.specs.declared.callers.Caller.{Caller}
 use Rattle.ist_rows.specs.Building.{IsInBuild, sizes_built}
 use Rattle.ist_core.specs.Authors.{LaterBy}
@@ -130,19 +131,16 @@ pub record AreNextRows (who : Caller) (keys : ℕ) : Type 0 where
   pub rest : List ℕ
   pub at : IsInBuild who stuck done (shape keys ++ rest)
 
--- too few words are left for a row over at least two keys and no more than `keys`; until then the
--- caller went on as `Seen` says
-pub record IsShortFor (Seen : View → View → Type 0) (v : View) (words keys : ℕ) (full : Full)
-    (w : View) : Type 0 where
-  pub short : RanShort Seen v words full w
+-- this many words are asked for, for a node over at least two keys and no more than `keys`
+pub record IsForNode (keys asked : ℕ) : Type 0 where
   pub some : ℕ
-  pub several : 2 ≤ some
-  pub few : some ≤ keys
-  pub asked : full.asked ≡ inner_words (degree some)
+  pub least : 2 ≤ some
+  pub most : some ≤ keys
+  pub asked_is : asked ≡ inner_words (degree some)
 
--- the same for a caller that built until then
+-- too few words are left for such a node; until then the caller built
 abbrev pub IsShort : View → ℕ → ℕ → Full → View → Type 0
-IsShort v words keys full w = IsShortFor BuiltOn v words keys full w
+IsShort v words keys full w = RanShort BuiltOn (IsForNode keys) v words full w
 
 -- ---- in rows that are held already
 

@@ -12,8 +12,9 @@ use Rattle.ist_core.specs.Slots.{SlotHolds}
 use Rattle.ist_core.specs.Snapshots.{Snapshot}
 use Rattle.ist_rule.specs.declared.view.View.{View}
 use Rattle.ist_rule.specs.Learning.{now}
-use Rattle.ist_build.specs.Calls.{Builds, IsTold}
-use Rattle.ist_build.specs.Laying.{LaidOn, IsShortFor}
+use Rattle.ist_rows.specs.Shortage.{RanShort}
+use Rattle.ist_build.specs.Calls.{Builds, IsForBuild}
+use Rattle.ist_build.specs.Laying.{LaidOn}
 
 -- ---- what the caller does
 
@@ -59,9 +60,8 @@ pub record IsShared (t : Snapshot) (rebuild target root k : ℕ) : Type 0 where
 
 -- ---- refusals
 
--- too few words are left for a row over no more keys than the target of the rebuild has; until then
+-- too few words are left for a node over no more keys than the target of the rebuild has; until then
 -- the caller put on
-pub record IsStopped (v : View) (rebuild words : ℕ) (full : Full) (w : View) : Type 0 where
-  pub k : ℕ
-  pub told : IsTold (now v) rebuild k
-  pub out : IsShortFor PutOn v words k full w
+abbrev pub IsStopped : View → ℕ → ℕ → Full → View → Type 0
+IsStopped v rebuild words full w =
+    RanShort PutOn (IsForBuild (now v) rebuild) v words full w

@@ -7,12 +7,14 @@ ghost use Rattle.ist_layout.specs.Meanings.{ref_meant};
 ghost use Rattle.ist_rule.specs.Faces.{word_count_of};
 ghost use Rattle.ist_rule.specs.Going.{WentOn, KeepsWords};
 ghost use Rattle.ist_rule.specs.Learning.{now, GoesOnTo};
+ghost use Rattle.ist_rows.specs.Shortage.{RanShort};
 ghost use Rattle.ist_rows.specs.Rows.{IsCaller, spares_of};
 ghost use Rattle.ist_rows.specs.Building.{HasRefused, IsInBuild, sizes_built};
 ghost use Rattle.ist_rows.specs.Taken.{HasTakenFewIn};
+ghost use Rattle.ist_build.specs.Laying.{IsForNode};
 ghost use Rattle.ist_build.specs.Calls.{HasKeys, MayBuild, IsBuildable, IsTold, IsPartLaid, IsLeafAmong};
 ghost use Rattle.ist_build.specs.Calls.{parts_words, root_words};
-ghost use Rattle.ist_build.specs.Calls.{Builds, HasRootAs, IsRooted, IsBuiltOut, IsOutOfWords, RebuildIsShort};
+ghost use Rattle.ist_build.specs.Calls.{Builds, HasRootAs, IsRooted, IsBuiltOut, RebuildIsShort};
 
 use crate::descent::leaf_base;
 use crate::filling::fill_root;
@@ -102,8 +104,8 @@ pub fn build_part(
     ensures good { IfOk result (λ part. IsGoodRef (ref_meant part)) }
     ensures held { IfOk result (λ part. 2 ≤ len
         → IsInBuild who.new (sizes_built who.old) (shape len) []) }
-    ensures full { IfErr result (λ full.
-        IsOutOfWords who.old.token.view (word_count_of table.now) len full who.new.token.view) }
+    ensures full { IfErr result (λ full. RanShort (WentOn Builds) (IsForNode len)
+        who.old.token.view (word_count_of table.now) full who.new.token.view) }
     ensures refused { IfErr result (λ full. HasRefused who.new) }
 {
     know(&who.token);

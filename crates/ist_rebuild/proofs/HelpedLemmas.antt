@@ -11,7 +11,6 @@ use Rattle.ist_rule.specs.Faces.{TokenFace}
 use Rattle.ist_rule.specs.Going.{WentOn}
 use Rattle.ist_rule.specs.Learning.{now, GoesOnTo}
 use Rattle.ist_rule.specs.Rule.{IsSound}
-use Rattle.ist_rule.proofs.GoingOnLemmas.{goes_on_more, looked_goes_on}
 use Rattle.ist_rule.proofs.WentOnLemmas.{goes_on_went, went_all, went_grow, went_same}
 use Rattle.ist_rows.specs.declared.callers.Caller.{Caller}
 use Rattle.ist_rows.specs.declared.kinds.Kind.TheVariants.{Change}
@@ -32,6 +31,7 @@ use Rattle.ist_rows.specs.Going.{IsReady}
 use Rattle.ist_rebuild.specs.Going.{ServesRebuild}
 use Rattle.ist_rebuild.proofs.EventLemmas.{change_serves, marks_serve, builds_serve, builds_install_none}
 use Rattle.ist_rows.proofs.ReserveLemmas.{reserved_went}
+use Rattle.ist_rows.proofs.ShortLemmas.{short_goes_on}
 use Rattle.ist_rows.proofs.SpareTakenLemmas.{refused_beside}
 
 -- ---- together
@@ -180,9 +180,7 @@ pub refused_row : (old new : Caller) (words : ℕ) (full : Full) → IsReady old
 refused_row old new words full ready c number h =
     let v = old.token.view in
     let w = new.token.view in
-    let g : GoesOnTo v w =
-    goes_on_more v h.cause.short.before w h.cause.short.seen
-    (looked_goes_on h.cause.short.before _ full.next w h.cause.short.looked) in
+    let g : GoesOnTo v w = short_goes_on v words full w h.cause in
     let it = still_ready (loads_ready ServesRebuild old new.token ready g) in
     builds_helped old new ready c
     (subst (HasRefused) (same new.number new.leaf new.pair new.change new.rebuild number

@@ -20,7 +20,7 @@ pub refused_lacks : (words : ℕ) (kind : Kind) (old new : Caller) (full : Full)
 refused_lacks words kind old new full r =
     record {
       kind = kind;
-      asked_is = r.cause.asked;
+      asked_is = r.cause.few.asked;
       none = ap (row_of kind) r.same ∙ r.none;
     }
 

@@ -1,19 +1,20 @@
 -- What a start takes, and what it still needs. Serves `start` and the crates above.
-use Rattle.std.proofs.Common.{◌≡◌, ◌≢◌, ℕ, ◌+◌, ◌≤◌, ◌⊎◌, Option, Some, None, Result, Ok, Err, IfSome, IfErr, refl, sym, ap, ◌∙◌, subst, inl, inr, arith}
+use Rattle.std.proofs.Common.{◌≡◌, ◌≢◌, ℕ, ◌+◌, ◌≤◌, Option, Some, None, Result, Ok, Err, IfSome, IfErr, refl, sym, ap, ◌∙◌, subst, inl, inr, arith}
 use Rattle.ist_core.specs.declared.events.Who.TheVariants.{Caller as CallerOf}
 use Rattle.ist_core.specs.declared.ports.Full.{Full}
 use Rattle.ist_core.specs.Authors.{Later}
 use Rattle.ist_core.specs.RowLayout.{change_words, rebuild_words}
-use Rattle.ist_rule.proofs.GoingOnLemmas.{goes_on_more, looked_goes_on}
 use Rattle.ist_rows.specs.declared.callers.Caller.{Caller}
 use Rattle.ist_rows.specs.declared.kinds.Kind.{Kind}
 use Rattle.ist_rows.specs.declared.kinds.Kind.TheVariants.{Change, Leaf, Pair, Rebuild}
 use Rattle.ist_rows.specs.Kinds.{kind_words}
 use Rattle.ist_rows.specs.Rows.{IsFreshRow, IsKindRefused, Spares, row_of, spares_of, with_spare}
 use Rattle.ist_rows.specs.Taken.{taken_by}
+use Rattle.ist_rows.proofs.ShortLemmas.{short_goes_on}
 use Rattle.ist_rows.proofs.TakenLemmas.{taken_later, taken_reserved}
 use Rattle.ist_rebuild.specs.Lacking.{LacksKind}
 use Rattle.ist_rebuild.specs.Needs.{TakesNeeded, needed, wanting}
+use Rattle.ist_rebuild.specs.Starting.{IsForStart}
 
 sum_same : (a b n : ℕ) → a ≡ b → a + n ≤ b + n
 sum_same a b n e = omega arith
@@ -86,19 +87,18 @@ row_takes words kind old new answer mine of held fresh full =
         let kind_is = of (spares_of old) base e in
         omega arith
     at None e h (Err x) f r =
-        let seen = goes_on_more _ _ _ r.cause.short.seen
-        (looked_goes_on _ _ _ _ r.cause.short.looked) in
+        let seen = short_goes_on _ words x _ r.cause in
         takes_none old new
         (taken_later old.number (subst (λ who. Later who old.token.view.log new.token.view.log) mine
         seen.later)) (ap needs r.same)
 
 -- a row of a start that is lacking is needed
 pub lacks_needed : (who : Caller) (asked : ℕ) → LacksKind who asked
-    → (asked ≡ rebuild_words) ⊎ (asked ≡ change_words) → asked ≤ needed who
+    → IsForStart asked → asked ≤ needed who
 lacks_needed who asked lacks is = at lacks.kind lacks.asked_is lacks.none
   where
     other : (n : ℕ) → asked ≡ n → n ≢ rebuild_words → n ≢ change_words
-        → (asked ≡ rebuild_words) ⊎ (asked ≡ change_words) → ⊥
+        → IsForStart asked → ⊥
     other n e no_rebuild no_change (inl same) = no_rebuild (sym e ∙ same)
     other n e no_rebuild no_change (inr same) = no_change (sym e ∙ same)
 

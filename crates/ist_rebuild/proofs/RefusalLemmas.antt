@@ -3,6 +3,7 @@ use Rattle.std.proofs.Common.{◌≡◌, ℕ, Result, Ok, Err, IfErr, sym, subst
 use Rattle.std.specs.Result.{IsErrAnd}
 use Rattle.ist_core.specs.declared.ports.Full.{Full}
 use Rattle.ist_core.specs.Rebuilding.{IsFinishedWith}
+use Rattle.ist_core.specs.RowLayout.{next_place}
 use Rattle.ist_core.proofs.GrowingLemmas.{rebuild_there}
 use Rattle.laws_links.proofs.FormLemmas.{finished_with_grows}
 use Rattle.ist_rule.specs.declared.view.View.{View}
@@ -14,9 +15,10 @@ use Rattle.ist_rows.specs.declared.kinds.Kind.TheVariants.{Change}
 use Rattle.ist_rows.specs.Going.{HasGone}
 use Rattle.ist_rows.specs.Rows.{IsKindRefused}
 use Rattle.ist_rows.proofs.ShortLemmas.{short_from}
-use Rattle.ist_build.specs.Calls.{Builds, RebuildIsShort}
+use Rattle.ist_build.specs.Calls.{Builds, IsForBuild, RebuildIsShort}
 use Rattle.ist_rebuild.specs.Going.{ServesRebuild}
-use Rattle.ist_rebuild.specs.Helping.{IsHelpRefused, for_change, for_row}
+use Rattle.ist_rebuild.specs.Helping.{IsAskedFor, IsHelpRefused, for_change, for_node}
+use Rattle.ist_rebuild.specs.Lacking.{LacksNow}
 use Rattle.ist_rebuild.proofs.EventLemmas.{builds_serve}
 use Rattle.ist_rebuild.proofs.LackLemmas.{lacks_now, refused_lacks}
 
@@ -24,45 +26,41 @@ use Rattle.ist_rebuild.proofs.LackLemmas.{lacks_now, refused_lacks}
 pub short_refused : (v w : View) (rebuild words : ℕ) (full : Full)
     → RebuildIsShort v rebuild words full w → IsHelpRefused v rebuild words full w
 short_refused v w rebuild words full h =
-    let o = h.out in
-    let short = short_from (WentOn Builds) (WentOn ServesRebuild) v v
-    (λ x. went_all Builds ServesRebuild builds_serve v x)
-    words full w o.short in
-    let grow = went_grow ServesRebuild v w
-    (went_more ServesRebuild v short.before w short.seen
-    (looked_went ServesRebuild short.before _ full.next w short.looked)) in
-    let it = rebuild_there (now v).pieces (now w).pieces grow rebuild h.told.row h.told.published in
-    record {
-      short = short;
-      asked = for_row it.0 h.k o.some it.1
-          (subst (λ n. IsFinishedWith (now w) n h.k) (sym it.2.target)
-          (finished_with_grows (now v) (now w) grow h.told.row.target h.k h.told.finished))
-          o.several o.few o.asked;
-    }
+    short_from (WentOn Builds) (WentOn ServesRebuild) v v serves words full w h there
+  where
+    serves : (x : View) → WentOn Builds v x → WentOn ServesRebuild v x
+    serves = went_all Builds ServesRebuild builds_serve v
+
+    -- what was asked for in the first view is asked for in the last
+    there : IsForBuild (now v) rebuild full.asked
+        → IsAskedFor (LacksNow w) (now w) rebuild full.asked
+    there build =
+        let told = build.told in
+        let grow = went_grow ServesRebuild v w
+        (went_more ServesRebuild v h.before w (serves h.before h.seen)
+        (looked_went ServesRebuild h.before next_place full.next w h.looked)) in
+        let it = rebuild_there (now v).pieces (now w).pieces grow rebuild told.row told.published in
+        for_node it.0 build.k it.1
+        (subst (λ n. IsFinishedWith (now w) n build.k) (sym it.2.target)
+        (finished_with_grows (now v) (now w) grow told.row.target build.k told.finished))
+        build.node
 
 -- the refusal of a row for the change
 pub row_refused : (old new : Caller) (rebuild words : ℕ) (full : Full)
     → IsKindRefused words Change old new full → HasGone ServesRebuild old new
     → IsHelpRefused old.token.view rebuild words full new.token.view
 row_refused old new rebuild words full h gone =
-    record {
-      short = short_from GoesOnTo (WentOn ServesRebuild) old.token.view old.token.view
-          (λ x. goes_on_went ServesRebuild old.token.view x) words full new.token.view h.cause.short;
-      asked = for_change h.cause.asked
-          (lacks_now new gone.went.sound gone.caller gone.refused full.asked
-          (refused_lacks words Change old new full h));
-    }
+    short_from GoesOnTo (WentOn ServesRebuild) old.token.view old.token.view
+    (λ x. goes_on_went ServesRebuild old.token.view x) words full new.token.view h.cause
+    (λ is. for_change is (lacks_now new gone.went.sound gone.caller gone.refused full.asked
+    (refused_lacks words Change old new full h)))
 
 -- the refusal of a call holds from an earlier view too, if the caller helped in between
 pub refused_more : (u v w : View) (rebuild words : ℕ) (full : Full) → WentOn ServesRebuild u v
     → IsHelpRefused v rebuild words full w → IsHelpRefused u rebuild words full w
 refused_more u v w rebuild words full g h =
-    record {
-      short = short_from (WentOn ServesRebuild) (WentOn ServesRebuild) u v
-          (λ x. went_more ServesRebuild u v x g) words full w
-          h.short;
-      asked = h.asked;
-    }
+    short_from (WentOn ServesRebuild) (WentOn ServesRebuild) u v
+    (λ x. went_more ServesRebuild u v x g) words full w h (λ asked. asked)
 
 -- ---- answers
 

@@ -165,12 +165,9 @@ module _ (who : Caller) (parent index target rebuild change : ℕ) (f : Filling)
 pub refused_after : (u v w : View) (words : ℕ) (full : Full) → WentOn IsReservation u v
     → IsStartRefused v words full w → IsStartRefused u words full w
 refused_after u v w words full g r =
-    record {
-      short = short_from (WentOn Begins) (WentOn Begins) u v
-          (λ x. went_more Begins u v x (went_all IsReservation Begins begins_reserving u v g)) words full
-          w r.short;
-      asked = r.asked;
-    }
+    short_from (WentOn Begins) (WentOn Begins) u v
+    (λ x. went_more Begins u v x (went_all IsReservation Begins begins_reserving u v g)) words full w
+    r (λ asked. asked)
 
 -- what a start leaves done, after reservings
 pub after_done : (v u w : View) → WentOn IsReservation v u → (number same : ℕ)

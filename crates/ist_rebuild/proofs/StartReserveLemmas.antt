@@ -1,5 +1,5 @@
 -- What reserving the rows of a start leaves of its caller. Serves `reserve_rows`.
-use Rattle.std.proofs.Common.{◌≡◌, ℕ, Option, Some, None, Result, Ok, Err, IfSome, IfErr, refl, sym, subst, inl, inr, ⊎_elim}
+use Rattle.std.proofs.Common.{◌≡◌, ℕ, Option, Some, None, Result, Ok, Err, IfSome, IfErr, refl, sym, subst, inl, inr}
 use Rattle.ist_build.specs.Laying.{IsReservation}
 use Rattle.ist_core.specs.declared.ports.Full.{Full}
 use Rattle.ist_core.specs.RowLayout.{rebuild_words, change_words}
@@ -7,7 +7,6 @@ use Rattle.ist_rule.specs.declared.view.View.{View}
 use Rattle.ist_rule.specs.Going.{WentOn}
 use Rattle.ist_rule.specs.Learning.{now, GoesOnTo}
 use Rattle.ist_rule.specs.Rule.{IsSound}
-use Rattle.ist_rule.proofs.GoingOnLemmas.{goes_on_more, looked_goes_on}
 use Rattle.ist_rule.proofs.WentOnLemmas.{goes_on_went, went_more, went_same, went_all}
 use Rattle.ist_rows.specs.declared.callers.Caller.{Caller}
 use Rattle.ist_rows.specs.declared.kinds.Kind.{Kind}
@@ -21,7 +20,7 @@ use Rattle.ist_rows.proofs.CallerLawLemmas.{refused_went}
 use Rattle.ist_rebuild.specs.Going.{Begins}
 use Rattle.ist_rebuild.specs.Starting.{IsStartRefused}
 use Rattle.ist_rebuild.proofs.StartGoingLemmas.{begins_reserving}
-use Rattle.ist_rows.proofs.ShortLemmas.{short_from}
+use Rattle.ist_rows.proofs.ShortLemmas.{short_from, short_goes_on}
 
 -- ---- one reserving
 
@@ -46,8 +45,7 @@ module _ (words : ℕ) (kind : Kind) (old new : Caller) (answer : Result ℕ Ful
           reserved_went IsReservation old.token.view old.number base (kind_words kind)
           new.token.view (f e).0 tt
       at None e h (Err x) is f r =
-          goes_on_went IsReservation old.token.view new.token.view
-          (goes_on_more _ _ _ r.cause.short.seen (looked_goes_on _ _ _ _ r.cause.short.looked))
+          goes_on_went IsReservation old.token.view new.token.view (short_goes_on _ words x _ r.cause)
 
   -- the refused builds of the caller stay refused
   pub reserve_refused : IsCaller old → new.number ≡ old.number → HasRefused old → HasRefused new
@@ -64,8 +62,7 @@ module _ (words : ℕ) (kind : Kind) (old new : Caller) (answer : Result ℕ Ful
       at None e h (Err x) f r =
           refused_as new (now new.token.view) old.number (spares_of old) refl number_is r.same
           (refused_went old new.token c was
-          (goes_on_went KeepsRows old.token.view new.token.view
-          (goes_on_more _ _ _ r.cause.short.seen (looked_goes_on _ _ _ _ r.cause.short.looked))))
+          (goes_on_went KeepsRows old.token.view new.token.view (short_goes_on _ words x _ r.cause)))
 
 -- ---- too few words
 
@@ -73,19 +70,12 @@ module _ (words : ℕ) (kind : Kind) (old new : Caller) (answer : Result ℕ Ful
 pub rebuild_short : (v : View) (words : ℕ) (full : Full) (w : View)
     → IsFull v words rebuild_words full w → IsStartRefused v words full w
 rebuild_short v words full w f =
-    record {
-      short = short_from GoesOnTo (WentOn Begins) v v (λ x. goes_on_went Begins v x) words full w
-          f.short;
-      asked = inl f.asked;
-    }
+    short_from GoesOnTo (WentOn Begins) v v (λ x. goes_on_went Begins v x) words full w f inl
 
 -- the change's row was refused
 pub change_short : (u v : View) (words : ℕ) (full : Full) (w : View) → WentOn IsReservation u v
     → IsFull v words change_words full w → IsStartRefused u words full w
 change_short u v words full w g f =
-    record {
-      short = short_from GoesOnTo (WentOn Begins) u v
-          (λ x s. went_more Begins u v x (went_all IsReservation Begins begins_reserving u v g)
-          (goes_on_went Begins v x s)) words full w f.short;
-      asked = inr f.asked;
-    }
+    short_from GoesOnTo (WentOn Begins) u v
+    (λ x s. went_more Begins u v x (went_all IsReservation Begins begins_reserving u v g)
+    (goes_on_went Begins v x s)) words full w f inr

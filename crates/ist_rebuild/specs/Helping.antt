@@ -1,11 +1,10 @@
 -- Helping a rebuild: how the caller goes on, and what becomes of the rebuild.
-use Rattle.std.specs.Prelude.{◌≡◌, ℕ, ◌≤◌, Some}
+use Rattle.std.specs.Prelude.{◌≡◌, ℕ, Some}
 use Rattle.ist_core.specs.declared.ports.Full.{Full}
 use Rattle.ist_core.specs.declared.states.RebuildRow.{RebuildRow}
-use Rattle.ist_core.specs.Arithmetic.{degree}
 use Rattle.ist_core.specs.Pieces.{Rebuild}
 use Rattle.ist_core.specs.Rebuilding.{IsFinishedWith, IsReplaced}
-use Rattle.ist_core.specs.RowLayout.{change_words, inner_words}
+use Rattle.ist_core.specs.RowLayout.{change_words}
 use Rattle.ist_core.specs.Slots.{IsOpen}
 use Rattle.ist_core.specs.Snapshots.{Snapshot}
 use Rattle.ist_rule.specs.declared.view.View.{View}
@@ -14,7 +13,8 @@ use Rattle.ist_rows.specs.declared.callers.Caller.{Caller}
 use Rattle.ist_rows.specs.Going.{StaysReady}
 use Rattle.ist_rebuild.specs.Going.{KeepsFresh, ServesRebuild}
 use Rattle.ist_rebuild.specs.Lacking.{LacksNow}
-use Rattle.ist_rows.specs.Rows.{RanShort}
+use Rattle.ist_rows.specs.Shortage.{RanShort}
+use Rattle.ist_build.specs.Laying.{IsForNode}
 use Rattle.ist_rule.specs.Going.{WentOn}
 
 -- the caller has only made steps of help and is ready, and holds the leaf and the pair row that it
@@ -30,15 +30,14 @@ pub record IsLeftToParent (t : Snapshot) (rebuild : ℕ) : Type 0 where
   pub closed : ¬ (IsOpen t row.parent)
   pub stands : ¬ (IsReplaced t rebuild)
 
--- this many words were asked for: for a change, if such a row is lacking, or for a row over at least
+-- this many words were asked for: for a change, if such a row is lacking, or for a node over at least
 -- two keys and at most as many as the finished target has
 pub data IsAskedFor (Lacks : ℕ → Type 0) (t : Snapshot) (rebuild asked : ℕ) : Type 0 where
   for_change : asked ≡ change_words → Lacks asked → IsAskedFor Lacks t rebuild asked
-  for_row : (row : RebuildRow) (k some : ℕ) → t.pieces rebuild ≡ Some (Rebuild row)
-      → IsFinishedWith t row.target k → 2 ≤ some → some ≤ k → asked ≡ inner_words (degree some)
-      → IsAskedFor Lacks t rebuild asked
+  for_node : (row : RebuildRow) (k : ℕ) → t.pieces rebuild ≡ Some (Rebuild row)
+      → IsFinishedWith t row.target k → IsForNode k asked → IsAskedFor Lacks t rebuild asked
 
--- the caller was refused a row for the change, which it lacks, or for what it built
-pub record IsHelpRefused (v : View) (rebuild words : ℕ) (full : Full) (w : View) : Type 0 where
-  pub short : RanShort (WentOn ServesRebuild) v words full w
-  pub asked : IsAskedFor (LacksNow w) (now w) rebuild full.asked
+-- too few words were left for a change, which the caller lacks, or for what it built
+abbrev pub IsHelpRefused : View → ℕ → ℕ → Full → View → Type 0
+IsHelpRefused v rebuild words full w =
+    RanShort (WentOn ServesRebuild) (IsAskedFor (LacksNow w) (now w) rebuild) v words full w

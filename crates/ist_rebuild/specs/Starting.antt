@@ -25,7 +25,7 @@ use Rattle.ist_rebuild.specs.declared.answers.Started.TheVariants.{Yes, Other, M
 use Rattle.ist_rebuild.specs.Going.{Begins}
 use Rattle.ist_rebuild.specs.Needs.{TakesNeeded}
 use Rattle.ist_rows.specs.declared.callers.Caller.{Caller}
-use Rattle.ist_rows.specs.Rows.{RanShort}
+use Rattle.ist_rows.specs.Shortage.{RanShort}
 
 -- ---- when
 
@@ -112,7 +112,10 @@ LeavesUninstalled old new (Err full) = ReservesNeeded old new
 
 -- ---- too few words
 
--- the caller was refused a row for the rebuild, or for the change
-pub record IsStartRefused (v : View) (words : ℕ) (full : Full) (w : View) : Type 0 where
-  pub short : RanShort (WentOn Begins) v words full w
-  pub asked : (full.asked ≡ rebuild_words) ⊎ (full.asked ≡ change_words)
+-- a start asks for this many words at a time: for the row of the rebuild, or of the change
+abbrev pub IsForStart : ℕ → Type 0
+IsForStart asked = (asked ≡ rebuild_words) ⊎ (asked ≡ change_words)
+
+-- too few words were left for such a row
+abbrev pub IsStartRefused : View → ℕ → Full → View → Type 0
+IsStartRefused v words full w = RanShort (WentOn Begins) IsForStart v words full w

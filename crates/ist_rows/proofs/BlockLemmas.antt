@@ -31,9 +31,8 @@ use Rattle.ist_rows.specs.declared.callers.Caller.{Caller}
 use Rattle.ist_rows.specs.Rows.{Spares, spares_of, IsCaller}
 use Rattle.ist_rows.specs.Building.{IsInBuild, HasTaken}
 use Rattle.ist_rows.specs.Block.{HoldsBlock, reservings, AreNext, ReservedAll, HasNoRoom, MayTakeAll}
-use Rattle.ist_rows.proofs.ReserveLemmas.{read_on}
 use Rattle.ist_rows.proofs.CallerLemmas.{IsCallerIn, caller_later, fair_inner}
-use Rattle.ist_rows.proofs.CallerGoingLemmas.{caller_goes_on}
+use Rattle.ist_rows.proofs.CallerGoingLemmas.{caller_refused}
 use Rattle.ist_rows.proofs.BuildingLemmas.{IsInBuildIn, at_later, next_fair, taken_inner, taken_at}
 
 -- ---- in a state
@@ -288,7 +287,7 @@ caller_after_all who token words asked sizes (Some base) c n ok none =
     caller_took_all who token base sizes c ok n
 caller_after_all who token words asked sizes None c n ok none =
     let it = none refl in
-    caller_goes_on who token c (read_on _ _ _ it.read)
+    caller_refused who token words asked it.0 c it.1
 
 -- if it returns a base, the caller has taken the rows
 pub taken_after_all : (who : Caller) (token : TokenFace) (sizes : List ℕ) (answer : Option ℕ)

@@ -9,7 +9,6 @@ use Rattle.ist_core.specs.declared.events.Who.TheVariants.{Caller as CallerOf}
 use Rattle.ist_core.specs.Authors.{Later}
 use Rattle.ist_rule.specs.Faces.{TokenFace}
 use Rattle.ist_rule.specs.Learning.{now, GoesOnTo, storing}
-use Rattle.ist_rule.proofs.GoingOnLemmas.{goes_on_more, looked_goes_on}
 use Rattle.ist_rule.proofs.WentOnLemmas.{goes_on_now}
 use Rattle.ist_rows.specs.declared.callers.Caller.{Caller}
 use Rattle.ist_rows.specs.Rows.{spares_of, IsCaller, Reserved, IsFull}
@@ -18,6 +17,7 @@ use Rattle.ist_rows.proofs.CallerLemmas.{IsCallerIn, caller_later}
 use Rattle.ist_rows.proofs.CallerGoingLemmas.{caller_refused}
 use Rattle.ist_rows.proofs.ReserveLemmas.{Took, looked_next, took}
 use Rattle.ist_rows.proofs.BuildingLemmas.{IsInBuildIn, stuck_last, at_later, next_fair, taken_inner, taken_at}
+use Rattle.ist_rows.proofs.ShortLemmas.{short_goes_on}
 
 -- a caller that took the next row of its build is a caller, and is at the row after it
 module _ (who : Caller) (token : TokenFace) (base size : ℕ) (c : IsCaller who)
@@ -103,14 +103,13 @@ pub refused : (who : Caller) (token : TokenFace) (words size : ℕ) (full : Full
 refused who token words size full c words_is n f =
     let v = who.token.view in
     let w = token.view in
-    let s = f.short in
-    let g = goes_on_more _ _ _ s.seen (looked_goes_on _ _ _ _ s.looked) in
+    let g = short_goes_on v words full w f in
     let h = at_goes_on who token n.stuck n.done (size ∷ n.rest) c g n.at in
-    let next = looked_next s.before full.next w s.looked in
+    let next = looked_next f.before full.next w f.looked in
     let all = words_same w.start w.words g.sound.lawful.opens w.log in
     let same = ap (λ (x : View). x.words) g.same in
-    let small = s.small in
-    let asked = f.asked in
+    let small = f.few.small in
+    let asked = f.few.asked in
     subst (AreStuck (now w)) (sym h.sizes)
     (stuck_last (now w) n.stuck n.done h.all_stuck record {
       next_size = size;

@@ -28,7 +28,7 @@ use Rattle.ist_rule.specs.Faces.{TokenFace}
 use Rattle.ist_rule.specs.Learning.{now, GoesOnTo}
 use Rattle.ist_rule.specs.Conditions.{IsOwn}
 use Rattle.ist_rule.proofs.ShownLemmas.{held_loose}
-use Rattle.ist_rule.proofs.GoingOnLemmas.{goes_on_who, goes_on_more, looked_goes_on}
+use Rattle.ist_rule.proofs.GoingOnLemmas.{goes_on_who}
 use Rattle.ist_rule.proofs.WentOnLemmas.{goes_on_now}
 use Rattle.ist_rows.specs.declared.callers.Caller.{Caller}
 use Rattle.ist_rows.specs.declared.kinds.Kind.{Kind}
@@ -38,6 +38,7 @@ use Rattle.ist_rows.specs.Rows.{Spares, spares_of, row_of, with_spare, is_base, 
 use Rattle.ist_rows.proofs.BuildLemmas.{ComesAfter, builds_on}
 use Rattle.ist_rows.proofs.CallerLemmas.{IsCallerIn, caller_later}
 use Rattle.ist_rows.proofs.ReserveLemmas.{took}
+use Rattle.ist_rows.proofs.ShortLemmas.{short_goes_on}
 
 -- ---- a caller's token goes on
 
@@ -254,5 +255,4 @@ pub caller_refused : (who : Caller) (token : TokenFace) (words size : ℕ) (full
     → IsFull who.token.view words size full token.view
     → IsCaller (record who { token = token })
 caller_refused who token words size full c f =
-    caller_goes_on who token c
-    (goes_on_more _ _ _ f.short.seen (looked_goes_on _ _ _ _ f.short.looked))
+    caller_goes_on who token c (short_goes_on who.token.view words full token.view f)

@@ -1,14 +1,16 @@
 -- A caller that took few words, or ran out of words: one part after another. Serves the crates above.
 use Rattle.std.proofs.Common.{◌≡◌, ℕ, ◌+◌, ◌≤◌, List, Result, Ok, Err, ap, ◌∙◌, subst, arith}
+use Rattle.std.proofs.Math.Nat.{le_trans}
 use Rattle.ist_core.specs.declared.events.Event.{Event}
 use Rattle.ist_core.specs.declared.pairs.Pair.{Pair}
 use Rattle.ist_core.specs.declared.ports.Full.{Full}
-use Rattle.ist_core.specs.Logs.{GoesOn, Log}
+use Rattle.ist_core.specs.Logs.{GoesOn, Log, same_log}
 use Rattle.ist_core.proofs.PrefixLemmas.{goes_on_by, goes_on_more}
 use Rattle.ist_rule.specs.declared.view.View.{View}
 use Rattle.ist_rule.specs.Going.{WentOn}
 use Rattle.ist_rows.specs.declared.callers.Caller.{Caller}
 use Rattle.ist_rows.specs.Taken.{HasRunOut, HasTakenFew, HasTakenFewIn, IsLaterCaller, RanOut, TakesFew, ran_out, taken_by, took_few}
+use Rattle.ist_rows.proofs.ShortLemmas.{left_between}
 
 -- ---- how a caller goes on
 
@@ -39,29 +41,13 @@ module _ (number words : ℕ) (pairs : List Pair) {a b c : Log} (on : GoesOn a b
     (n m left : ℕ) where
   -- what ran out has run out
   out_longer : RanOut number n words pairs a b → RanOut number n words pairs a c
-  out_longer r =
-      record {
-        at = r.at;
-        since = r.since;
-        until = goes_on_more r.until more;
-        asked = r.asked;
-        few = r.few;
-        small = r.small;
-      }
+  out_longer r = (r.0, left_between same_log more r.0 r.1 (λ at since until few. few))
 
   -- what runs out after few words were taken
   out_later : taken_by number b + m ≤ taken_by number a + n → RanOut number m words pairs b c
       → RanOut number n words pairs a c
   out_later took r =
-      let few = r.few in
-      record {
-        at = r.at;
-        since = goes_on_more on r.since;
-        until = r.until;
-        asked = r.asked;
-        few = omega arith;
-        small = r.small;
-      }
+      (r.0, left_between on same_log r.0 r.1 (λ at since until few. le_trans few took))
 
   few_both : TakesFew number n m words pairs a b → TakesFew number m left words pairs b c
       → TakesFew number n left words pairs a c
@@ -121,28 +107,12 @@ out_in (Err full) n left old new r = r
 -- what ran out has run out
 pub out_on : (n : ℕ) (old mid new : Caller) → GoesOn mid.token.view.log new.token.view.log
     → HasRunOut n old mid → HasRunOut n old new
-out_on n old mid new on r =
-    record {
-      at = r.at;
-      since = r.since;
-      until = goes_on_more r.until on;
-      asked = r.asked;
-      few = r.few;
-      small = r.small;
-    }
+out_on n old mid new on r = (r.0, left_between same_log on r.0 r.1 (λ at since until few. few))
 
 -- of more words they ran out too
 pub out_wider : (n m : ℕ) (old new : Caller) → n ≤ m → HasRunOut n old new → HasRunOut m old new
 out_wider n m old new le r =
-    let few = r.few in
-    record {
-      at = r.at;
-      since = r.since;
-      until = r.until;
-      asked = r.asked;
-      few = omega arith;
-      small = r.small;
-    }
+    (r.0, left_between same_log same_log r.0 r.1 (λ at since until few. le_trans few (omega arith)))
 
 -- of more words, more are left
 pub few_wider : (n left k : ℕ) (old new : Caller) → HasTakenFew n left old new

@@ -183,30 +183,31 @@ looked_out who c u next asked w g looked small =
     let start_is : w.start ≡ v.start = ap (λ x. x.start) to.same ∙ ap (λ x. x.start) g.same in
     let next_is : next ≡ spent v.start w.log =
     looked_next u next w looked ∙ words_are_spent w.start w.words w.log to.sound.lawful
-    ∙ ap (λ p. spent p w.log) start_is in
-    record {
-      at = w.log;
-      since = goes_on_by later;
-      until = same_log;
-      asked = asked;
-      few = omega arith;
-      small = omega arith;
-    }
+    ∙ ap (λ p. spent p w.log) start_is in (
+      record { next = next; asked = asked; words = v.words },
+      record {
+        at = w.log;
+        since = goes_on_by later;
+        until = same_log;
+        left = record {
+          next_is = next_is;
+          few = record { words_is = refl; small = small; asked = omega arith };
+        };
+      },
+    )
 
 -- a reserving that was refused
 pub full_out : (old new : Caller) → IsCaller old → (words size : ℕ) (full : Full)
     → words ≡ old.token.view.words → IsFull old.token.view words size full new.token.view
     → HasRunOut size old new
 full_out old new c words size full words_is f =
-    let s = f.short in
-    let small = s.small in
-    let asked = f.asked in
-    looked_out old c s.before full.next size new.token.view s.seen s.looked (omega arith)
+    let small = f.few.small in
+    let asked = f.few.asked in
+    looked_out old c f.before full.next size new.token.view f.seen f.looked (omega arith)
 
 -- one of several rows
 pub no_room_out : (old new : Caller) → IsCaller old → (words asked : ℕ)
     → words ≡ old.token.view.words → HasNoRoom old.token.view words asked new.token.view
     → HasRunOut asked old new
 no_room_out old new c words asked words_is h =
-    let small = h.small in
-    looked_out old c h.read.before h.next asked new.token.view h.read.seen h.read.looked (omega arith)
+    full_out old new c words asked h.0 words_is h.1

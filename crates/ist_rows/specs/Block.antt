@@ -1,8 +1,9 @@
 -- Rows of one build that are reserved together, at one step.
-use Rattle.std.specs.Prelude.{ℕ, ◌+◌, ◌<◌, ◌≤◌, List, [], ◌∷◌, ◌++◌}
+use Rattle.std.specs.Prelude.{ℕ, ◌+◌, ◌≤◌, List, [], ◌∷◌, ◌++◌}
 use Rattle.std.specs.List.{sum}
 use Rattle.ist_core.specs.declared.events.Event.{Event}
 use Rattle.ist_core.specs.declared.events.Event.TheVariants.{Reserve}
+use Rattle.ist_core.specs.declared.ports.Full.{Full}
 use Rattle.ist_core.specs.RowLayout.{next_place}
 use Rattle.ist_core.specs.Snapshots.{Snapshot, HoldsRow}
 use Rattle.ist_core.specs.Logs.{Log}
@@ -12,7 +13,7 @@ use Rattle.ist_rule.specs.Learning.{GoesOnTo}
 use Rattle.ist_rule.specs.Conditions.{MayCome}
 use Rattle.ist_rule.specs.Several.{LoggedAll, ComeAt}
 use Rattle.ist_rows.specs.declared.callers.Caller.{Caller}
-use Rattle.ist_rows.specs.Rows.{HasReadNext}
+use Rattle.ist_rows.specs.Rows.{IsFull}
 use Rattle.ist_rows.specs.Building.{IsInBuild}
 
 -- the caller holds rows of these sizes, one after another in memory from the base on
@@ -43,10 +44,8 @@ pub record ReservedAll (v : View) (number base : ℕ) (sizes : List ℕ) (w : Vi
 
 -- a load or a failed exchange gave the first free word, and too few words are left for all; nothing
 -- was reserved
-pub record HasNoRoom (v : View) (words asked : ℕ) (w : View) : Type 0 where
-  pub next : ℕ
-  pub read : HasReadNext v next w
-  pub small : words < next + asked
+abbrev pub HasNoRoom : View → ℕ → ℕ → View → Type 0
+HasNoRoom v words asked w = (full : Full) × IsFull v words asked full w
 
 -- after each log that may come rows of these sizes may be reserved at one step, if they fit
 abbrev pub MayTakeAll : View → ℕ → List ℕ → Type 0

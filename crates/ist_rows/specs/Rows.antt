@@ -1,5 +1,5 @@
 -- Callers and their rows: which rows belong to one caller, and what a reserving returns.
-use Rattle.std.specs.Prelude.{◌≡◌, ℕ, ◌+◌, ◌<◌, ◌==◌, ◌||◌, not, Bool, false, List, map, filter, Option, Some, None, Result, IfOk}
+use Rattle.std.specs.Prelude.{◌≡◌, ℕ, ◌<◌, ◌==◌, ◌||◌, not, Bool, false, List, map, filter, Option, Some, None, Result, IfOk}
 use Rattle.ist_core.specs.declared.lists.HeldRow.{HeldRow}
 use Rattle.ist_core.specs.declared.ports.Full.{Full}
 use Rattle.ist_core.specs.declared.events.Event.TheVariants.{Reserve}
@@ -13,6 +13,7 @@ use Rattle.ist_rows.specs.declared.callers.Caller.{Caller}
 use Rattle.ist_rows.specs.declared.kinds.Kind.{Kind}
 use Rattle.ist_rows.specs.declared.kinds.Kind.TheVariants.{Leaf, Pair, Change, Rebuild}
 use Rattle.ist_rows.specs.Kinds.{kind_words}
+use Rattle.ist_rows.specs.Shortage.{RanShort}
 
 -- the row of each kind that a caller has, by its base
 pub record Spares : Type 0 where
@@ -90,20 +91,9 @@ pub record HasReadNext (v : View) (next : ℕ) (w : View) : Type 0 where
   pub seen : GoesOnTo v before
   pub looked : Looked before next_place next w
 
--- a load of the first word, the last step of the call, gave how many words are used, and fewer are
--- left than were asked for; until then the token went on as `Seen` says
-pub record RanShort (Seen : View → View → Type 0) (v : View) (words : ℕ) (full : Full) (w : View)
-    : Type 0 where
-  pub before : View
-  pub seen : Seen v before
-  pub looked : Looked before next_place full.next w
-  pub words_is : full.words ≡ words
-  pub small : words < full.next + full.asked
-
 -- too few words are left for a row of this size; nothing was reserved
-pub record IsFull (v : View) (words size : ℕ) (full : Full) (w : View) : Type 0 where
-  pub short : RanShort GoesOnTo v words full w
-  pub asked : full.asked ≡ size
+abbrev pub IsFull : View → ℕ → ℕ → Full → View → Type 0
+IsFull v words size full w = RanShort GoesOnTo (λ asked. asked ≡ size) v words full w
 
 -- if the caller had no row of this kind and a row is returned, it was reserved in this call and is
 -- the caller's

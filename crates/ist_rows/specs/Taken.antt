@@ -1,12 +1,12 @@
 -- How many words a caller has taken in a log, and whether that is few.
-use Rattle.std.specs.Prelude.{◌≡◌, ℕ, ◌+◌, ◌<◌, ◌≤◌, ◌==◌, if◌then◌else◌, List, [], ◌∷◌, Result, Ok, Err}
+use Rattle.std.specs.Prelude.{◌≡◌, ℕ, ◌+◌, ◌≤◌, ◌==◌, if◌then◌else◌, List, [], ◌∷◌, Result, Ok, Err}
 use Rattle.ist_core.specs.declared.events.Event.{Event}
 use Rattle.ist_core.specs.declared.events.Event.TheVariants.{Reserve}
 use Rattle.ist_core.specs.declared.pairs.Pair.{Pair}
 use Rattle.ist_core.specs.declared.ports.Full.{Full}
 use Rattle.ist_core.specs.Logs.{GoesOn, Log}
-use Rattle.ist_core.specs.Spending.{spent}
 use Rattle.ist_rows.specs.declared.callers.Caller.{Caller}
+use Rattle.ist_rows.specs.Shortage.{LeftTooFew}
 
 -- how many words an event takes for this caller
 abbrev pub taken_at : ℕ → Event → ℕ
@@ -20,15 +20,16 @@ taken_by number (event ∷ log) = taken_by number log + taken_at number event
 
 -- ---- few words
 
+-- with what was asked for after the log the caller would have taken at most so many words
+abbrev pub WouldTake : ℕ → ℕ → Log → ℕ → Type 0
+WouldTake number most at asked = taken_by number at + asked ≤ most
+
 -- after a log between these too few words were left for rows with which the caller would have taken
 -- at most n words since the earlier log
-pub record RanOut (number n words : ℕ) (pairs : List Pair) (earlier log : Log) : Type 0 where
-  pub at : Log
-  pub since : GoesOn earlier at
-  pub until : GoesOn at log
-  pub asked : ℕ
-  pub few : taken_by number at + asked ≤ taken_by number earlier + n
-  pub small : words < spent pairs at + asked
+abbrev pub RanOut : ℕ → ℕ → ℕ → List Pair → Log → Log → Type 0
+RanOut number n words pairs earlier log =
+    let most = taken_by number earlier + n in
+    (full : Full) × LeftTooFew (WouldTake number most) pairs words earlier log full
 
 -- since the earlier log the caller took at most n words, and so many less that `left` of the n are
 -- left; or the words ran out for that

@@ -5,7 +5,7 @@ use Rattle.ist_core.specs.declared.ports.Full.{Full}
 use Rattle.ist_core.specs.Lawful.{state_of}
 use Rattle.ist_core.specs.Links.{IsChild}
 use Rattle.ist_core.specs.Changes.{changes_of}
-use Rattle.ist_core.specs.Logs.{same_log}
+use Rattle.ist_core.specs.Logs.{Log, same_log}
 use Rattle.ist_core.specs.RowLayout.{anchor, change_words, rebuild_words}
 use Rattle.ist_core.specs.Slots.{SlotHolds}
 use Rattle.ist_core.specs.References.{InnerAt, word_of}
@@ -19,6 +19,7 @@ use Rattle.ist_tree.specs.RealTime.{StepsIn}
 use Rattle.ist_tree.specs.Refusals.{HadTooFew, IsTopRefused, KeepsRefusal}
 use Rattle.ist_tree.specs.Room.{HasLeft, HasMadeNone}
 use Rattle.ist_tree.proofs.AloneLemmas.{few_before, freezes_before, lone_whole, room_is_enough}
+use Rattle.ist_tree.proofs.ShortLemmas.{left_same}
 use Rattle.ist_tree.proofs.HeardLemmas.{seen_more_then, steps_from, steps_until}
 use Rattle.ist_scan.specs.Room.{HadRoom, HadNoRoom, IsShotRefused, LoneShotsAreTaken, LoneShotsAreWhole, for_start}
 use Rattle.ist_scan.specs.Shots.{HasTakenShot}
@@ -46,10 +47,12 @@ had_no_room p q left words full seen has step none few next asked all =
         at = q.seen;
         since = seen.seen;
         until = same_log;
-        few = record { next_is = omega arith; words_is = all; small = omega arith };
+        left = record {
+          next_is = omega arith;
+          few = record { words_is = all; small = omega arith; asked = asked };
+        };
       };
       step = step;
-      asked = asked;
       none = none;
     }
 
@@ -95,17 +98,15 @@ module _ (p m q : PassFace) (look : HasSeenMore p m) (after : HasSeenMore m q) w
       }
 
   -- too few words after the look were too few in the call
-  abbrev short_both : (full : Full) → HadTooFew m q full → HadTooFew p q full
-  short_both full h =
+  abbrev short_both : {A B : Log → ℕ → Type 0} (full : Full) → HadTooFew A m q full
+      → ((at : Log) → A at full.asked → B at full.asked) → HadTooFew B p q full
+  short_both full h to =
       record {
         at = h.at;
         since = goes_on_more look.seen h.since;
         until = h.until;
-        few = record {
-          next_is = h.few.next_is ∙ ap (λ (t : TreeFace). spent t.start h.at) look.tree;
-          words_is = h.few.words_is ∙ ap (λ (t : TreeFace). t.words) look.tree;
-          small = subst (λ (t : TreeFace). t.words < full.next + full.asked) look.tree h.few.small;
-        };
+        left = left_same full (ap (λ (t : TreeFace). t.start) look.tree)
+            (ap (λ (t : TreeFace). t.words) look.tree) h.left (to h.at);
       }
 
   -- a freeze that was refused after the look was refused in the call
@@ -113,10 +114,12 @@ module _ (p m q : PassFace) (look : HasSeenMore p m) (after : HasSeenMore m q) w
       → IsFreezeRefused p q full
   refused_both none full h =
       record {
-        had = short_both full h.had;
-        asked = h.asked;
-        lacked = h.lacked;
-        few = few_before p m look.number none q.seen full.asked (rebuild_words + change_words) h.few;
+        had = short_both full h.had (λ at for. record {
+          start = for.start;
+          lacked = for.lacked;
+          few = few_before p m look.number none q.seen full.asked (rebuild_words + change_words)
+              for.few;
+        });
         held = record {
           at = h.held.at;
           since = goes_on_more look.seen h.held.since;
@@ -136,8 +139,7 @@ module _ (p m q : PassFace) (look : HasSeenMore p m) (after : HasSeenMore m q) w
         until = h.until;
         child = subst (λ (t : TreeFace). IsChild (state_of t.start t.words h.at) anchor 0 h.row)
             look.tree h.child;
-        had = short_both full h.had;
-        asked = h.asked;
+        had = short_both full h.had (λ at for. for);
       }
 
   -- the refusal that the pass keeps has its cause in the call

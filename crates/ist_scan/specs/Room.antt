@@ -24,9 +24,8 @@ pub record HadRoom (p q : PassFace) (words : ℕ) : Type 0 where
 -- fewer words than these were left at such a step; the pass made no event in the call, so that
 -- nothing was frozen by it
 pub record HadNoRoom (p q : PassFace) (words : ℕ) (full : Full) : Type 0 where
-  pub had : HadTooFew p q full
+  pub had : HadTooFew (λ at asked. asked ≡ words) p q full
   pub step : StepsIn p q had.at
-  pub asked : full.asked ≡ words
   pub none : HasMadeNone p q
 
 -- no shot was taken: there was no room; or there was, and the freeze was refused after that. If the

@@ -1,5 +1,5 @@
 -- A pass that alone took words: a start for which there was room isn't refused. Serves the crates above.
-use Rattle.std.proofs.Common.{◌≡◌, ℕ, ◌+◌, ◌<◌, ◌≤◌, ◌⊎◌, ◌==◌, Bool, true, false, if◌then◌else◌, List, refl, ◌∙◌, subst, inl, inr, arith}
+use Rattle.std.proofs.Common.{◌≡◌, ℕ, ◌+◌, ◌≤◌, ◌⊎◌, ◌==◌, Bool, true, false, if◌then◌else◌, List, refl, ap, ◌∙◌, subst, inl, inr, arith}
 use Rattle.ist_core.specs.declared.events.Event.{Event}
 use Rattle.ist_core.specs.declared.events.Event.TheVariants.{Reserve}
 use Rattle.ist_core.specs.declared.events.Who.TheVariants.{Caller as CallerOf}
@@ -17,6 +17,7 @@ use Rattle.ist_tree.specs.declared.freezing.Frozen.{Frozen}
 use Rattle.ist_tree.specs.Faces.{PassFace, TreeFace}
 use Rattle.ist_tree.specs.Freezing.{FreezesInFew, FreezesWhole, IsFreezeRefused, froze_few, ran_short, words_of_freeze}
 use Rattle.ist_tree.specs.Room.{HasMadeNone, TakesAlone}
+use Rattle.ist_tree.proofs.ShortLemmas.{left_same}
 
 -- ---- one event
 
@@ -83,9 +84,10 @@ room_is_enough p q words full at since enough rows alone r =
     let more = spent_more p.tree.start p.number r.had.until in
     let rise = taken_grows p.number since in
     let last = taken_grows p.number r.had.until in
-    let few = r.few in
-    let next = r.had.few.next_is in
-    let small = r.had.few.small in
+    let left = r.had.left in
+    let few = left.few.asked.few in
+    let next = left.next_is in
+    let small = left.few.small in
     omega arith
 
 -- if its words were left at a step of the call, and since then only the pass took words, a freeze is
@@ -96,10 +98,14 @@ pub lone_whole : (p q : PassFace) (frozen : Frozen) → FreezesInFew p q frozen 
 lone_whole p q frozen (froze_few whole) at since enough alone = whole
 lone_whole p q frozen (ran_short r) at since enough alone =
     let all = spent_alone p.tree.start p.number alone in
-    let more = spent_more p.tree.start p.number r.until in
+    let full = r.0 in
+    let ran = r.1 in
+    let more = spent_more p.tree.start p.number ran.until in
     let rise = taken_grows p.number since in
-    let few = r.few in
-    let small = r.small in
+    let few : taken_by p.number ran.at + full.asked
+    ≤ taken_by p.number p.seen + words_of_freeze frozen.keys = ran.left.few.asked in
+    let next = ran.left.next_is in
+    let small = ran.left.few.small in
     absurd (omega arith)
 
 -- what a freeze took after a look, at which the pass made no event, it took since before the look
@@ -117,11 +123,16 @@ freezes_before p m q frozen number tree seen none same (froze_few w) =
       few = omega arith;
     }
 freezes_before p m q frozen number tree seen none same (ran_short r) =
-    ran_short record {
-      at = r.at;
-      since = goes_on_more seen r.since;
-      until = r.until;
-      asked = r.asked;
-      few = few_before p m number none r.at r.asked (words_of_freeze frozen.keys) r.few;
-      small = subst (λ (t : TreeFace). t.words < spent t.start r.at + r.asked) tree r.small;
-    }
+    let full = r.0 in
+    let start = ap (λ (t : TreeFace). t.start) tree in
+    let all = ap (λ (t : TreeFace). t.words) tree in
+    ran_short (
+      full,
+      record {
+        at = r.1.at;
+        since = goes_on_more seen r.1.since;
+        until = r.1.until;
+        left = left_same full start all r.1.left
+            (few_before p m number none r.1.at full.asked (words_of_freeze frozen.keys));
+      },
+    )

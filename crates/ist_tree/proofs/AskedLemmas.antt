@@ -21,7 +21,7 @@ use Rattle.ist_rule.specs.Learning.{now}
 use Rattle.ist_rule.specs.Speaking.{number_of}
 use Rattle.ist_rows.specs.declared.callers.Caller.{Caller}
 use Rattle.ist_rows.specs.Rows.{IsCaller}
-use Rattle.ist_rebuild.specs.Helping.{IsAskedFor, for_change, for_row}
+use Rattle.ist_rebuild.specs.Helping.{IsAskedFor, for_change, for_node}
 use Rattle.ist_rebuild.specs.Lacking.{LacksNow, LacksRow}
 use Rattle.ist_tree.specs.Freezing.{HeldInnerRow}
 use Rattle.ist_tree.specs.Insides.{face_as}
@@ -33,18 +33,17 @@ pub asked_grows : (L M : ℕ → Type 0) (t u : Snapshot) → AllGrow t.pieces u
     → (rebuild asked : ℕ) → (L asked → M asked) → IsAskedFor L t rebuild asked
     → IsAskedFor M u rebuild asked
 asked_grows L M t u grow rebuild asked same (for_change e lacks) = for_change e (same lacks)
-asked_grows L M t u grow rebuild asked same (for_row row k some e f least le is) =
+asked_grows L M t u grow rebuild asked same (for_node row k e f node) =
     let it = rebuild_there t.pieces u.pieces grow rebuild row e in
-    for_row it.0 k some it.1
+    for_node it.0 k it.1
     (subst (λ n. IsFinishedWith u n k) (sym it.2.target)
-    (finished_with_grows t u grow row.target k f)) least le is
+    (finished_with_grows t u grow row.target k f)) node
 
 -- the same of one state
 pub asked_same : (L M : ℕ → Type 0) (t : Snapshot) (rebuild asked : ℕ) → (L asked → M asked)
     → IsAskedFor L t rebuild asked → IsAskedFor M t rebuild asked
 asked_same L M t rebuild asked same (for_change e lacks) = for_change e (same lacks)
-asked_same L M t rebuild asked same (for_row row k some e f least le is) =
-    for_row row k some e f least le is
+asked_same L M t rebuild asked same (for_node row k e f node) = for_node row k e f node
 
 -- a row that a caller lacked at the end of its work was lacked then by its pass, whatever others did
 -- since

@@ -1,5 +1,5 @@
 -- What a freeze returns, in the words of its pass. Serves `freeze`.
-use Rattle.std.proofs.Common.{◌≡◌, ℕ, ◌+◌, ◌<◌, ◌≤◌, ◌⊎◌, length, Option, Some, None, IfSome, sym, ap, ◌∙◌, subst, inl, inr, arith}
+use Rattle.std.proofs.Common.{◌≡◌, ℕ, ◌+◌, ◌≤◌, ◌⊎◌, length, Option, Some, None, IfSome, sym, ap, subst, inl, inr, arith}
 use Rattle.std.specs.Option.{option_or}
 use Rattle.ist_core.specs.declared.ports.Full.{Full}
 use Rattle.ist_core.specs.Authors.{Later}
@@ -7,18 +7,18 @@ use Rattle.ist_core.specs.Changes.{changes_of}
 use Rattle.ist_core.specs.Lawful.{state_of}
 use Rattle.ist_core.specs.Growing.{AllGrow}
 use Rattle.ist_core.specs.Links.{IsChild}
-use Rattle.ist_core.specs.Logs.{same_log}
+use Rattle.ist_core.specs.Logs.{Log, same_log}
 use Rattle.ist_core.specs.Marking.{HasTarget}
 use Rattle.ist_core.specs.Rebuilding.{IsFinishedWith, IsStarted}
 use Rattle.ist_core.specs.RowLayout.{anchor, change_words, rebuild_words}
 use Rattle.ist_core.specs.Snapshots.{Snapshot}
-use Rattle.ist_core.specs.Spending.{spent}
 use Rattle.ist_core.proofs.FateLemmas.{grow_between}
 use Rattle.laws_links.proofs.FinishedLemmas.{target_grows}
 use Rattle.laws_links.proofs.FormLemmas.{started_grows}
 use Rattle.laws_calls.specs.Finishing.{puts_in}
 use Rattle.laws_calls.proofs.NumberLemmas.{finished_few}
-use Rattle.ist_rebuild.specs.Helping.{IsAskedFor, for_change, for_row}
+use Rattle.ist_rows.specs.Shortage.{LeavesTooFew}
+use Rattle.ist_rebuild.specs.Helping.{IsAskedFor, for_change, for_node}
 use Rattle.ist_rebuild.specs.Lacking.{LacksNow}
 use Rattle.ist_rebuild.specs.Starting.{StartsDoneSince, StartsNone}
 use Rattle.ist_rebuild.specs.Needs.{TakesNeeded, needed}
@@ -31,16 +31,17 @@ use Rattle.ist_rule.specs.Learning.{now}
 use Rattle.ist_rule.proofs.LaterLemmas.{goes_on_more}
 use Rattle.ist_rows.specs.declared.callers.Caller.{Caller}
 use Rattle.ist_tree.specs.declared.freezing.Frozen.{Frozen}
-use Rattle.ist_tree.specs.FreezeSteps.{IsTopShort}
+use Rattle.ist_tree.specs.FreezeSteps.{IsForNeeded, IsTopShort}
 use Rattle.ist_tree.specs.Freezing.{HasFrozen, HeldInnerRow, IsFreezeRefused, IsFrozenIn, IsFrozenFor, WasFrozen}
 use Rattle.ist_tree.specs.Insides.{face_as, pass_face}
 use Rattle.ist_tree.specs.Working.{KeepsDone}
-use Rattle.ist_tree.specs.Refusals.{HadTooFew, IsForRebuild, IsTopRefused, KeepsRefusal, LackedAt, LeavesTooFew}
+use Rattle.ist_tree.specs.Refusals.{HadTooFew, IsForRebuild, IsTopRefused, KeepsRefusal, LackedAt}
 use Rattle.ist_tree.proofs.AskedLemmas.{asked_grows, asked_same, held_on, lacked_then, puts_rise}
 use Rattle.ist_tree.proofs.FreezingLemmas.{was_frozen_on}
 use Rattle.ist_tree.proofs.FreezeCallLemmas.{IsFreezeCall}
 use Rattle.ist_tree.proofs.FreezeCallLemmas as way
 use Rattle.ist_tree.proofs.IdleCallerLemmas.{between_calls}
+use Rattle.ist_tree.proofs.ShortLemmas.{left_same}
 use Rattle.ist_tree.proofs.StartLemmas.{since_later, since_none, starts_none_later, starts_none_more}
 
 module _ (who began new : Caller) (token : TokenFace) (it : IsFreezeCall who began new token) where
@@ -88,19 +89,16 @@ module _ (who began new : Caller) (token : TokenFace) (it : IsFreezeCall who beg
 
   -- ---- refusals
 
-  abbrev had_too_few : (r q : Option Full) (words : ℕ) (full : Full) → words ≡ v.words
-      → LeavesTooFew w.start words w.log full
-      → HadTooFew (pass_face who r) (face_as token new.number q) full
-  had_too_few r q words full same s =
+  abbrev had_too_few : {A : ℕ → Type 0} {B : Log → ℕ → Type 0} (r q : Option Full) (words : ℕ)
+      (full : Full) → words ≡ v.words → LeavesTooFew A w.start words w.log full
+      → (A full.asked → B w.log full.asked)
+      → HadTooFew B (pass_face who r) (face_as token new.number q) full
+  had_too_few r q words full same s to =
       record {
         at = w.log;
         since = goes_on_more (way.v_to_b who began new token it) (way.b_to_w who began new token it);
         until = (way.w_to_x who began new token it);
-        few = record {
-          next_is = s.next_is ∙ ap (λ pairs. spent pairs w.log) (way.w_start who began new token it);
-          words_is = s.words_is ∙ same;
-          small = subst (λ n. n < full.next + full.asked) same s.small;
-        };
+        left = left_same full (way.w_start who began new token it) same s to;
       }
 
   -- the call took at most the rows of a start
@@ -120,19 +118,18 @@ module _ (who began new : Caller) (token : TokenFace) (it : IsFreezeCall who beg
 
   -- a start that was refused in the work was refused in the call
   pub freeze_refused : (r q : Option Full) (words : ℕ) (full : Full) → words ≡ v.words
-      → LeavesTooFew w.start words w.log full
-      → (full.asked ≡ rebuild_words) ⊎ (full.asked ≡ change_words) → LacksNow w full.asked
-      → TakesNeeded began new → full.asked ≤ needed new
+      → LeavesTooFew (IsForNeeded new) w.start words w.log full → TakesNeeded began new
       → HeldInnerRow b.start b.words b.log w.log
       → IsFreezeRefused (pass_face who r) (face_as token new.number q) full
-  freeze_refused r q words full same s asked lacks few needs held =
+  freeze_refused r q words full same s few held =
       let l = way.b_view who began new token it in
       record {
-        had = had_too_few r q words full same s;
-        asked = asked;
-        lacked = lacked_then new token it.on.gone.caller (way.x_view who began new token it) q
-            full.asked lacks;
-        few = took_needed full.asked few needs;
+        had = had_too_few r q words full same s (λ for. record {
+          start = for.start;
+          lacked = lacked_then new token it.on.gone.caller (way.x_view who began new token it) q
+              full.asked for.lacks;
+          few = took_needed full.asked few for.needs;
+        });
         held = held_on v.start v.words v.log b.log w.log x.log (way.v_to_b who began new token it)
             (way.w_to_x who began new token it)
             (subst (λ pairs. HeldInnerRow pairs v.words b.log w.log) l.start_is
@@ -168,22 +165,24 @@ module _ (who began new : Caller) (token : TokenFace) (it : IsFreezeCall who beg
   pub asked_for_rebuild : (r q : Option Full) (rebuild asked : ℕ)
       → IsAskedFor (LacksNow w) (now w) rebuild asked → IsForRebuild (face_as token new.number q) asked
   asked_for_rebuild r q rebuild asked (for_change e lacks) = inl e
-  asked_for_rebuild r q rebuild asked (for_row row k some e fin least le is) =
+  asked_for_rebuild r q rebuild asked (for_node row k e fin node) =
       let l = way.lawful_w who began new token it in
       let here = way.by_middle who began new token it
       (λ pairs words. IsFinishedWith (state_of pairs words w.log) row.target k) fin in
       let most = finished_few v.start v.words l.opens w.log l.enabled row.target k here.row
       here.published here.status in
       let rise = puts_rise v.start v.words w.log x.log (way.w_to_x who began new token it) in
+      let some = node.some in
+      let le = node.most in
       inr record {
-        keys = some;
-        least = least;
+        some = some;
+        least = node.least;
         most =
             subst (λ words. some ≤ length x.start + puts_in (changes_of x.start words x.log))
             (sym (way.x_words who began new token it))
             (subst (λ pairs. some ≤ length pairs + puts_in (changes_of pairs v.words x.log))
             (sym (way.x_start who began new token it)) (omega arith));
-        asked_is = is;
+        asked_is = node.asked_is;
       }
 
   -- what is true of the state after the work, and of each that grows from it, is true after the call
@@ -213,14 +212,13 @@ module _ (who began new : Caller) (token : TokenFace) (it : IsFreezeCall who beg
             subst (λ pairs. IsChild (state_of pairs v.words d.top.at) anchor 0 d.target) l.start_is
             (subst (λ words. IsChild (state_of b.start words d.top.at) anchor 0 d.target) l.words_is
             d.top.child);
-        had = had_too_few r q words full same d.help.short;
-        asked = record {
+        had = had_too_few r q words full same d.help (λ asked. record {
           rebuild = d.rebuild;
           started = in_last (λ t. IsStarted t d.rebuild)
               (λ t u g. started_grows t u g d.rebuild) d.of.started;
           target = in_last (λ t. HasTarget t d.rebuild d.target)
               (λ t u g. target_grows t u g d.rebuild d.target) d.of.target_is;
-          size = asked_for_rebuild r q d.rebuild full.asked d.help.asked;
+          size = asked_for_rebuild r q d.rebuild full.asked asked;
           help = in_last (λ t. IsAskedFor (LackedAt (face_as token new.number q) w.log) t d.rebuild
               full.asked)
               (λ t u g. asked_grows (LackedAt (face_as token new.number q) w.log)
@@ -228,8 +226,8 @@ module _ (who began new : Caller) (token : TokenFace) (it : IsFreezeCall who beg
               (λ lacked. lacked))
               (asked_same (LacksNow w) (LackedAt (face_as token new.number q) w.log) (now w) d.rebuild
               full.asked (lacked_then new token it.on.gone.caller (way.x_view who began new token it) q
-              full.asked) d.help.asked);
-        };
+              full.asked) asked);
+        });
       }
 
   -- the first refusal is kept

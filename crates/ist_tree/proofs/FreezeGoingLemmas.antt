@@ -195,10 +195,7 @@ pub stopped_more : (a b c : Caller) (words : ℕ) (full : Full) → GoesIdle a b
 stopped_more a b c words full g s =
     record {
       idle = idle_more a b c g s.idle;
-      short = s.short;
-      asked = s.asked;
-      lacks = s.lacks;
-      needs = s.needs;
+      left = s.left;
       held = by_table Rebuilds a.token.view b.token.view g.on.gone.went
           (λ pairs words. HeldInnerRow pairs words a.token.view.log c.token.view.log)
           (held_on b.token.view.start b.token.view.words a.token.view.log b.token.view.log
@@ -213,10 +210,12 @@ pub start_stopped : (old new : Caller) (words : ℕ) (full : Full) → GoesIdle 
 start_stopped old new words full g held r lacks =
     record {
       idle = g;
-      short = short_now Begins old.token.view words full new.token.view r.short;
-      asked = r.asked;
-      lacks = lacks_now new g.on.gone.went.sound g.on.gone.caller g.on.gone.refused full.asked lacks;
-      needs = lacks_needed new full.asked lacks r.asked;
+      left = short_now Begins old.token.view words full new.token.view r (λ start. record {
+        start = start;
+        lacks =
+            lacks_now new g.on.gone.went.sound g.on.gone.caller g.on.gone.refused full.asked lacks;
+        needs = lacks_needed new full.asked lacks start;
+      });
       held = held_on old.token.view.start old.token.view.words old.token.view.log old.token.view.log
           old.token.view.log new.token.view.log same_log (later_by-goes_on g.on.gone.went.later) held;
     }

@@ -134,7 +134,4 @@ target_froze old token new words rebuild target keys ready of went f on serves a
         → IfSome (result_err r) (IsHelpShort new.token.view rebuild words)
     cause (Ok h) k = tt
     cause (Err full) k =
-        record {
-          short = short_now ServesRebuild token.view words full new.token.view k.short;
-          asked = k.asked;
-        }
+        short_now ServesRebuild token.view words full new.token.view k (λ asked. asked)

@@ -162,8 +162,7 @@ stop_ends who began new token it r all words same full s old view =
       pass = all_now;
       stopped = record {
         seen = way.has_seen_more who began new token it r r;
-        cause = freeze_refused who began new token it r r words full same s.short s.asked s.lacks
-            s.idle.few s.needs s.held;
+        cause = freeze_refused who began new token it r r words full same s.left s.idle.few s.held;
         unstarted = has_started_none who began new token it s.idle.none;
         calls = way.calls_are who began new token it;
         unrefused = refl;

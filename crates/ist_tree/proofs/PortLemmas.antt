@@ -1,5 +1,5 @@
 -- A port keeps its last refusal, which is one of its pass. Serves the `call` of a port.
-use Rattle.std.proofs.Common.{◌≡◌, ◌≢◌, ℕ, ◌+◌, ◌≤◌, length, Option, Some, None, Result, Ok, Err, IfErr, IfSome, sym, ◌∙◌, subst, inl, inr, ⊎_elim, arith}
+use Rattle.std.proofs.Common.{◌≡◌, ◌≢◌, ℕ, ◌+◌, ◌≤◌, length, Option, Some, None, Result, Ok, Err, IfErr, IfSome, sym, ap, ◌∙◌, subst, inl, inr, ⊎_elim, arith}
 use Rattle.ist_core.specs.declared.commands.Command.{Command}
 use Rattle.ist_core.specs.declared.commands.Command.TheVariants.{Get, Put, Remove}
 use Rattle.ist_core.specs.declared.ports.Full.{Full}
@@ -14,22 +14,33 @@ use Rattle.ist_tree.specs.Calls.{HasSeenMore}
 use Rattle.ist_tree.specs.Faces.{PassFace, TreeFace}
 use Rattle.ist_tree.specs.Insides.{IsPort}
 use Rattle.ist_tree.specs.Updates.{IsTurnedAway}
-use Rattle.ist_tree.specs.Refusals.{IsAskedIn, IsForNode, IsRefused, IsRefusedCall, LeavesTooFew, MayBeAsked, PassWasRefused, for_leaf, for_pair, for_put, for_rebuild, for_remove}
+use Rattle.ist_tree.specs.Refusals.{IsAskedIn, IsForSomeNode, IsRefused, IsRefusedCall, MayBeAsked, PassWasRefused, for_leaf, for_pair, for_put, for_rebuild, for_remove}
+use Rattle.ist_rows.specs.Shortage.{LeavesTooFew}
 use Rattle.ist_tree.proofs.AskedLemmas.{puts_rise}
+use Rattle.ist_tree.proofs.ShortLemmas.{left_same}
 
 -- the size of a node is still one for a pass that has seen more
-node_more : (p q : PassFace) (asked : ℕ) → HasSeenMore p q → IsForNode p asked → IsForNode q asked
+node_more : (p q : PassFace) (asked : ℕ) → HasSeenMore p q → IsForSomeNode p asked
+    → IsForSomeNode q asked
 node_more p q asked m n =
     let rise = puts_rise p.tree.start p.tree.words p.seen q.seen m.seen in
     let most = n.most in
     record {
-      keys = n.keys;
+      some = n.some;
       least = n.least;
       most =
-          subst (λ (t : TreeFace). n.keys ≤ length t.start + puts_in (changes_of t.start t.words
+          subst (λ (t : TreeFace). n.some ≤ length t.start + puts_in (changes_of t.start t.words
           q.seen)) (sym m.tree) (omega arith);
       asked_is = n.asked_is;
     }
+
+-- too few words were left in the table of a pass that has seen more, since it is the same table
+left_in : {A B : ℕ → Type 0} (p q : PassFace) {at : Log} (full : Full) → HasSeenMore p q
+    → LeavesTooFew A p.tree.start p.tree.words at full → (A full.asked → B full.asked)
+    → LeavesTooFew B q.tree.start q.tree.words at full
+left_in p q full m l to =
+    left_same full (ap (λ (t : TreeFace). t.start) (sym m.tree))
+    (ap (λ (t : TreeFace). t.words) (sym m.tree)) l to
 
 -- a refusal that was met before was met by a pass that has seen more
 pub refused_more : (p q : PassFace) (said : Refused) → HasSeenMore p q → PassWasRefused p said
@@ -39,13 +50,10 @@ refused_more p q said m r =
       update = r.update;
       at = r.at;
       until = goes_on_more r.until m.seen;
-      few = subst (λ (t : TreeFace). LeavesTooFew t.start t.words r.at said.full)
-          (sym m.tree) r.few;
-      asked =
-          ⊎_elim (λ a. inl a)
+      left = left_in p q said.full m r.left
+          (⊎_elim (λ a. inl a)
           (λ b. inr (⊎_elim (λ a. inl a)
-          (λ c. inr (⊎_elim (λ a. inl a) (λ n. inr (node_more p q said.full.asked m n)) c)) b))
-          r.asked;
+          (λ c. inr (⊎_elim (λ a. inl a) (λ n. inr (node_more p q said.full.asked m n)) c)) b)));
       began = r.began;
       ended = r.ended;
       call = r.call;
@@ -70,11 +78,9 @@ pub refused_now : (p q : PassFace) (key : ℕ) (value : Option ℕ) (command : C
 refused_now p q key value command full m update is r =
     record {
       update = update;
-      at = r.had.at;
-      until = r.had.until;
-      few = subst (λ (t : TreeFace). LeavesTooFew t.start t.words r.had.at full)
-          (sym m.tree) r.had.few;
-      asked = asked_then p q r.had.at key value full.asked r.asked;
+      at = r.at;
+      until = r.until;
+      left = left_in p q full m r.left (asked_then p q r.at key value full.asked);
       began = p;
       ended = q;
       call = m;

@@ -1,5 +1,5 @@
 -- Refusals, in the words of a pass. Serves `update`.
-use Rattle.std.proofs.Common.{◌≡◌, ℕ, ◌+◌, ◌<◌, ◌≤◌, ◌⊎◌, length, Option, Some, None, sym, ap, ap₂, ◌∙◌, subst, inl, inr, arith}
+use Rattle.std.proofs.Common.{◌≡◌, ℕ, ◌+◌, ◌≤◌, ◌⊎◌, length, Option, Some, None, sym, ap, ap₂, ◌∙◌, subst, inl, inr, arith}
 use Rattle.std.specs.Option.{option_or}
 use Rattle.ist_core.specs.declared.commands.Command.{Command}
 use Rattle.ist_core.specs.declared.ports.Full.{Full}
@@ -7,11 +7,10 @@ use Rattle.ist_core.specs.Changes.{changes_of}
 use Rattle.ist_core.specs.Lawful.{state_of}
 use Rattle.ist_core.specs.Growing.{AllGrow}
 use Rattle.ist_core.specs.Links.{IsChild}
-use Rattle.ist_core.specs.Logs.{Ever}
+use Rattle.ist_core.specs.Logs.{Ever, Log}
 use Rattle.ist_core.specs.Marking.{HasTarget}
 use Rattle.ist_core.specs.Rebuilding.{IsFinishedWith, IsReplaced, IsStarted}
 use Rattle.ist_core.specs.Snapshots.{Snapshot}
-use Rattle.ist_core.specs.Spending.{spent}
 use Rattle.ist_core.specs.StartLayout.{start}
 use Rattle.ist_core.proofs.FateLemmas.{grow_between}
 use Rattle.laws_calls.specs.Finishing.{puts_in}
@@ -25,7 +24,8 @@ use Rattle.ist_rule.specs.Learning.{now}
 use Rattle.ist_rule.proofs.LaterLemmas.{goes_on_more}
 use Rattle.ist_rows.specs.declared.callers.Caller.{Caller}
 use Rattle.laws_stability.proofs.LaterLemmas.{ever_later}
-use Rattle.ist_rebuild.specs.Helping.{IsAskedFor, for_change, for_row}
+use Rattle.ist_rows.specs.Shortage.{LeavesTooFew}
+use Rattle.ist_rebuild.specs.Helping.{IsAskedFor, for_change, for_node}
 use Rattle.ist_rebuild.specs.Lacking.{LacksNow}
 use Rattle.ist_updates.specs.declared.updates.Due.{Due}
 use Rattle.ist_updates.specs.Asking.{Updates}
@@ -34,12 +34,12 @@ use Rattle.ist_updates.specs.Refusals as updates
 use Rattle.ist_updates.proofs.WayLemmas.{met_wider, way_longer}
 use Rattle.ist_tree.specs.Faces.{PassFace}
 use Rattle.ist_tree.specs.Insides.{face_as, pass_face}
-use Rattle.ist_tree.specs.Refusals.{HadTooFew, IsAskedForRow, IsAskedIn, IsForHelp, IsForRebuild, IsInSlotOf, IsOnKeysWay, IsRefused, IsRowRefused, KeepsRowRefusal, LackedAt, LeavesTooFew, for_leaf, for_other, for_own, for_pair, for_put, for_remove, for_rebuild, for_start}
+use Rattle.ist_tree.specs.Refusals.{HadTooFew, IsAskedForRow, IsAskedIn, IsForHelp, IsForRebuild, IsInSlotOf, IsOnKeysWay, IsRefused, IsRowRefused, KeepsRowRefusal, LackedAt, for_leaf, for_other, for_own, for_pair, for_put, for_remove, for_rebuild, for_start}
 use Rattle.ist_tree.specs.Working as working
 use Rattle.laws_histories.proofs.PositionOnLemmas.{position_on}
 use Rattle.ist_tree.proofs.AskedLemmas.{asked_grows, asked_same, lacked_then, puts_rise}
 use Rattle.ist_tree.proofs.GoingLemmas.{lawful_after}
-use Rattle.ist_tree.proofs.ShortLemmas.{due_slot_grows, short_now}
+use Rattle.ist_tree.proofs.ShortLemmas.{due_slot_grows, left_same, short_now}
 use Rattle.ist_tree.proofs.UpdateSeenLemmas.{IsUpdateCall, b_start, b_view, b_words, b_to_w, lawful_w, lawful_x, v_to_b, w_start, w_to_x, w_words, x_start, x_words}
 
 module _ (who began new : Caller) (token : TokenFace) (command : Command)
@@ -65,19 +65,15 @@ module _ (who began new : Caller) (token : TokenFace) (command : Command)
   x = token.view
 
   -- there were too few words at the end of the work
-  abbrev had_too_few : (words : ℕ) (full : Full) → words ≡ v.words
-      → LeavesTooFew w.start words w.log full → HadTooFew before following full
-  had_too_few words full same s =
+  abbrev had_too_few : {A : ℕ → Type 0} {B : Log → ℕ → Type 0} (words : ℕ) (full : Full)
+      → words ≡ v.words → LeavesTooFew A w.start words w.log full
+      → (A full.asked → B w.log full.asked) → HadTooFew B before following full
+  had_too_few words full same s to =
       record {
         at = w.log;
         since = goes_on_more (v_to_b who began new token command it) (b_to_w who began new token command it);
         until = w_to_x who began new token command it;
-        few = record {
-          next_is =
-              s.next_is ∙ ap (λ pairs. spent pairs w.log) (w_start who began new token command it);
-          words_is = s.words_is ∙ same;
-          small = subst (λ n. n < full.next + full.asked) same s.small;
-        };
+        left = left_same full (w_start who began new token command it) same s to;
       }
 
   -- the state after the work, by the pass's table
@@ -90,21 +86,23 @@ module _ (who began new : Caller) (token : TokenFace) (command : Command)
   asked_for_rebuild : (rebuild asked : ℕ) → IsAskedFor (LacksNow w) (now w) rebuild asked
       → IsForRebuild following asked
   asked_for_rebuild rebuild asked (for_change e lacks) = inl e
-  asked_for_rebuild rebuild asked (for_row row k some e fin least le is) =
+  asked_for_rebuild rebuild asked (for_node row k e fin node) =
       let lawful = lawful_w who began new token command it in
       let here = subst (λ t. IsFinishedWith t row.target k) now_w fin in
       let most = finished_few v.start v.words lawful.opens w.log lawful.enabled row.target k here.row
       here.published here.status in
       let rise = puts_rise v.start v.words w.log x.log (w_to_x who began new token command it) in
+      let some = node.some in
+      let le = node.most in
       inr record {
-        keys = some;
-        least = least;
+        some = some;
+        least = node.least;
         most =
             subst (λ words. some ≤ length x.start + puts_in (changes_of x.start words x.log))
             (sym (x_words who began new token command it))
             (subst (λ pairs. some ≤ length pairs + puts_in (changes_of pairs v.words x.log))
             (sym (x_start who began new token command it)) (omega arith));
-        asked_is = is;
+        asked_is = node.asked_is;
       }
 
   -- what is true of the state after the work, and of each that grows from it, is true after the call
@@ -193,9 +191,8 @@ module _ (who began new : Caller) (token : TokenFace) (command : Command)
           published = c.published;
           reached = c.reached;
         };
-        had = had_too_few words full same d.short;
+        had = had_too_few words full same d asked;
         after = c.until;
-        asked = asked d.asked;
       }
     where
       asked : working.IsAskedToRebuild (now began.token.view) w due full.asked
@@ -226,10 +223,12 @@ module _ (who began new : Caller) (token : TokenFace) (command : Command)
       → updates.WasRefused began.token.view key value words full w
       → IsRefused before following key value full
   update_was_refused words key value full same d =
-      record {
-        had = had_too_few words full same (short_now Updates (record began.token.view { searches = w.searches }) words full w d.short);
-        asked = asked value full.asked d.asked;
-      }
+      had_too_few
+      {A = updates.IsAskedBy (record began.token.view { searches = w.searches }) w key value}
+      words full same
+      (short_now Updates (record began.token.view { searches = w.searches }) words full w d
+      (λ for. for))
+      (asked value full.asked)
     where
       asked : (value : Option ℕ) (n : ℕ)
           → updates.IsAskedBy (record began.token.view { searches = w.searches }) w key value n

@@ -1,5 +1,5 @@
 -- What the functions that freeze a tree promise each other: what it meets and what it results in.
-use Rattle.std.specs.Prelude.{◌≡◌, ◌≢◌, ℕ, ◌+◌, ◌≤◌, ◌⊎◌, List, slice_get, Option, Some, None, IfSome}
+use Rattle.std.specs.Prelude.{◌≡◌, ◌≢◌, ℕ, ◌+◌, ◌≤◌, List, slice_get, Option, Some, None, IfSome}
 use Rattle.std.specs.List.{sum}
 use Rattle.ist_core.specs.declared.ports.Full.{Full}
 use Rattle.ist_core.specs.declared.states.RebuildRow.{RebuildRow}
@@ -11,7 +11,7 @@ use Rattle.ist_core.specs.Marking.{HasTarget}
 use Rattle.ist_core.specs.Pieces.{Rebuild}
 use Rattle.ist_core.specs.Rebuilding.{IsFinishedWith, IsReplaced, IsStarted}
 use Rattle.ist_core.specs.References.{InnerAt, Ref}
-use Rattle.ist_core.specs.RowLayout.{anchor, change_words, rebuild_words}
+use Rattle.ist_core.specs.RowLayout.{anchor, change_words}
 use Rattle.ist_core.specs.Shapes.{shape}
 use Rattle.ist_core.specs.Snapshots.{Snapshot}
 use Rattle.ist_layout.specs.declared.references.Ref.TheVariants.{Inner}
@@ -21,7 +21,7 @@ use Rattle.ist_rule.specs.Learning.{now}
 use Rattle.ist_rows.specs.declared.callers.Caller.{Caller}
 use Rattle.ist_rebuild.specs.Helping.{IsAskedFor}
 use Rattle.ist_rebuild.specs.Lacking.{LacksNow}
-use Rattle.ist_rebuild.specs.Starting.{MayStart, StartsDoneBut, StartsDoneSince, StartsNone}
+use Rattle.ist_rebuild.specs.Starting.{IsForStart, MayStart, StartsDoneBut, StartsDoneSince, StartsNone}
 use Rattle.ist_rebuild.specs.Needs.{TakesNeeded, needed}
 use Rattle.ist_tree.specs.declared.freezing.Frozen.{Frozen}
 use Rattle.ist_tree.specs.declared.freezing.FreezeOutcome.{FreezeOutcome}
@@ -31,7 +31,7 @@ use Rattle.ist_tree.specs.Freezing.{HeldInnerRow, WasFrozen, words_of_freeze}
 use Rattle.ist_tree.specs.Working.{Rebuilds, KeepsDone}
 use Rattle.ist_rows.specs.Going.{StaysReady}
 use Rattle.ist_rows.specs.Taken.{HasRunOut, HasTakenFew}
-use Rattle.ist_tree.specs.Refusals.{LeavesTooFew}
+use Rattle.ist_rows.specs.Shortage.{LeavesTooFew}
 
 -- ---- what is below the anchor
 
@@ -129,20 +129,23 @@ HasTakenFewUnless (Some full) n old new = HasRunOut n old new
 
 -- ---- what it results in
 
--- the caller was refused a row, which it lacks, for the start of a rebuild of an inner row that the
--- anchor's slot held, and has started no rebuild
+-- this many words were asked for, for a row of a start that the caller lacks and needs
+pub record IsForNeeded (who : Caller) (asked : ℕ) : Type 0 where
+  pub start : IsForStart asked
+  pub lacks : LacksNow who.token.view asked
+  pub needs : asked ≤ needed who
+
+-- too few words were left for such a row, to rebuild an inner row that the anchor's slot held; the
+-- caller has started no rebuild
 pub record IsFreezeStopped (old new : Caller) (words : ℕ) (full : Full) : Type 0 where
   pub idle : GoesIdle old new
-  pub short : LeavesTooFew new.token.view.start words new.token.view.log full
-  pub asked : (full.asked ≡ rebuild_words) ⊎ (full.asked ≡ change_words)
-  pub lacks : LacksNow new.token.view full.asked
-  pub needs : full.asked ≤ needed new
+  pub left : LeavesTooFew (IsForNeeded new) new.token.view.start words new.token.view.log full
   pub held : let v = old.token.view in HeldInnerRow v.start v.words v.log new.token.view.log
 
 -- too few words were left to help the rebuild
-pub record IsHelpShort (w : View) (rebuild words : ℕ) (full : Full) : Type 0 where
-  pub short : LeavesTooFew w.start words w.log full
-  pub asked : IsAskedFor (LacksNow w) (now w) rebuild full.asked
+abbrev pub IsHelpShort : View → ℕ → ℕ → Full → Type 0
+IsHelpShort w rebuild words full =
+    LeavesTooFew (IsAskedFor (LacksNow w) (now w) rebuild) w.start words w.log full
 
 -- too few words were left to help a rebuild of a row that was the anchor's child since
 pub record IsTopShort (v w : View) (words : ℕ) (full : Full) : Type 0 where

@@ -18,7 +18,7 @@ use Rattle.ist_core.specs.Slots.{SlotHolds}
 use Rattle.ist_core.specs.Snapshots.{Snapshot}
 use Rattle.laws_calls.specs.Freezing.{WereThePairs}
 use Rattle.ist_layout.specs.Meanings.{ref_meant}
-use Rattle.ist_rebuild.specs.Starting.{StartsNone}
+use Rattle.ist_rebuild.specs.Starting.{IsForStart, StartsNone}
 use Rattle.ist_rows.specs.Taken.{RanOut, taken_by}
 use Rattle.ist_tree.specs.declared.freezing.Frozen.{Frozen}
 use Rattle.ist_tree.specs.Faces.{PassFace}
@@ -120,15 +120,18 @@ pub record HeldInnerRow (pairs : List Pair) (words : ℕ) (earlier log : Log) : 
   pub row : ℕ
   pub holds : SlotHolds (state_of pairs words at) anchor 0 (word_of (InnerAt row))
 
--- the freeze couldn't start its rebuild: the anchor's slot held an inner row at a step of this call,
--- and too few words were left for the rebuild's row or its change, of which the pass had none. What
--- the pass took in the call and what it asked for are together no more words than these rows have
-pub record IsFreezeRefused (p q : PassFace) (full : Full) : Type 0 where
-  pub had : HadTooFew p q full
-  pub asked : (full.asked ≡ rebuild_words) ⊎ (full.asked ≡ change_words)
-  pub lacked : LackedAt q had.at full.asked
-  pub few : taken_by p.number q.seen + full.asked
+-- this many words were asked for after this log for a row of a start, of which the pass had none.
+-- What it took in the call and what it asked for are together no more words than these rows have
+pub record IsAskedToFreeze (p q : PassFace) (at : Log) (asked : ℕ) : Type 0 where
+  pub start : IsForStart asked
+  pub lacked : LackedAt q at asked
+  pub few : taken_by p.number q.seen + asked
       ≤ taken_by p.number p.seen + (rebuild_words + change_words)
+
+-- the freeze couldn't start its rebuild: the anchor's slot held an inner row at a step of this call,
+-- and too few words were left for the rebuild's row or its change
+pub record IsFreezeRefused (p q : PassFace) (full : Full) : Type 0 where
+  pub had : HadTooFew (IsAskedToFreeze p q) p q full
   pub held : HeldInnerRow p.tree.start p.tree.words p.seen q.seen
 
 -- too few words were left in this call to help this rebuild of the row, and the pass keeps this
@@ -137,7 +140,7 @@ pub record IsLeftShort (p q : PassFace) (row rebuild : ℕ) : Type 0 where
   pub full : Full
   pub cause : IsTopRefused p q full
   pub row_is : cause.row ≡ row
-  pub rebuild_is : cause.asked.rebuild ≡ rebuild
+  pub rebuild_is : cause.had.left.few.asked.rebuild ≡ rebuild
   pub kept : q.refused ≡ kept_refusal p.refused full
 
 -- a rebuild of this row was started, and was replaced, or too few words were left in this call to

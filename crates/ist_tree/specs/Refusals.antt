@@ -1,12 +1,10 @@
 -- Why a put or a remove is refused, and why the rebuild after one is refused.
-use Rattle.std.specs.Prelude.{◌≡◌, ◌≢◌, ℕ, ◌+◌, ◌*◌, ◌<◌, ◌≤◌, ◌⊎◌, List, ◌∷◌, length, Option, Some, None}
+use Rattle.std.specs.Prelude.{◌≡◌, ◌≢◌, ℕ, ◌+◌, ◌⊎◌, ◌∷◌, length, Option, Some, None}
 use Rattle.ist_core.specs.declared.commands.Command.{Command}
 use Rattle.ist_core.specs.declared.commands.Command.TheVariants.{Get}
 use Rattle.ist_core.specs.declared.events.Event.TheVariants.{Count}
-use Rattle.ist_core.specs.declared.pairs.Pair.{Pair}
 use Rattle.ist_core.specs.declared.ports.Full.{Full}
 use Rattle.ist_core.specs.declared.states.RebuildRow.{RebuildRow}
-use Rattle.ist_core.specs.Arithmetic.{degree}
 use Rattle.ist_core.specs.Lawful.{state_of}
 use Rattle.ist_core.specs.Links.{IsChild}
 use Rattle.ist_core.specs.Logs.{Ever, Log, GoesOn}
@@ -14,14 +12,16 @@ use Rattle.ist_core.specs.Marking.{HasTarget}
 use Rattle.ist_core.specs.Pieces.{Rebuild}
 use Rattle.ist_core.specs.Rebuilding.{IsStarted, IsReplaced}
 use Rattle.ist_core.specs.Replies.{Refused}
-use Rattle.ist_core.specs.RowLayout.{anchor, leaf_words, pair_words, change_words, rebuild_words}
-use Rattle.ist_core.specs.Spending.{spent}
+use Rattle.ist_core.specs.RowLayout.{anchor, leaf_words, pair_words, change_words}
 use Rattle.ist_core.specs.StartLayout.{start}
 use Rattle.laws_calls.specs.Finishing.{puts_in}
 use Rattle.laws_histories.specs.Searching.{HasPosition}
 use Rattle.laws_calls.specs.Settling.{StartsAreDone}
+use Rattle.ist_rows.specs.Shortage.{LeavesTooFew, LeftTooFew}
+use Rattle.ist_build.specs.Laying.{IsForNode}
 use Rattle.ist_rebuild.specs.Helping.{IsAskedFor}
 use Rattle.ist_rebuild.specs.Lacking.{LacksRow}
+use Rattle.ist_rebuild.specs.Starting.{IsForStart}
 use Rattle.ist_updates.specs.Asking.{command_for}
 use Rattle.ist_updates.specs.Counting.{CameToLimit}
 use Rattle.ist_updates.specs.Refusals.{IsOnWay, MetOtherLeaf}
@@ -30,33 +30,21 @@ use Rattle.ist_tree.specs.Faces.{PassFace, changes_seen}
 
 -- ---- how many words there were
 
--- after this log `next` of a table's words were spent, and fewer were left than were asked for
-pub record LeavesTooFew (pairs : List Pair) (words : ℕ) (at : Log) (full : Full) : Type 0 where
-  pub next_is : full.next ≡ spent pairs at
-  pub words_is : full.words ≡ words
-  pub small : words < full.next + full.asked
-
--- too few words were left after some log, which goes on from what the pass had seen before a call,
--- and which it had seen by the end of the call
-pub record HadTooFew (p q : PassFace) (full : Full) : Type 0 where
-  pub at : Log
-  pub since : GoesOn p.seen at
-  pub until : GoesOn at q.seen
-  pub few : LeavesTooFew p.tree.start p.tree.words at full
+-- too few words were left for what `Asks` says after some log, which goes on from what the pass had
+-- seen before a call, and which it had seen by the end of the call
+abbrev pub HadTooFew : (Log → ℕ → Type 0) → PassFace → PassFace → Full → Type 0
+HadTooFew Asks p q full = LeftTooFew Asks p.tree.start p.tree.words p.seen q.seen full
 
 -- ---- how many were asked for
 
 -- `asked` is the size of a node over at least two keys, and over no more keys than there were pairs
 -- at the opening and puts since, together
-pub record IsForNode (p : PassFace) (asked : ℕ) : Type 0 where
-  pub keys : ℕ
-  pub least : 2 ≤ keys
-  pub most : keys ≤ length p.tree.start + puts_in (changes_seen p)
-  pub asked_is : asked ≡ 2 * degree keys + 3
+abbrev pub IsForSomeNode : PassFace → ℕ → Type 0
+IsForSomeNode p = IsForNode (length p.tree.start + puts_in (changes_seen p))
 
 -- helping a rebuild asks for this many words at a time: the size of a change, or of a node
 abbrev pub IsForRebuild : PassFace → ℕ → Type 0
-IsForRebuild p asked = (asked ≡ change_words) ⊎ IsForNode p asked
+IsForRebuild p asked = (asked ≡ change_words) ⊎ IsForSomeNode p asked
 
 -- a rebuild was started by the end of a call, and hadn't been replaced when the call began
 pub record HasMetRebuild (p q : PassFace) : Type 0 where
@@ -100,9 +88,8 @@ pub data IsAskedIn (p q : PassFace) (at : Log) (key : ℕ) : Option ℕ → ℕ 
 
 -- a put of the value at the key, or a remove of the key if there is no value, was refused because
 -- too few words were left
-pub record IsRefused (p q : PassFace) (key : ℕ) (value : Option ℕ) (full : Full) : Type 0 where
-  pub had : HadTooFew p q full
-  pub asked : IsAskedIn p q had.at key value full.asked
+abbrev pub IsRefused : PassFace → PassFace → ℕ → Option ℕ → Full → Type 0
+IsRefused p q key value full = HadTooFew (λ at. IsAskedIn p q at key value) p q full
 
 -- ---- refusals of a rebuild
 
@@ -124,8 +111,7 @@ pub record IsInSlotOf (q : PassFace) (rebuild row : ℕ) : Type 0 where
 -- this many words were asked for after this log to rebuild a row: for the start's rebuild row or
 -- change, which the pass lacked; or to help its rebuild, or another that the call met in its slot
 pub data IsAskedForRow (p q : PassFace) (at : Log) (row asked : ℕ) : Type 0 where
-  for_start : (asked ≡ rebuild_words) ⊎ (asked ≡ change_words) → LackedAt q at asked
-      → IsAskedForRow p q at row asked
+  for_start : IsForStart asked → LackedAt q at asked → IsAskedForRow p q at row asked
   for_own : IsForRebuildOf q at row asked → IsAskedForRow p q at row asked
   for_other : (met : HasMetRebuild p q) → IsInSlotOf q met.rebuild row → IsForRebuild q asked
       → IsForHelp q at met.rebuild asked → IsAskedForRow p q at row asked
@@ -134,9 +120,8 @@ pub data IsAskedForRow (p q : PassFace) (at : Log) (row asked : ℕ) : Type 0 wh
 -- were left to rebuild the row
 pub record IsRowRefused (p q : PassFace) (row : ℕ) (full : Full) : Type 0 where
   pub came : CameToLimit p.tree.start p.tree.words p.seen q.seen p.number row
-  pub had : HadTooFew p q full
+  pub had : HadTooFew (λ at. IsAskedForRow p q at row) p q full
   pub after : GoesOn (Count p.number row ∷ came.at) had.at
-  pub asked : IsAskedForRow p q had.at row full.asked
 
 -- a pass keeps its refusal of a rebuild, and a new one is of a row that reached its limit in
 -- this put or remove
@@ -153,8 +138,7 @@ pub record IsTopRefused (p q : PassFace) (full : Full) : Type 0 where
   pub since : GoesOn p.seen at
   pub until : GoesOn at q.seen
   pub child : IsChild (state_of p.tree.start p.tree.words at) anchor 0 row
-  pub had : HadTooFew p q full
-  pub asked : IsForRebuildOf q had.at row full.asked
+  pub had : HadTooFew (λ at. IsForRebuildOf q at row) p q full
 
 -- a pass keeps its refusal of a rebuild, and a new one is of what was below the anchor in this
 -- freeze
@@ -182,7 +166,7 @@ pub record IsRefusedCall (p q : PassFace) (command : Command) (full : Full) : Ty
 -- or a node
 abbrev pub MayBeAsked : PassFace → ℕ → Type 0
 MayBeAsked p asked =
-    (asked ≡ leaf_words) ⊎ ((asked ≡ pair_words) ⊎ ((asked ≡ change_words) ⊎ IsForNode p asked))
+    (asked ≡ leaf_words) ⊎ ((asked ≡ pair_words) ⊎ ((asked ≡ change_words) ⊎ IsForSomeNode p asked))
 
 -- a put or a remove of the pass was refused with these numbers, after a log that the pass has seen:
 -- it began when the pass had seen what `began` says, and ended when it had seen what `ended` says
@@ -190,8 +174,7 @@ pub record PassWasRefused (p : PassFace) (said : Refused) : Type 0 where
   pub update : (key : ℕ) → said.command ≢ Get key
   pub at : Log
   pub until : GoesOn at p.seen
-  pub few : LeavesTooFew p.tree.start p.tree.words at said.full
-  pub asked : MayBeAsked p said.full.asked
+  pub left : LeavesTooFew (MayBeAsked p) p.tree.start p.tree.words at said.full
   pub began : PassFace
   pub ended : PassFace
   pub call : HasSeenMore began ended

@@ -14,7 +14,6 @@ use Rattle.ist_core.specs.Marking.{HasTarget}
 use Rattle.ist_core.specs.Pieces.{Rebuild}
 use Rattle.ist_core.specs.Rebuilding.{IsReplaced, IsStarted, IsUpdate}
 use Rattle.ist_core.specs.References.{ChangeAt, RebuildAt, Ref, ref_of}
-use Rattle.ist_core.specs.RowLayout.{change_words, rebuild_words}
 use Rattle.ist_core.specs.Slots.{IsOpen}
 use Rattle.ist_core.specs.Snapshots.{Snapshot}
 use Rattle.ist_core.specs.Standing.{makes_entry}
@@ -32,7 +31,7 @@ use Rattle.ist_build.specs.Calls.{IsBuildable}
 use Rattle.ist_rows.specs.Going.{IsQuiet, IsReady}
 use Rattle.ist_rebuild.specs.Helping.{IsAskedFor}
 use Rattle.ist_rebuild.specs.Lacking.{LacksNow}
-use Rattle.ist_rebuild.specs.Starting.{StartsDoneSince, StartsNone}
+use Rattle.ist_rebuild.specs.Starting.{IsForStart, StartsDoneSince, StartsNone}
 use Rattle.ist_updates.specs.declared.updates.Due.{Due}
 use Rattle.ist_updates.specs.Asking.{MayEnd, Updates}
 use Rattle.ist_updates.specs.Counting.{CountedNowhere, IsCounted, CameToLimit, LeavesDue}
@@ -40,7 +39,7 @@ use Rattle.ist_updates.specs.Further.{HasWalkedFew}
 use Rattle.ist_tree.specs.declared.rebuilding.Instead.{Instead}
 use Rattle.ist_tree.specs.declared.rebuilding.Instead.TheVariants.{Rebuild, Change, Other}
 use Rattle.ist_tree.specs.DueRows.{InstallsDue}
-use Rattle.ist_tree.specs.Refusals.{LeavesTooFew}
+use Rattle.ist_rows.specs.Shortage.{LeavesTooFew}
 
 -- ---- how a caller goes on
 
@@ -102,8 +101,7 @@ pub record IsInDueSlot (t : Snapshot) (rebuild : ℕ) (due : Due) : Type 0 where
 -- lacks; for helping a rebuild of it; or for helping another rebuild in its slot, which hadn't been
 -- replaced in the earlier state
 pub data IsAskedToRebuild (s : Snapshot) (w : View) (due : Due) (asked : ℕ) : Type 0 where
-  for_start : (asked ≡ rebuild_words) ⊎ (asked ≡ change_words) → LacksNow w asked
-      → IsAskedToRebuild s w due asked
+  for_start : IsForStart asked → LacksNow w asked → IsAskedToRebuild s w due asked
   for_own : (rebuild : ℕ) → IsStarted (now w) rebuild → HasTarget (now w) rebuild due.target
       → IsAskedFor (LacksNow w) (now w) rebuild asked → IsAskedToRebuild s w due asked
   for_other : (rebuild : ℕ) → IsStarted (now w) rebuild → ¬ (IsReplaced s rebuild)
@@ -111,9 +109,9 @@ pub data IsAskedToRebuild (s : Snapshot) (w : View) (due : Due) (asked : ℕ) : 
       → IsAskedToRebuild s w due asked
 
 -- the rebuild of the due row was refused because too few words were left
-pub record IsDueRefused (s : Snapshot) (w : View) (due : Due) (words : ℕ) (full : Full) : Type 0 where
-  pub short : LeavesTooFew w.start words w.log full
-  pub asked : IsAskedToRebuild s w due full.asked
+abbrev pub IsDueRefused : Snapshot → View → Due → ℕ → Full → Type 0
+IsDueRefused s w due words full =
+    LeavesTooFew (IsAskedToRebuild s w due) w.start words w.log full
 
 -- ---- an update
 

@@ -14,7 +14,7 @@ use Rattle.ist_updates.specs.declared.plans.PlannedChange.{PlannedChange}
 use Rattle.ist_updates.specs.declared.plans.SlotPlan.{SlotPlan}
 use Rattle.ist_updates.specs.Answering.{HasCarried, HasChanged}
 use Rattle.ist_updates.specs.Asking.{IsAsked}
-use Rattle.ist_updates.specs.Changing.{Prepares, MayReplace, IsWayRefused, command_by}
+use Rattle.ist_updates.specs.Changing.{Prepares, MayAskFor, MayReplace, IsRowShort, command_by}
 use Rattle.ist_updates.specs.Trying.{Tries}
 use Rattle.ist_updates.proofs.AskedLemmas.{asked_gone, asked_quiet}
 use Rattle.ist_updates.proofs.AfterLemmas.{after_loads, after_went}
@@ -47,7 +47,7 @@ module _ (old : Caller) (aim : Aim) (x : SlotPlan) (a : IsAsked old (command_by 
 
   -- a change for which the table had too few words
   pub refused_changed : (words : ℕ) (new : Caller) (full : Full) → HasGone Prepares old new
-      → IsWayRefused old.token.view x words full new.token.view
+      → IsRowShort (MayAskFor x) old.token.view words full new.token.view
       → HasChanged old aim x words (Err full) new
   refused_changed words new full gone refused =
       let still = still_asked new gone in

@@ -1,5 +1,5 @@
 -- A change or a rebuild in the slot, and its help. Serves `help_change` and `help_target`.
-use Rattle.std.proofs.Common.{◌≡◌, ◌≢◌, ℕ, Option, Some, sym, ap, ◌∙◌, subst}
+use Rattle.std.proofs.Common.{◌≡◌, ℕ, Option, Some, sym, ap, subst}
 use Rattle.ist_core.specs.declared.ports.Full.{Full}
 use Rattle.ist_core.specs.Rebuilding.{IsStarted, IsReplaced}
 use Rattle.ist_core.specs.References.{RebuildAt, ref_of}
@@ -21,7 +21,7 @@ use Rattle.ist_updates.specs.Asking.{command_for, IsAsked, Updates}
 use Rattle.ist_updates.specs.Refusals.{IsOnWay, IsUpdateRefused, for_rebuild}
 use Rattle.ist_updates.specs.Trying.{BeganSince, IsAtSlot}
 use Rattle.ist_updates.proofs.StepLemmas.{tries_updates, serves_tries}
-use Rattle.ist_updates.proofs.ShortLemmas.{short_after, short_all}
+use Rattle.ist_updates.proofs.ShortLemmas.{short_wider}
 use Rattle.ist_updates.proofs.WayLemmas.{slot_on_way, way_longer}
 
 -- ---- rebuilds
@@ -60,21 +60,18 @@ module _ (v : View) (s : IsSound v) (key node index word rebuild : ℕ)
       → IsHelpRefused v rebuild words full w → (first : View) → BeganSince first v
       → IsUpdateRefused first key value words full w
   help_refused value words full w r first began =
-      let went = went_more ServesRebuild v r.short.before w r.short.seen
-      (looked_went ServesRebuild r.short.before _ _ w r.short.looked) in
-      record {
-        short = short_after Updates first v words full w began.went
-            (short_all ServesRebuild Updates (λ e h. tries_updates e (serves_tries e h)) v words full w
-            r.short);
-        asked = for_rebuild rebuild
-            (started_grows (now v) (now w) (went_grow ServesRebuild v w went) rebuild slot_started)
-            (λ replaced. slot_unreplaced (replaced_grows (now first) (now v)
-            (went_grow Updates first v began.went) rebuild replaced))
-            (subst (λ (y : View). IsOnWay y.start y.words w.log key rebuild) began.went.same
-            (way_longer v.start v.words v.log w.log (went_lawful ServesRebuild v w went)
-            (later_by-goes_on went.later) key rebuild
-            (slot_on_way v s key node index word rebuild at named))) r.asked;
-      }
+      let went = went_more ServesRebuild v r.before w r.seen
+      (looked_went ServesRebuild r.before _ _ w r.looked) in
+      short_wider ServesRebuild Updates (λ e h. tries_updates e (serves_tries e h)) first v words full
+      w began.went r
+      (for_rebuild rebuild
+      (started_grows (now v) (now w) (went_grow ServesRebuild v w went) rebuild slot_started)
+      (λ replaced. slot_unreplaced (replaced_grows (now first) (now v)
+      (went_grow Updates first v began.went) rebuild replaced))
+      (subst (λ (y : View). IsOnWay y.start y.words w.log key rebuild) began.went.same
+      (way_longer v.start v.words v.log w.log (went_lawful ServesRebuild v w went)
+      (later_by-goes_on went.later) key rebuild
+      (slot_on_way v s key node index word rebuild at named))))
 
 -- ---- a refused try
 

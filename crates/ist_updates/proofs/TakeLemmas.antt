@@ -4,7 +4,7 @@ use Rattle.ist_core.specs.declared.ports.Full.{Full}
 use Rattle.ist_rule.specs.declared.view.View.{View}
 use Rattle.ist_rule.specs.Learning.{now, GoesOnTo}
 use Rattle.ist_rule.specs.Rule.{IsSound}
-use Rattle.ist_rule.proofs.GoingOnLemmas.{goes_on_same, goes_on_more, looked_goes_on}
+use Rattle.ist_rule.proofs.GoingOnLemmas.{goes_on_same}
 use Rattle.ist_rule.proofs.LaterLemmas.{later-goes_on}
 use Rattle.ist_rule.proofs.WentOnLemmas.{goes_on_went}
 use Rattle.ist_rows.specs.declared.callers.Caller.{Caller}
@@ -21,7 +21,7 @@ use Rattle.ist_rows.specs.Going.{HasGone}
 use Rattle.ist_rows.proofs.ReserveLemmas.{reserved_went, took}
 use Rattle.ist_rows.proofs.SpareTakenLemmas.{refused_as, refused_beside}
 use Rattle.ist_rows.proofs.GoneLemmas.{loads_gone}
-use Rattle.ist_rows.proofs.ShortLemmas.{short_from}
+use Rattle.ist_rows.proofs.ShortLemmas.{short_from, short_goes_on}
 
 -- a row that was reserved lies above all that was used before
 reserved_high : (v : View) (number base size : ℕ) (w : View) → Reserved v number base size w
@@ -54,7 +54,7 @@ pub record HasTakenKind (old new : Caller) (kind : Kind) (words : ℕ) (answer :
   pub high : IfOk answer (λ base. (row_of kind (spares_of old) ≡ Some base)
       ⊎ ((now old.token.view).next ≤ base))
   pub full : IfErr answer (λ full.
-      IsRowShort old.token.view (kind_words kind) words full new.token.view)
+      IsRowShort (λ asked. asked ≡ kind_words kind) old.token.view words full new.token.view)
 
 -- a row that was there is the row of its kind
 with_same : (own : Spares) (kind : Kind) (base : ℕ) → row_of kind own ≡ Some base
@@ -77,8 +77,7 @@ module _ (old new : Caller) (kind : Kind) (words : ℕ) (c : IsCaller old) (refu
       → IsKindRefused words kind old new full → HasGone Prepares old new
   gone_refused caller number full f =
       let v = old.token.view in
-      let g = goes_on_more v f.cause.short.before new.token.view f.cause.short.seen
-      (looked_goes_on f.cause.short.before _ _ new.token.view f.cause.short.looked) in
+      let g = short_goes_on v words full new.token.view f.cause in
       let it = loads_gone Prepares old new.token c refused g in
       record {
         caller = caller;
@@ -131,13 +130,13 @@ module _ (old new : Caller) (kind : Kind) (words : ℕ) (c : IsCaller old) (refu
         held = tt;
         rows = tt;
         high = tt;
-        full = record {
-          short = short_from GoesOnTo (WentOn Prepares) old.token.view old.token.view
-              (λ x. goes_on_went Prepares old.token.view x) words full new.token.view f.cause.short;
-          asked = f.cause.asked;
-          lacks = lacks_now new gone.went.sound caller gone.refused full.asked
-              (refused_lacks words kind old new full f);
-        };
+        full = short_from GoesOnTo (WentOn Prepares) old.token.view old.token.view
+            (λ x. goes_on_went Prepares old.token.view x) words full new.token.view f.cause
+            (λ is. (
+              is,
+              lacks_now new gone.went.sound caller gone.refused full.asked
+                  (refused_lacks words kind old new full f),
+            ));
       }
 
   -- so the taken row promises

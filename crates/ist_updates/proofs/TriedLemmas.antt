@@ -27,7 +27,7 @@ use Rattle.ist_find.specs.Reads.{HasLooked, TellsValue}
 use Rattle.ist_find.proofs.LoadLemmas.{goes_length, shown_load}
 use Rattle.ist_find.proofs.LookLemmas.{word_looked}
 use Rattle.ist_find.proofs.SearchLemmas.{has_found}
-use Rattle.ist_rows.specs.Rows.{RanShort}
+use Rattle.ist_rows.specs.Shortage.{RanShort}
 use Rattle.ist_rebuild.specs.Lacking.{LacksNow}
 use Rattle.ist_updates.specs.declared.plans.Aim.{Aim}
 use Rattle.ist_rule.specs.Faces.{TokenFace}
@@ -36,11 +36,11 @@ use Rattle.ist_updates.specs.declared.updates.Outcome.{Outcome}
 use Rattle.ist_updates.specs.declared.updates.Outcome.TheVariants.{Took, Nothing, Unmet}
 use Rattle.ist_updates.specs.Answering.{IsTried, IsTryRefused}
 use Rattle.ist_updates.specs.Asking.{command_for, IsAsked, Updates}
-use Rattle.ist_updates.specs.Changing.{WasAtSlot, Prepares}
+use Rattle.ist_updates.specs.Changing.{IsRowShort, WasAtSlot, Prepares}
 use Rattle.ist_updates.specs.Refusals.{IsUpdateRefused, MetOtherLeaf, for_leaf, for_pair, for_put, for_remove}
 use Rattle.ist_updates.specs.Trying.{BeganSince, HasFoundNone}
 use Rattle.ist_updates.proofs.AskedLemmas.{asked_gone}
-use Rattle.ist_updates.proofs.ShortLemmas.{short_after, short_all}
+use Rattle.ist_updates.proofs.ShortLemmas.{short_wider}
 use Rattle.ist_rows.proofs.GoneLemmas.{loads_gone}
 use Rattle.ist_updates.proofs.StepLemmas.{prepares_none, prepares_updates}
 use Rattle.ist_updates.proofs.SinceLemmas.{taken_since}
@@ -130,30 +130,32 @@ IsPutFor first w key asked = (asked ≡ leaf_words)
     ⊎ (((asked ≡ pair_words) × MetOtherLeaf first.start first.words first.log w.log key)
     ⊎ (asked ≡ change_words))
 
-module _ (first v w : View) (words : ℕ) (full : Full) (began : BeganSince first v)
-    (short : RanShort (WentOn Prepares) v words full w) (lacks : LacksNow w full.asked) where
-  short_since : RanShort (WentOn Updates) first words full w
-  short_since =
-      short_after Updates first v words full w began.went
-      (short_all Prepares Updates prepares_updates v words full w short)
+module _ (first v w : View) (words : ℕ) (full : Full) (began : BeganSince first v) {A : ℕ → Type 0}
+    (short : IsRowShort A v words full w) where
+  lacks : LacksNow w full.asked
+  lacks = short.few.asked.1
+
+  -- it was refused since the search began, for what an update asks for
+  short_since : {B : ℕ → Type 0} → B full.asked → RanShort (WentOn Updates) B first words full w
+  short_since asked =
+      short_wider Prepares Updates prepares_updates first v words full w began.went short (λ for. asked)
 
   -- a put is refused
   pub put_refused : (key value : ℕ) → IsPutFor first w key full.asked
       → IsUpdateRefused first key (Some value) words full w
   put_refused key value asked =
-      record {
-        short = short_since;
-        asked = ⊎_elim (λ e. for_leaf e lacks)
-            (λ k. ⊎_elim (λ e. for_pair e.0 lacks e.1) (λ e. for_put e lacks) k) asked;
-      }
+      short_since (⊎_elim (λ e. for_leaf e lacks)
+      (λ k. ⊎_elim (λ e. for_pair e.0 lacks e.1) (λ e. for_put e lacks) k) asked)
 
   -- a remove of a key that was found is refused
   pub remove_refused : (key node found : ℕ) → full.asked ≡ change_words
       → Searched v.start v.words v.log key v.loads.since node (Some found)
       → IsUpdateRefused first key None words full w
   remove_refused key node found asked searched =
-      let went = went_more Updates first short_since.before w short_since.seen
-      (looked_went Updates short_since.before next_place full.next w short_since.looked) in
+      let ran : RanShort (WentOn Updates) (λ n. n ≡ change_words) first words full w
+      = short_since asked in
+      let went = went_more Updates first ran.before w ran.seen
+      (looked_went Updates ran.before next_place full.next w ran.looked) in
       let lawful = went_lawful Updates first w went in
       let last = went_more Prepares v short.before w short.seen
       (looked_went Prepares short.before next_place full.next w short.looked) in
@@ -168,16 +170,13 @@ module _ (first v w : View) (words : ℕ) (full : Full) (began : BeganSince firs
       subst (λ l. GoesOn l (log_at w.log v.loads.since))
       (at_prefix first.log w.log (later_by-goes_on went.later))
       (at_rises w.log (length first.log) v.loads.since began.since) in
-      record {
-        short = short_since;
-        asked = for_remove found record {
-          position = position.position;
-          from = le_trans (changes_rise (start first.start first.words) first.log
-              (log_at w.log v.loads.since) since) position.from;
-          to = position.to;
-          value_is = position.value_is;
-        } asked lacks;
-      }
+      short_since (for_remove found record {
+        position = position.position;
+        from = le_trans (changes_rise (start first.start first.words) first.log
+            (log_at w.log v.loads.since) since) position.from;
+        to = position.to;
+        value_is = position.value_is;
+      } asked lacks)
 
 -- ---- after loads
 

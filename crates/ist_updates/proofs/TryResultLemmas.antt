@@ -141,8 +141,8 @@ module _ {old new : Caller} {aim : Aim} {x : SlotPlan} {words : ℕ} where
       refused_tried old new aim value words full h.on.gone record {
         still = subst (IsAsked new) is h.still;
         cause = λ first began. subst (λ o. IsUpdateRefused first aim.key o words full new.token.view)
-            (sym put) (put_refused first old.token.view new.token.view words full began h.full.short
-            h.full.lacks aim.key given (asks first began h.full.asked));
+            (sym put) (put_refused first old.token.view new.token.view words full began h.full
+            aim.key given (asks first began h.full.few.asked.0));
       }
 
 -- the table had too few words for the change of a remove
@@ -155,7 +155,7 @@ remove_unchanged {old} {new} {aim} {words} {full} found h searched =
     refused_tried old new aim None words full h.on.gone record {
       still = h.still;
       cause = λ first began. remove_refused first old.token.view new.token.view words full began
-          h.full.short h.full.lacks aim.key aim.node found h.full.asked searched;
+          h.full aim.key aim.node found h.full.few.asked.0 searched;
     }
 
 -- ---- after loads

@@ -15,7 +15,7 @@ use Rattle.ist_updates.specs.declared.plans.SlotPlan.{SlotPlan}
 use Rattle.ist_updates.specs.declared.updates.Outcome.{Outcome}
 use Rattle.ist_updates.specs.declared.updates.Outcome.TheVariants.{Took, Nothing, Unmet}
 use Rattle.ist_updates.specs.Asking.{command_for, IsAsked}
-use Rattle.ist_updates.specs.Changing.{command_by, IsWayRefused}
+use Rattle.ist_updates.specs.Changing.{command_by, MayAskFor, IsRowShort}
 use Rattle.ist_updates.specs.Further.{HasAimed}
 use Rattle.ist_updates.specs.Refusals.{IsUpdateRefused}
 use Rattle.ist_updates.specs.Trying.{Tries, BeganSince, HasFoundNone, HasTakenEffect}
@@ -46,7 +46,8 @@ pub record HasChanged (old : Caller) (aim : Aim) (w : SlotPlan) (words : ℕ) (r
   pub further : result ≡ Ok false → (first : View)
       → HasAimed first old.token.view aim.node aim.index aim.word → CameFurther first new.token.view
   pub still : IfErr result (λ full. IsAsked new (command_by aim.key w))
-  pub full : IfErr result (λ full. IsWayRefused old.token.view w words full new.token.view)
+  pub full : IfErr result (λ full.
+      IsRowShort (MayAskFor w) old.token.view words full new.token.view)
 
 -- ---- a try
 

@@ -24,7 +24,8 @@ use Rattle.ist_rows.specs.declared.callers.Caller.{Caller}
 use Rattle.ist_rows.specs.declared.kinds.Kind.{Kind}
 use Rattle.ist_rows.specs.declared.kinds.Kind.TheVariants as kind
 use Rattle.ist_rows.specs.CallerLaws.{AreBasesOf}
-use Rattle.ist_rows.specs.Rows.{spares_of, RanShort}
+use Rattle.ist_rows.specs.Rows.{spares_of}
+use Rattle.ist_rows.specs.Shortage.{RanShort}
 use Rattle.ist_dcss.specs.Installing.{Filling, rows_of}
 use Rattle.ist_rebuild.specs.Lacking.{LacksNow}
 use Rattle.ist_updates.specs.Trying.{IsAtSlot}
@@ -75,17 +76,11 @@ MayAskFor (way.Leaf value) asked = (asked ≡ leaf_words) ⊎ (asked ≡ change_
 MayAskFor (way.Pair value other other_key) asked =
     (asked ≡ leaf_words) ⊎ ((asked ≡ pair_words) ⊎ (asked ≡ change_words))
 
--- the table had too few words for a row of this size, which the caller lacks
-pub record IsRowShort (v : View) (size words : ℕ) (full : Full) (x : View) : Type 0 where
-  pub short : RanShort (WentOn Prepares) v words full x
-  pub asked : full.asked ≡ size
-  pub lacks : LacksNow x full.asked
-
--- the table had too few words for one of the rows, which the caller lacks
-pub record IsWayRefused (v : View) (w : SlotPlan) (words : ℕ) (full : Full) (x : View) : Type 0 where
-  pub short : RanShort (WentOn Prepares) v words full x
-  pub asked : MayAskFor w full.asked
-  pub lacks : LacksNow x full.asked
+-- too few words were left for a row that the caller lacks, of whose size `For` holds; until then the
+-- caller took rows or gave them up
+abbrev pub IsRowShort : (ℕ → Type 0) → View → ℕ → Full → View → Type 0
+IsRowShort For v words full x =
+    RanShort (WentOn Prepares) (λ asked. For asked × LacksNow x asked) v words full x
 
 -- ---- plans
 

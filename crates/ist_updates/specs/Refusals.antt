@@ -16,7 +16,7 @@ use Rattle.ist_core.specs.StartLayout.{start}
 use Rattle.laws_histories.specs.Searching.{HasPosition}
 use Rattle.ist_rule.specs.declared.view.View.{View}
 use Rattle.ist_rule.specs.Learning.{now}
-use Rattle.ist_rows.specs.Rows.{RanShort}
+use Rattle.ist_rows.specs.Shortage.{RanShort}
 use Rattle.ist_rebuild.specs.Helping.{IsAskedFor}
 use Rattle.ist_rebuild.specs.Lacking.{LacksNow}
 use Rattle.ist_updates.specs.Asking.{Updates}
@@ -66,11 +66,10 @@ pub data IsAskedBy (v w : View) (key : ℕ) : Option ℕ → ℕ → Type 0 wher
       → ¬ (IsReplaced (now v) rebuild) → IsOnWay v.start v.words w.log key rebuild
       → IsAskedFor (LacksNow w) (now w) rebuild asked → IsAskedBy v w key value asked
 
--- a load of the first word, the last step of the call, left too few words for what was asked for
-pub record IsUpdateRefused (v : View) (key : ℕ) (value : Option ℕ) (words : ℕ) (full : Full) (w : View)
-    : Type 0 where
-  pub short : RanShort (WentOn Updates) v words full w
-  pub asked : IsAskedBy v w key value full.asked
+-- too few words were left for what an update asked for
+abbrev pub IsUpdateRefused : View → ℕ → Option ℕ → ℕ → Full → View → Type 0
+IsUpdateRefused v key value words full w =
+    RanShort (WentOn Updates) (IsAskedBy v w key value) v words full w
 
 -- the same for a call that may have begun searches meanwhile
 abbrev pub WasRefused : View → ℕ → Option ℕ → ℕ → Full → View → Type 0

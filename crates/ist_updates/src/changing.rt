@@ -20,7 +20,7 @@ ghost use Rattle.ist_rows.specs.Going.{IsQuiet, HasGone};
 ghost use Rattle.ist_updates.specs.Answering.{HasCarried, HasChanged};
 ghost use Rattle.ist_updates.specs.Asking.{IsAsked};
 ghost use Rattle.ist_updates.specs.Changing.{WasAtSlot, Prepares, HasRows};
-ghost use Rattle.ist_updates.specs.Changing.{MayReplace, IsRowShort, IsWayRefused, IsPlanned, row_for};
+ghost use Rattle.ist_updates.specs.Changing.{MayReplace, MayAskFor, IsRowShort, IsPlanned, row_for};
 ghost use Rattle.ist_updates.specs.Changing.{command_by, filling_of, kinds_of};
 ghost use Rattle.ist_updates.specs.declared.plans.SlotPlan.TheVariants as way;
 ghost use Rattle.ist_updates.specs.Trying.{Tries, HasTakenEffect};
@@ -47,7 +47,7 @@ fn take(table: &TreeTable, who: &mut Caller, kind: Kind) -> Result<u32, Full>
     ensures high { IfOk result (λ base. (row_of kind (spares_of who.old) ≡ Some base)
         ⊎ ((now who.old.token.view).next ≤ base)) }
     ensures full { let v = who.old.token.view in IfErr result (λ full.
-        IsRowShort v (kind_words kind) (word_count_of table.now) full who.new.token.view) }
+        IsRowShort (λ n. n ≡ kind_words kind) v (word_count_of table.now) full who.new.token.view) }
 {
     know(&who.token);
     // Reserve, if the caller holds none. Meets another caller's.
@@ -97,7 +97,8 @@ fn take_pair(table: &TreeTable, who: &mut Caller, node: u32) -> Result<u32, Full
         (who.new.leaf ≡ who.old.leaf) × (who.new.change ≡ who.old.change)) }
     ensures above { IfOk result (λ base. node < base) }
     ensures full { let v = who.old.token.view in IfErr result (λ full.
-        IsRowShort v (kind_words kind.Pair) (word_count_of table.now) full who.new.token.view) }
+        IsRowShort (λ n. n ≡ kind_words kind.Pair) v (word_count_of table.now) full
+        who.new.token.view) }
 {
     know(&who.token);
     drop_below(table, who, node);
@@ -138,8 +139,8 @@ fn plan_leaf(
     requires room { MayReplace who.old.token.view aim.key aim.word (way.Leaf value) }
     ensures gone { HasGone Prepares who.old who.new }
     ensures planned { IfOk result (λ plan. IsPlanned who.new aim (way.Leaf value) plan) }
-    ensures full { IfErr result (λ full. IsWayRefused who.old.token.view (way.Leaf value)
-        (word_count_of table.now) full who.new.token.view) }
+    ensures full { IfErr result (λ full. IsRowShort (MayAskFor (way.Leaf value))
+        who.old.token.view (word_count_of table.now) full who.new.token.view) }
 {
     know(&who.token);
     let leaf = take(table, who, Kind::Leaf)?;
@@ -168,8 +169,8 @@ fn plan_pair(
     ensures gone { HasGone Prepares who.old who.new }
     ensures planned { IfOk result (λ plan.
         IsPlanned who.new aim (way.Pair value other other_key) plan) }
-    ensures full { let w = way.Pair value other other_key in IfErr result (λ full.
-        IsWayRefused who.old.token.view w (word_count_of table.now) full who.new.token.view) }
+    ensures full { IfErr result (λ full. IsRowShort (MayAskFor (way.Pair value other other_key))
+        who.old.token.view (word_count_of table.now) full who.new.token.view) }
 {
     know(&who.token);
     let leaf = take(table, who, Kind::Leaf)?;
@@ -197,8 +198,8 @@ fn plan_clear(table: &TreeTable, who: &mut Caller, aim: Aim) -> Result<PlannedCh
     requires room { MayReplace who.old.token.view aim.key aim.word way.Clear }
     ensures gone { HasGone Prepares who.old who.new }
     ensures planned { IfOk result (λ plan. IsPlanned who.new aim way.Clear plan) }
-    ensures full { IfErr result (λ full. IsWayRefused who.old.token.view way.Clear
-        (word_count_of table.now) full who.new.token.view) }
+    ensures full { IfErr result (λ full. IsRowShort (MayAskFor way.Clear)
+        who.old.token.view (word_count_of table.now) full who.new.token.view) }
 {
     know(&who.token);
     let base = take(table, who, Kind::Change)?;
@@ -222,8 +223,8 @@ fn plan_for(
     requires room { MayReplace who.old.token.view aim.key aim.word way }
     ensures gone { HasGone Prepares who.old who.new }
     ensures planned { IfOk result (λ plan. IsPlanned who.new aim way plan) }
-    ensures full { IfErr result (λ full. IsWayRefused who.old.token.view way
-        (word_count_of table.now) full who.new.token.view) }
+    ensures full { IfErr result (λ full. IsRowShort (MayAskFor way)
+        who.old.token.view (word_count_of table.now) full who.new.token.view) }
 {
     match way {
         SlotPlan::Leaf { value } => plan_leaf(table, who, aim, value),

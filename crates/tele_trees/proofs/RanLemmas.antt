@@ -173,7 +173,7 @@ module _ (workers words : ℕ) (pairs : List Pair) (tasks : List Task) (tree : T
     next_few : r.full.next ≤ slice_index table next_place
     next_few =
         let then_is : r.full.next ≡ spent maker.tree.start cause.at
-        = cause.few.next_is ∙ ap (λ ps. spent ps cause.at) its_start in
+        = cause.left.next_is ∙ ap (λ ps. spent ps cause.at) its_start in
         let rise = spent_rise maker.tree.start cause.at log (goes_on_more cause.until seen) in
         let now_is = words_are_spent maker.tree.start (length table) log closes.stands.lawful in
         let there = word_there table next_place _ closes.stands.image.next in
@@ -197,7 +197,7 @@ module _ (workers words : ℕ) (pairs : List Pair) (tasks : List Task) (tree : T
         let few = puts_answered in
         let began : length e.port.pass.tree.start ≡ length pairs
         = ap length (its_start ∙ start_is) in
-        inr (inr (inr (node.keys, node.least, omega arith, node.asked_is)))
+        inr (inr (inr (node.some, node.least, omega arith, node.asked_is)))
 
     -- the table ran full before its next task
     ran_full : RanFull pairs table runs r.full
@@ -210,14 +210,14 @@ module _ (workers words : ℕ) (pairs : List Pair) (tasks : List Task) (tree : T
         ∙ length-map e.answers.list (λ a. a.reply) in
         let next = task_there e.tasks (length e.answers.list) r.command
         (subst (λ n. slice_get (commands_of e.tasks) n ≡ Some r.command) answered refused) in
-        let few = cause.few.small in
+        let few = cause.left.few.small in
         let its = its_words in
-        let full_words = cause.few.words_is in
+        let full_words = cause.left.few.words_is in
         record {
           words = full_words ∙ its;
           next = next_few;
           over = omega arith;
-          may_ask = asked_for cause.asked;
+          may_ask = asked_for cause.left.few.asked;
           run = run_of e;
           is_run = contains_map run_of came.ends e is_end;
           task = next.0;

@@ -2,7 +2,8 @@ use Rattle.std.proofs.Common.{◌≡◌, ◌*◌, ◌-◌, ◌<◌, ◌≤◌, �
 use Rattle.std.specs.List.{sum}
 use Rattle.ist_core.proofs.WordLemmas.{ideal_words_is}
 use Rattle.ist_rows.specs.Building.{HasTaken}
-use Rattle.ist_rows.proofs.ReserveLemmas.{read_on}
+use Rattle.ist_rule.specs.Learning.{GoesOnTo}
+use Rattle.ist_rows.proofs.ShortLemmas.{short_from, short_goes_on}
 use Rattle.ist_build.proofs.AtOnceLemmas.{shape_next}
 use Rattle.ist_build.proofs.block.reserve_shape.Goals as goal
 
@@ -36,10 +37,13 @@ returns-clause-taken g c =
 pub returns-clause-full : goal.returns-clause-full
 returns-clause-full g c none =
     let is = c.ideal_words.ensures.value ∙ ideal_words_is c.args.size in
-    let h = c.reserve_block.ensures.none none in
-    let small = h.small in
-    record { next = h.next; read = h.read; small = omega arith }
+    let v = c.args.who.now.token.view in
+    let h = c.reserve_block.ensures.none none in (
+      h.0,
+      short_from GoesOnTo GoesOnTo v v (λ x on. on) _ h.0 _ h.1 (λ asked. asked ∙ omega arith),
+    )
 
 -- and only loads were made
 pub returns-clause-none : goal.returns-clause-none
-returns-clause-none g c none = read_on _ _ _ (c.reserve_block.ensures.none none).read
+returns-clause-none g c none =
+    let h = c.reserve_block.ensures.none none in short_goes_on _ _ h.0 _ h.1

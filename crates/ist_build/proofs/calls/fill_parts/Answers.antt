@@ -1,3 +1,4 @@
+use Rattle.ist_rule.specs.Faces.{word_count_of}
 use Rattle.ist_build.proofs.AnswerLemmas.{put_went, stopped_out}
 use Rattle.ist_build.proofs.ShareLemmas.{err_map}
 use Rattle.ist_build.proofs.LaidOnLemmas.{laid_words}
@@ -10,7 +11,8 @@ returns-clause-went c = put_went _ _ c.fill_root.ensures.back.put
 pub returns-clause-full : goal.returns-clause-full
 returns-clause-full c =
     err_map _ _ c.fill_root.result
-    (λ full. stopped_out _ _ c.args.rebuild _ full) c.fill_root.ensures.full
+    (λ full. stopped_out c.args.who.now.token.view c.fill_root.new.who.token.view c.args.rebuild
+    (word_count_of c.args.table.now) full) c.fill_root.ensures.full
 
 -- the rows that the caller had keep their words
 pub returns-clause-words : goal.returns-clause-words

@@ -10,6 +10,7 @@ use Rattle.ist_core.specs.Shapes.{shape}
 use Rattle.ist_rows.proofs.FewLemmas.{later_went, few_low, few_then, few_wider, out_wider}
 use Rattle.ist_build.specs.Calls.{parts_words, root_words}
 use Rattle.ist_build.proofs.LeftLemmas.{root_most}
+use Rattle.ist_rule.specs.Faces.{word_count_of}
 use Rattle.ist_rebuild.proofs.FewLemmas.{told_went}
 use Rattle.ist_rebuild.proofs.finishing.build_out.Goals as goal
 
@@ -42,8 +43,12 @@ pub returns-clause-full : goal.returns-clause-full
 returns-clause-full c =
     let e = c.set_root.ensures in
     let root = built_helped _ _ c.requires.ready e.caller e.refused e.number e.rows e.went in
+    let v = c.set_root.new.who.token.view in
+    let w = c.fill_parts.new.who.token.view in
+    let words = word_count_of c.args.table.now in
     err_map _ _ c.fill_parts.result
-    (λ full h. refused_more _ _ _ _ _ full root.on.gone.went (short_refused _ _ _ _ full h))
+    (λ full h. refused_more c.args.who.now.token.view v w c.args.rebuild words full root.on.gone.went
+    (short_refused v w c.args.rebuild words full h))
     c.fill_parts.ensures.full
 
 -- few words were taken

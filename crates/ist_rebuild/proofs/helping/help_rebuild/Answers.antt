@@ -57,7 +57,8 @@ returns-clause-full c =
     let all = helped_more c.args.who.now c.mark_target.new.who _ c.mark_target.ensures.helped
     built in
     err_map _ _ c.finish.result
-    (λ full h. refused_more _ _ _ c.args.rebuild _ full all.on.gone.went
+    (λ full h. refused_more c.args.who.now.token.view c.plan_of-plan.new.token.view
+    c.finish.new.who.token.view c.args.rebuild (word_count_of c.args.table.now) full all.on.gone.went
     (subst (λ n. IsHelpRefused c.plan_of-plan.new.token.view n (word_count_of c.args.table.now) full
     c.finish.new.who.token.view) c.plan_of-plan.ensures.rebuild h)) c.finish.ensures.full
 

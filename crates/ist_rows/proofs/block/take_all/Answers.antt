@@ -1,4 +1,5 @@
-use Rattle.std.proofs.Common.{◌∙◌, ap, arith}
+use Rattle.std.proofs.Common.{◌∙◌, ap, refl, arith}
+use Rattle.ist_rule.specs.Faces.{word_count_of}
 use Rattle.ist_rows.proofs.ReserveLemmas.{read_again, read_first, read_table}
 use Rattle.ist_rows.proofs.TakingLemmas.{fewer_free, have_reserved, may_reserve_all, next_fits}
 use Rattle.ist_rows.proofs.block.take_all.Goals as goal
@@ -30,7 +31,15 @@ exchange_all-found-requires g c =
 -- too few words were left when the first free word was read
 pub returns-then-next-asked-clause-none : goal.returns-then-next-asked-clause-none
 returns-then-next-asked-clause-none g c none =
-    record { next = c.turns.next; read = c.turns.invariant; small = omega arith }
+    let read = c.turns.invariant in (
+      record { next = c.turns.next; asked = c.args.asked; words = word_count_of c.args.table.now },
+      record {
+        before = read.before;
+        seen = read.seen;
+        looked = read.looked;
+        few = record { words_is = refl; small = omega arith; asked = refl };
+      },
+    )
 
 -- if the first free word was found, the rows were reserved
 pub returns-then-found-next-clause-reserved : goal.returns-then-found-next-clause-reserved

@@ -32,14 +32,14 @@ pub returns-then-next-size-clause-full : goal.returns-then-next-size-clause-full
 returns-then-next-size-clause-full c =
     let read = c.turns.invariant in
     record {
-      short = record {
-        before = read.before;
-        seen = read.seen;
-        looked = read.looked;
+      before = read.before;
+      seen = read.seen;
+      looked = read.looked;
+      few = record {
         words_is = c.word_count-words.ensures.value;
         small = omega arith;
+        asked = refl;
       };
-      asked = refl;
     }
 
 -- if the first free word was found, the row was reserved

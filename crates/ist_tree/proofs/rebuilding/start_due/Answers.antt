@@ -1,4 +1,6 @@
 -- A start goes on for the row, and is refused as its rebuild is.
+use Rattle.ist_rule.specs.Faces.{word_count_of}
+use Rattle.ist_rule.specs.Learning.{now}
 use Rattle.ist_tree.proofs.DueLemmas.{begins_for}
 use Rattle.ist_rebuild.proofs.LackLemmas.{lacks_now}
 use Rattle.ist_tree.proofs.FreezeGoingLemmas.{err_both}
@@ -13,7 +15,8 @@ returns-clause-on c =
 pub returns-clause-full : goal.returns-clause-full
 returns-clause-full c =
     err_both _ _ _ c.start.result
-    (λ full r lacks. start_refused _ _ c.args.due _ full _ r
+    (λ full r lacks. start_refused (now c.args.who.now.token.view) c.args.who.now.token.view
+    c.args.due (word_count_of c.args.table.now) full c.start.new.who.token.view r
     (lacks_now c.start.new.who c.start.ensures.went.sound c.start.ensures.caller
     (c.start.ensures.refused c.requires.ready.refused) full.asked lacks))
     c.start.ensures.full c.start.ensures.lacks

@@ -1,13 +1,19 @@
-use Rattle.std.proofs.Common.{ap, ◌∙◌, inr, rules, arith}
+use Rattle.std.proofs.Common.{ap, ◌∙◌, inl, inr, rules, arith}
 use Rattle.ist_rows.specs.declared.kinds.Kind.TheVariants as kind
 use Rattle.ist_rows.specs.Rows.{Spares}
 use Rattle.ist_updates.specs.Changing.{Prepares}
 use Rattle.ist_updates.specs.declared.plans.SlotPlan.TheVariants as way
-use Rattle.ist_updates.proofs.ShortLemmas.{way_refused}
+use Rattle.ist_updates.proofs.ShortLemmas.{way_refused, way_short}
 use Rattle.ist_rows.proofs.GoneLemmas.{gone_more}
 use Rattle.ist_updates.proofs.PairLemmas.{taken_good}
 use Rattle.ist_updates.proofs.PlanLemmas.{leaf_planned}
 use Rattle.ist_updates.proofs.changing.plan_leaf.Goals as goal
+
+-- the leaf was refused
+pub returns-in_err-leaf-clause-full : goal.returns-in_err-leaf-clause-full
+returns-in_err-leaf-clause-full c =
+    let full = way_short _ _ _ _ (way.Leaf c.args.value) c.in_err-leaf.ensures.full (λ e. inl e) in
+    search rules
 
 -- the change's row was refused
 pub returns-in_err-base-clause-gone : goal.returns-in_err-base-clause-gone

@@ -6,7 +6,7 @@ use Rattle.ist_rule.proofs.WentOnLemmas.{went_grow}
 use Rattle.ist_dcss.proofs.FieldLemmas.{good_base}
 use Rattle.ist_updates.specs.Changing.{Prepares}
 use Rattle.ist_updates.specs.declared.plans.SlotPlan.TheVariants as way
-use Rattle.ist_updates.proofs.ShortLemmas.{way_refused}
+use Rattle.ist_updates.proofs.ShortLemmas.{way_refused, way_short}
 use Rattle.ist_rows.proofs.GoneLemmas.{gone_more}
 use Rattle.ist_updates.proofs.PairLemmas.{node_on, taken_good}
 use Rattle.ist_updates.proofs.PlanLemmas.{slot_node, pair_planned}
@@ -17,6 +17,13 @@ pub take_pair-requires-clause-node : goal.take_pair-requires-clause-node
 take_pair-requires-clause-node c =
     node_on _ _ (went_grow Prepares _ _ c.in_ok-leaf.ensures.gone.went) c.args.aim.node
     (slot_node _ c.args.aim c.requires.at_slot)
+
+-- the leaf was refused
+pub returns-in_err-leaf-clause-full : goal.returns-in_err-leaf-clause-full
+returns-in_err-leaf-clause-full c =
+    let full = way_short _ _ _ _ (way.Pair c.args.value c.args.other c.args.other_key)
+    c.in_err-leaf.ensures.full (λ e. inl e) in
+    search rules
 
 -- the pair row was refused
 pub returns-in_err-pair-clause-gone : goal.returns-in_err-pair-clause-gone

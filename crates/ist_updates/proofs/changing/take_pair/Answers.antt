@@ -3,7 +3,7 @@ use Rattle.ist_rows.specs.declared.kinds.Kind.TheVariants.{Pair}
 use Rattle.ist_rows.specs.Rows.{Spares}
 use Rattle.ist_rule.proofs.WentOnLemmas.{went_grow}
 use Rattle.ist_updates.specs.Changing.{Prepares}
-use Rattle.ist_updates.proofs.ShortLemmas.{asked_later}
+use Rattle.ist_updates.proofs.ShortLemmas.{short_after}
 use Rattle.ist_rows.proofs.GoneLemmas.{gone_more}
 use Rattle.ist_updates.proofs.PairLemmas.{fresh_above, node_on, taken_good}
 use Rattle.ist_updates.proofs.changing.take_pair.Goals as goal
@@ -15,7 +15,7 @@ returns-in_err-base-clause-gone c =
 pub returns-in_err-base-clause-full : goal.returns-in_err-base-clause-full
 returns-in_err-base-clause-full c =
     let gone = c.drop_below.ensures.gone in
-    let full = asked_later _ _ _ _ _ gone.went c.in_err-base.ensures.full in
+    let full = short_after Prepares _ _ _ _ _ gone.went c.in_err-base.ensures.full in
     search rules
 
 pub returns-clause-gone : goal.returns-clause-gone
