@@ -202,6 +202,31 @@ static void read_in_order(void) {
     ist_free(&owner);
 }
 
+/* The words that are left: a put and a shot take some, a find takes none. */
+static void use_words(void) {
+    ist_entry entries[2] = {{1, 10}, {2, 20}};
+    ist_owner owner = {0};
+    ist_pass pass = {0};
+    ist_shortage why = {0};
+    uint64_t left = 7, less = 7, key = 10;
+    check(ist_room(&pass, &left) == IST_MISUSE && left == 7 && !pass.full, 160);
+    check(ist_open(1000, entries, 2, &owner) == IST_DONE && ist_new_pass(&owner, &pass) == IST_DONE, 161);
+    check(ist_room((ist_pass *)&owner, &left) == IST_MISUSE && left == 7 && owner.full, 162);
+    check(ist_room(&pass, &left) == IST_DONE && left == 1000 - ist_words_for(2), 163);
+    check(ist_find(&pass, 1).some && ist_room(&pass, &less) == IST_DONE && less == left, 164);
+    /* a handle with a shot is no pass */
+    check(ist_take_shot(&pass, 0, &why) == IST_DONE && ist_room(&pass, &less) == IST_MISUSE && less == left, 165);
+    check(ist_drop_shot(&pass) == IST_DONE && ist_room(&pass, &less) == IST_DONE, 166);
+    check(less < left && left - less <= ist_shot_words(2), 167);
+    for (left = less; ist_put(&pass, key, key, &why).status == IST_DONE; key++, left = less) {
+        check(ist_room(&pass, &less) == IST_DONE && less < left, 168);
+    }
+    /* the put that was refused says the same */
+    check(ist_room(&pass, &less) == IST_DONE && less == why.words - why.next && less <= left && less < why.asked, 169);
+    ist_free(&pass);
+    ist_free(&owner);
+}
+
 /* A thread that raises values and puts new keys, for those who read shots meanwhile. */
 enum { CELLS = 40, UNITS = 1000 };
 
@@ -342,6 +367,7 @@ int main(int count, char **words) {
     run_full();
     reopen();
     read_in_order();
+    use_words();
     read_shots();
     misuse();
     return 0;

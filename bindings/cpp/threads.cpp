@@ -75,6 +75,9 @@ void read_in_order() {
     ist::pass pass(tree), other(tree);
     for (std::uint64_t key = 0; key < 300; key++) check(bool(pass.put(10 * key, key)), "put");
     check(pass.at_least(11)->key == 20 && pass.at_most(19)->key == 10 && !pass.at_least(2991), "the next keys");
+    std::uint64_t left = pass.room();
+    check(left < 100000 && pass.find(20) == 2 && other.room() == left, "a find takes no words");
+    check(pass.put(20, 2).before == 2 && other.room() < left, "a put takes some");
     std::uint64_t sum = 0, seen = 0;
     pass.for_each(5, last_key, [&](const ist::entry &it) { return sum += it.value, ++seen < 100; });
     check(seen == 100 && sum == 5050, "a callback that stops");

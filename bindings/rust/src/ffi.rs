@@ -106,6 +106,7 @@ unsafe extern "C" {
     fn ist_at_least(pass: *mut Handle, key: u64, found: *mut Pair) -> u32;
     fn ist_at_most(pass: *mut Handle, key: u64, found: *mut Pair) -> u32;
     fn ist_list_range(pass: *mut Handle, first: u64, last: u64, room: *mut Pair, rooms: usize, piece: *mut Piece) -> u32;
+    fn ist_room(pass: *mut Handle, words: *mut u64) -> u32;
     fn ist_shot_words(pairs: u64) -> u64;
     fn ist_take_shot(pass: *mut Handle, words: u64, why: *mut Shortage) -> u32;
     fn ist_count_shot(shot: *mut Handle, count: *mut u64) -> u32;
@@ -357,13 +358,13 @@ impl PassHandle {
         (piece.count as usize, piece.more.then_some(piece.next))
     }
 
-    /// How many words of the tree are used. It is read off the refusal of a shot for which no tree has enough words.
-    pub(crate) fn used(&mut self) -> u64 {
-        let mut why = Shortage::default();
-        // SAFETY: the handle is the call's alone, and so is `why`.
-        let status = unsafe { ist_take_shot(&mut self.handle, u64::MAX, &mut why) };
-        assert_eq!(status, FULL);
-        why.next
+    /// How many words of the tree are left, at a moment of the call.
+    pub(crate) fn room(&mut self) -> u64 {
+        let mut words = 0;
+        // SAFETY: the handle is the call's alone, and so is `words`.
+        let status = unsafe { ist_room(&mut self.handle, &mut words) };
+        assert_eq!(status, DONE);
+        words
     }
 
     /// Takes a shot of the map, if at least this many words are left at a moment of the call. Else the pass is returned, with the

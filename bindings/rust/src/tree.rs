@@ -329,6 +329,21 @@ impl<'t> Pass<'t> {
         self.handle().list(first, last, room)
     }
 
+    /// Returns how many words of the tree are left at one moment of the call. Other threads may take words from then on. An update
+    /// takes some 60, and [`shot_words`] says how many a [shot](Pass::shot) takes.
+    ///
+    /// ```
+    /// let tree = luskadorv::Tree::open(1000, &[])?;
+    /// let mut pass = tree.pass()?;
+    /// let left = pass.words_left();
+    /// assert_eq!(pass.insert(7, 70), Ok(None));
+    /// assert!(pass.words_left() < left);
+    /// # Ok::<(), luskadorv::Error>(())
+    /// ```
+    pub fn words_left(&mut self) -> u64 {
+        self.handle().room()
+    }
+
     /// Takes a shot, as [`Tree::shot`]. It has all that this pass has done and seen, and it is read beside the pass.
     ///
     /// ```

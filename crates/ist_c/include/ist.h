@@ -107,6 +107,10 @@ uint32_t ist_at_most(ist_pass *pass, uint64_t key, ist_entry *found);
  * go on, at any time and by any pass. It allocates nothing. */
 uint32_t ist_list_range(ist_pass *pass, uint64_t first, uint64_t last, ist_entry *room, size_t rooms, ist_piece *piece);
 
+/* Writes how many words of the tree are left at one moment of the call. Other passes may take words from then on; an update takes
+ * some 60. It never blocks, allocates nothing, and always returns. */
+uint32_t ist_room(ist_pass *pass, uint64_t *words);
+
 /* How many words a shot of this many pairs takes at most, if its pass alone takes words; 0 for 2^32 pairs or more. Passes that
  * help at the same time may take more together. */
 uint64_t ist_shot_words(uint64_t pairs);

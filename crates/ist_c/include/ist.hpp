@@ -255,6 +255,13 @@ public:
         detail::each_of(ist_list_range, &lent_.handle, first, last, each);
     }
 
+    /* Returns how many words of the tree are left at one moment of the call. Other passes may take words from then on. */
+    std::uint64_t room() noexcept {
+        std::uint64_t words = 0;
+        ist_room(&lent_.handle, &words);
+        return words;
+    }
+
     /* Makes a note of what the pass has seen; nothing if there is no memory. */
     std::optional<note> write_note() noexcept {
         note made;

@@ -1,4 +1,4 @@
--- What ordered reads by a pass behind a handle found, and what they wrote.
+-- What reads by a pass behind a handle found, and what they wrote.
 use Rattle.std.proofs.Common.{◌≡◌, ℕ, Bool, List, length, Option, sym, subst}
 use Rattle.std.specs.Arc.{arc_value}
 use Rattle.ist_core.specs.declared.pairs.Pair.{Pair}
@@ -11,6 +11,7 @@ use Rattle.ist_handles.specs.declared.passes.TreePass.{TreePass}
 use Rattle.ist_handles.specs.Results.{done}
 use Rattle.ist_handles.specs.Entries.{Wrote}
 use Rattle.ist_c.specs.Reads.{IsNextPair, ReadsBy, pass_reads, EntriesHold, ListsBy, pass_lists}
+use Rattle.ist_c.specs.Reads.{HasCountedRoom, CountsRoom, pass_counts}
 
 -- what a pass behind a handle found as the next pair was read by this pass, and written
 pub read_next : (way : Bool) (held : Held) (p q : TreePass) (key status : ℕ) (pair : Option Pair)
@@ -29,3 +30,10 @@ pub read_range : (held : Held) (p q : TreePass) (first last : ℕ) (room after :
 read_range held p q first last room after before piece is same listed =
     subst (λ (h : Held). ListsBy h (of.Pass q) first last done room after before piece) (sym is)
     (pass_lists p q first last room after before piece same listed)
+
+-- what a pass behind a handle counted was left of its tree, and written
+pub counted_room : (held : Held) (p q : TreePass) (before words : ℕ) → held ≡ of.Pass p
+    → HasCountedRoom p q words → CountsRoom held (of.Pass q) done before words
+counted_room held p q before words is counted =
+    subst (λ (h : Held). CountsRoom h (of.Pass q) done before words) (sym is)
+    (pass_counts p q before words counted)

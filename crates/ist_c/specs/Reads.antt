@@ -1,8 +1,10 @@
--- What ordered reads by a handle do to the pass that the handle holds, and what they write.
+-- What reads by a handle do to the pass that the handle holds, and what they write.
 use Rattle.std.specs.Prelude.{◌≡◌, ℕ, ◌+◌, ◌≤◌, ◌⊎◌, Bool, true, false, List, length, Option}
 use Rattle.std.specs.Arc.{arc_value}
 use Rattle.ist_core.specs.declared.pairs.Pair.{Pair}
 use Rattle.ist_tree.specs.Faces.{PassFace}
+use Rattle.ist_tree.specs.RealTime.{StepsIn}
+use Rattle.ist_tree.specs.Room.{HasLeft, HasMadeNone}
 use Rattle.ist_live.specs.Reading.{HasOnlyRead}
 use Rattle.ist_live.specs.Ends.{IsNextUp, IsNextDown}
 use Rattle.ist_live.specs.Pieces.{IsPiece}
@@ -63,3 +65,20 @@ pub data ListsBy : Held → Held → ℕ → ℕ → ℕ → List Entry → List
         → ListsBy (of.Pass p) (of.Pass q) first last done room after before piece
     none_lists : (held : Held) (first last : ℕ) (room : List Entry) (piece : Piece)
         → (length room ≡ 0) ⊎ IsNoPass held → ListsBy held held first last misuse room room piece piece
+
+-- ---- the words that are left
+
+-- the pass is of the same tree, and made no call and no event; at its last step of the call this many words
+-- of the tree were left
+pub record HasCountedRoom (p q : TreePass) (words : ℕ) : Type 0 where
+  pub read : ReadsInTree p q
+  pub none : HasMadeNone p.pass q.pass
+  pub step : StepsIn p.pass q.pass q.pass.seen
+  pub left : HasLeft q.pass words
+
+-- a handle of a pass holds this pass still, which counted the words that are left; only a handle of
+-- something else is misused, and the handle and the number are as before
+pub data CountsRoom : Held → Held → ℕ → ℕ → ℕ → Type 0 where
+  pass_counts : (p q : TreePass) (before words : ℕ) → HasCountedRoom p q words
+      → CountsRoom (of.Pass p) (of.Pass q) done before words
+  none_counts : (held : Held) (words : ℕ) → IsNoPass held → CountsRoom held held misuse words words

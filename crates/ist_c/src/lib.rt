@@ -11,5 +11,6 @@ mod left_calls;
 mod next_calls;
 mod note_calls;
 mod range_calls;
+mod room_calls;
 mod shot_calls;
 mod tree_calls;

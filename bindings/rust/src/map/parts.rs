@@ -44,9 +44,9 @@ pub(super) struct Part {
     pub(super) words: u32,
     /// What it was opened with.
     pub(super) pairs: Vec<Pair>,
-    /// From this used word on it grows.
-    pub(super) begin: u64,
-    /// After this many updates of a slot the used words are looked at.
+    /// When no more words than this are left it grows.
+    pub(super) few: u64,
+    /// After this many updates of a slot it is asked how many words are left.
     pub(super) look: u64,
     pub(super) opened: Instant,
     /// How many slots have called it.
@@ -77,7 +77,7 @@ impl Part {
             place: Place { number: number.at(), tree: owner.tree() },
             _number: number,
             words,
-            begin: u64::from(words) - free / 4,
+            few: free / 4,
             look: (free / (60 * 64)).clamp(1, 16),
             pairs,
             opened: Instant::now(),

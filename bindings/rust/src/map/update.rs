@@ -95,7 +95,7 @@ impl Inner {
         let is_low = phase == Phase::Calm && calls.unseen >= part.look && {
             calls.unseen = 0;
             self.set_read(calls.are_reads());
-            seat.pass.used() >= part.begin
+            seat.pass.room() <= part.few
         };
         if update.changes(had) {
             seat.record(update.key);
