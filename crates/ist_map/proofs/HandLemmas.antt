@@ -1,6 +1,10 @@
--- The calls of passes that were given back in the order of their numbers. Serves `Map::run`.
-use Rattle.std.proofs.Common.{◌≡◌, ◌∙◌, ℕ, zero, suc, ◌<◌, List, [], ◌∷◌, ◌++◌, length, map, slice_index_or, refl, sym, ap, arith}
+-- The calls of passes that were given back in the order of their numbers, and which workers stopped by request. Serves
+-- `Map::run`.
+use Rattle.std.proofs.Common.{◌≡◌, ◌≢◌, ◌∙◌, ℕ, zero, suc, ◌<◌, List, [], ◌∷◌, ◌++◌, length, map, slice_index_or, refl, sym, ap, subst, arith}
+use Rattle.std.proofs.Common.{Option, Some, None, All, Any, IsSome}
 use Rattle.std.proofs.lemmas.List.{length-map}
+use Rattle.std.proofs.lemmas.List.Elements.{All-nil, All-cons, All-head, All-tail}
+use Rattle.std.proofs.lemmas.Option.{none-some}
 use Rattle.std.specs.List.{range_with_len}
 use Rattle.ist_core.specs.declared.calls.Call.{Call}
 use Rattle.ist_core.specs.Histories.{PassCalls}
@@ -9,7 +13,8 @@ use Rattle.ist_core.specs.Resting.{told_by_call}
 use Rattle.ist_tree.specs.Faces.{MakerFace}
 use Rattle.ist_tree.specs.Closing.{calls_taken, calls_from}
 use Rattle.ist_tree.proofs.NumberLemmas.{calls_in_order}
-use Rattle.ist_map.specs.Hands.{HaveWorked}
+use Rattle.ist_map.specs.declared.stops.StopRequest.{StopRequest}
+use Rattle.ist_map.specs.Hands.{HaveWorked, first_stop}
 
 -- a maker that took back all of its passes, in the order of their numbers, has their calls in it
 pub taken_in_order : (m : MakerFace) (passes : List PassCalls) → m.made ≡ length passes
@@ -63,3 +68,40 @@ module _ {H : Type 0} where
       ++ map told_by_call (slice_index_or (map (λ h. (passes h).calls) worked) number [])) first
       ∙ ap (λ cs. slice_index_or (map told old) number []
       ++ map told_by_call (slice_index_or cs number [])) (sym in_order)
+
+-- ---- workers that stopped by request
+
+-- if there is no first one of several, there is none of the others either
+unasked_head : (t : Option StopRequest) (ts : List (Option StopRequest)) → first_stop (t ∷ ts) ≡ None
+    → (t ≡ None) × (first_stop ts ≡ None)
+unasked_head None ts none = (refl, none)
+unasked_head (Some asked) ts none = absurd (none-some asked (sym none))
+
+module _ {H : Type 0} (stopped : H → Option StopRequest) where
+  -- if none can stop by request, there is no first one
+  pub none_asked : (xs : List H) {P : Type 0} → All (λ h. P → stopped h ≡ None) xs → P
+      → first_stop (map stopped xs) ≡ None
+  none_asked [] all p = refl
+  none_asked (x ∷ xs) {P} all p =
+      ap (λ t. first_stop (t ∷ map stopped xs)) (All-head (λ h. P → stopped h ≡ None) x xs all p)
+      ∙ none_asked xs (All-tail (λ h. P → stopped h ≡ None) x xs all) p
+
+  -- if there is no first one, none stopped so
+  pub all_unasked : (xs : List H) → first_stop (map stopped xs) ≡ None → All (λ h. stopped h ≡ None) xs
+  all_unasked [] none = All-nil (λ h. stopped h ≡ None)
+  all_unasked (x ∷ xs) none =
+      let here = unasked_head (stopped x) (map stopped xs) none in
+      All-cons (λ h. stopped h ≡ None) x xs here.0 (all_unasked xs here.1)
+
+  -- if there is a first one, it is one of them
+  pub one_asked : (xs : List H) → first_stop (map stopped xs) ≢ None → Any (λ h. IsSome (stopped h)) xs
+  one_asked [] some = absurd (some refl)
+  one_asked (x ∷ xs) some = from_first (stopped x) refl (one_asked xs)
+    where
+      from_first : (t : Option StopRequest) → stopped x ≡ t
+          → (first_stop (map stopped xs) ≢ None → Any (λ h. IsSome (stopped h)) xs)
+          → Any (λ h. IsSome (stopped h)) (x ∷ xs)
+      from_first (Some _) is later = (0, x, omega arith, refl, subst IsSome (sym is) refl)
+      from_first None is later =
+          let more = later (λ none. some (ap (λ t. first_stop (t ∷ map stopped xs)) is ∙ none)) in
+          (suc more.0, more.1, omega arith, more.3, more.4)

@@ -1,11 +1,12 @@
 -- Workers with their passes on one tree.
-use Rattle.std.specs.Prelude.{◌≡◌, ℕ, List, [], ◌++◌, map, Option, Some, None, slice_index_or}
+use Rattle.std.specs.Prelude.{◌≡◌, ℕ, List, [], ◌∷◌, ◌++◌, map, Option, Some, None, slice_index_or}
 use Rattle.ist_core.specs.declared.calls.Call.{Call}
 use Rattle.ist_core.specs.Histories.{PassCalls}
 use Rattle.ist_core.specs.Logs.{Log}
 use Rattle.ist_core.specs.Replies.{Answered}
 use Rattle.ist_core.specs.Resting.{told_by_call}
 use Rattle.ist_tree.specs.Faces.{TreeFace, PassFace, calls_in}
+use Rattle.ist_map.specs.declared.stops.StopRequest.{StopRequest}
 
 -- there is a pass, and it is on the tree
 pub record IsOn (tree : TreeFace) (pass : Option PassFace) : Type 0 where
@@ -40,3 +41,9 @@ abbrev pub HaveWorked : List (List Answered) → List (List Call) → List (List
 HaveWorked before calls after =
     (number : ℕ) → slice_index_or after number []
     ≡ slice_index_or before number [] ++ map told_by_call (slice_index_or calls number [])
+
+-- the request by which the first worker stopped that did so
+abbrev pub first_stop : List (Option StopRequest) → Option StopRequest
+first_stop [] = None
+first_stop (None ∷ more) = first_stop more
+first_stop (Some asked ∷ more) = Some asked

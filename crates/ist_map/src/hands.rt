@@ -1,14 +1,16 @@
 //! Workers and their passes: each gets the pass with its number on a tree, works, and gives it back.
 ghost use Rattle.std.specs.Prelude.{◌≡◌, ◌+◌, ◌++◌, ◌<◌, ◌≤◌, ◌∷◌, [], ℕ, List, length, map, max};
-ghost use Rattle.std.specs.Prelude.{false, All, None, IfErr, IfSome, OnOk, is_some};
+ghost use Rattle.std.specs.Prelude.{false, All, None, IfErr, IfOk, IfSome, is_some};
 ghost use Rattle.std.specs.List.{list_any, range_with_len};
 ghost use Rattle.ist_core.specs.Enabled.{caller_limit};
 ghost use Rattle.ist_core.specs.Logs.{GoesOn};
 ghost use Rattle.ist_core.specs.Replies.{Answered};
 ghost use Rattle.ist_core.specs.Resting.{told_by_call};
 ghost use Rattle.ist_map.specs.Hands.{IsHired, IsOn, pass_number, calls_by, seen_by, HaveWorked};
+ghost use Rattle.ist_map.specs.Hands.{first_stop};
 ghost use Rattle.ist_map.specs.Refusing.{IsRefusalOn, WasRefusedSince};
 
+use crate::stops::{Stop, StopRequest};
 use ist_core::Full;
 use ist_tree::{Maker, Pass, Tree};
 use std::thread;
@@ -21,19 +23,26 @@ pub trait Worker {
     // it has nothing left to do
     ghost is_done: { Self → Type 0 };
 
-    /// Makes calls on the tree by this pass, which has made none, until there is nothing left to do or
-    /// a call is refused.
+    /// Makes calls on the tree by this pass, which has made none, until there is nothing left to do
+    /// (`Ok(None)`), a stop is requested, or a call is refused.
     ///
     /// `Err` asks for another tree with the same pairs and more words, since a call by this pass was
     /// refused, or a rebuild after one. `work` is called again there, with a new pass, and goes on
-    /// with the call that was refused.
-    fn work(&mut self, tree: &Tree, pass: &mut Pass) -> Result<(), Full>
+    /// with the call that was refused. The run waits for each worker, also after another one was
+    /// refused: so a worker that waits for others asks `stop` meanwhile.
+    fn work(
+        &mut self,
+        tree: &Tree,
+        pass: &mut Pass,
+        stop: &Stop,
+    ) -> Result<Option<StopRequest>, Full>
         requires same_tree { pass.old.tree ≡ tree.now }
         requires no_calls { pass.old.calls ≡ [] }
         ensures same_tree { pass.new.tree ≡ tree.now }
         ensures number { pass.new.number ≡ pass.old.number }
         ensures told { told self.new ≡ told self.old ++ map told_by_call pass.new.calls }
-        ensures done { OnOk result (is_done self.new) }
+        ensures done { IfOk result (λ asked. asked ≡ None → is_done self.new) }
+        ensures unasked { IfOk result (λ asked. stop.now.can_stop ≡ false → asked ≡ None) }
         ensures refused { pass.old.refused ≡ None
             → IfErr result (WasRefusedSince pass.old pass.new.seen) };
 }
@@ -44,6 +53,7 @@ pub struct Hand<W: Worker> {
     pub worker: W,
     pass: Option<Pass>,
     refused: Option<Full>,
+    stopped: Option<StopRequest>,
 }
 
 impl<W: Worker> Hand<W> {
@@ -55,6 +65,7 @@ impl<W: Worker> Hand<W> {
             worker,
             pass: None,
             refused: None,
+            stopped: None,
         }
     }
 
@@ -80,18 +91,29 @@ impl<W: Worker> Hand<W> {
     }
 
     // Lets the worker work on the tree.
-    fn work(&mut self, tree: &Tree)
+    fn work(&mut self, tree: &Tree, stop: &Stop)
         requires hired { IsHired tree.now self.old.pass }
         ensures on_tree { IsOn tree.now self.new.pass }
         ensures number { pass_number self.new.pass ≡ pass_number self.old.pass }
         ensures told { W.told self.new.worker
             ≡ W.told self.old.worker ++ map told_by_call (calls_by self.new.pass).calls }
-        ensures done { self.new.refused ≡ None → W.is_done self.new.worker }
+        ensures done { self.new.refused ≡ None → self.new.stopped ≡ None → W.is_done self.new.worker }
+        ensures unasked { stop.now.can_stop ≡ false → self.new.stopped ≡ None }
         ensures refused { IfSome self.new.refused (IsRefusalOn tree.now (seen_by self.new.pass)) }
     {
         if let Some(mut pass) = self.pass.take() {
-            self.refused = self.worker.work(tree, &mut pass).err();
+            let ended = self.worker.work(tree, &mut pass, stop);
             self.pass = Some(pass);
+            match ended {
+                Ok(asked) => {
+                    self.stopped = asked;
+                    self.refused = None;
+                }
+                Err(full) => {
+                    self.stopped = None;
+                    self.refused = Some(full);
+                }
+            }
         }
     }
 
@@ -101,6 +123,7 @@ impl<W: Worker> Hand<W> {
         requires on_tree { IsOn tree.now self.old.pass }
         ensures worker { self.new.worker ≡ self.old.worker }
         ensures refused { self.new.refused ≡ self.old.refused }
+        ensures left { self.new.stopped ≡ self.old.stopped }
         ensures same_tree { maker.new.tree ≡ maker.old.tree }
         ensures made { maker.new.made ≡ maker.old.made }
         ensures taken { maker.new.taken ≡ calls_by self.old.pass ∷ maker.old.taken }
@@ -136,6 +159,7 @@ pub(crate) fn work_all<R: Threads + Sync, W: Worker + Send>(
     rt: &R,
     tree: &Tree,
     hands: &mut [Hand<W>],
+    stop: &Stop,
 )
     requires hired { All (λ h. IsHired tree.now h.pass) hands.old }
     ensures on_tree { All (λ h. IsOn tree.now h.pass) hands.new }
@@ -143,12 +167,13 @@ pub(crate) fn work_all<R: Threads + Sync, W: Worker + Send>(
         ≡ map (λ h. pass_number h.pass) hands.old }
     ensures told { HaveWorked (map (λ h. W.told h.worker) hands.old)
         (map (λ h. (calls_by h.pass).calls) hands.new) (map (λ h. W.told h.worker) hands.new) }
-    ensures done { All (λ h. h.refused ≡ None → W.is_done h.worker) hands.new }
+    ensures done { All (λ h. h.refused ≡ None → h.stopped ≡ None → W.is_done h.worker) hands.new }
+    ensures unasked { All (λ h. stop.now.can_stop ≡ false → h.stopped ≡ None) hands.new }
     ensures refused { All (λ h. IfSome h.refused (IsRefusalOn tree.now (seen_by h.pass))) hands.new }
 {
     // `for_each_mut` requires at least one thread. It starts none if there are no workers.
     let count = hands.len().max(1);
-    thread::for_each_mut(rt, hands, count, &|_, hand| hand.work(tree));
+    thread::for_each_mut(rt, hands, count, &|_, hand| hand.work(tree, stop));
 }
 
 // Gives all passes back, the last one first.
@@ -156,8 +181,9 @@ pub(crate) fn dismiss_all<W: Worker>(tree: &Tree, maker: &mut Maker, hands: &mut
     requires same_tree { maker.old.tree ≡ tree.now }
     requires on_tree { All (λ h. IsOn tree.now h.pass) hands.old }
     ensures told { map (λ h. W.told h.worker) hands.new ≡ map (λ h. W.told h.worker) hands.old }
-    ensures done { All (λ h. h.refused ≡ None → W.is_done h.worker) hands.old
-        → All (λ h. h.refused ≡ None → W.is_done h.worker) hands.new }
+    ensures done { All (λ h. h.refused ≡ None → h.stopped ≡ None → W.is_done h.worker) hands.old
+        → All (λ h. h.refused ≡ None → h.stopped ≡ None → W.is_done h.worker) hands.new }
+    ensures left { map (λ h. h.stopped) hands.new ≡ map (λ h. h.stopped) hands.old }
     ensures same_tree { maker.new.tree ≡ maker.old.tree }
     ensures made { maker.new.made ≡ maker.old.made }
     ensures taken { maker.new.taken ≡ map (λ h. calls_by h.pass) hands.old ++ maker.old.taken }
@@ -177,4 +203,15 @@ pub(crate) fn has_refused<W: Worker>(hands: &[Hand<W>]) -> bool
     ensures value { result ≡ list_any (λ h. is_some h.refused) hands.now }
 {
     hands.iter().any(|hand| hand.refused.is_some())
+}
+
+// The request by which the first worker stopped that did so.
+pub(crate) fn left<W: Worker>(hands: &[Hand<W>]) -> Option<StopRequest>
+    ensures value { result ≡ first_stop (map (λ h. h.stopped) hands.now) }
+{
+    let (first, rest) = hands.split_first()?;
+    match first.stopped {
+        None => left(rest),
+        asked => asked,
+    }
 }

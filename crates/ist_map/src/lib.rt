@@ -8,8 +8,10 @@ mod hands;
 pub mod laws;
 mod running;
 mod scripts;
+mod stops;
 
 pub use hands::{Hand, Worker};
 pub use ist_reopen::{MOST_WORDS, ReopenFault};
 pub use running::Map;
 pub use scripts::Script;
+pub use stops::{Stop, StopRequest};

@@ -1,15 +1,17 @@
 //! A map that workers share, on one tree after another.
-ghost use Rattle.std.specs.Prelude.{◌≡◌, ◌*◌, ◌^◌, ◌<◌, ◌≤◌, ℕ, List, length, map, All, None};
-ghost use Rattle.std.specs.Prelude.{OnOk, OnErr, IfOk, IfErr};
+ghost use Rattle.std.specs.Prelude.{◌≡◌, ◌≢◌, ◌*◌, ◌^◌, ◌<◌, ◌≤◌, ℕ, List, length, map, All, Any};
+ghost use Rattle.std.specs.Prelude.{false, None, IsSome, OnOk, OnErr, IfOk, IfErr};
 ghost use Rattle.std.specs.List.Sorted.{IsStrictlyIncreasing};
 ghost use Rattle.ist_core.specs.Enabled.{caller_limit};
 ghost use Rattle.ist_core.specs.RowLayout.{place_limit};
 ghost use Rattle.ist_rest.specs.RestingWords.{HoldPairs};
 ghost use Rattle.ist_tree.specs.Opening.{IsNewTree};
 ghost use Rattle.ist_map.specs.Growing.{IsFirstFault, IsGrowFault, words_after};
+ghost use Rattle.ist_map.specs.Hands.{first_stop};
 ghost use Rattle.ist_map.specs.Running.{HasRunOn, HasRunOnOne, HasStopped, OpensEnough};
 
-use crate::hands::{Hand, Worker, dismiss_all, has_refused, hire_all, work_all};
+use crate::hands::{Hand, Worker, dismiss_all, has_refused, hire_all, left, work_all};
+use crate::stops::{Stop, StopRequest};
 use ist_core::Pair;
 use ist_image::Image;
 use ist_reopen::{MOST_WORDS, ReopenFault, open_after};
@@ -103,12 +105,37 @@ impl Map {
             self.new.words (map (λ h. W.told h.worker) hands.old)
             (map (λ h. W.told h.worker) hands.new) (map (λ h. h.refused) hands.new) f) }
     {
+        self.run_until(rt, alloc, hands, &Stop::never())?;
+        Ok(())
+    }
+
+    /// Does as `run`, and hands `stop` to each worker. `Ok(None)`: each is done. `Ok(Some(_))`: some
+    /// ended because a stop was requested; they go on if `run` or `run_until` is called again.
+    ///
+    /// A refusal comes first: all go on in a larger tree then, where each may ask `stop` again.
+    pub fn run_until<R: Threads + Sync, W: Worker + Send>(
+        &mut self,
+        rt: &R,
+        alloc: Global,
+        hands: &mut [Hand<W>],
+        stop: &Stop,
+    ) -> Result<Option<StopRequest>, ReopenFault>
+        requires few { length hands.old ≤ caller_limit }
+        ensures ran { HasRunOn self.old.closed self.new.closed self.old.words self.new.words
+            (map (λ h. W.told h.worker) hands.old) (map (λ h. W.told h.worker) hands.new) }
+        ensures done { IfOk result (λ asked. asked ≡ None → All (λ h. W.is_done h.worker) hands.new) }
+        ensures left { IfOk result (λ asked. asked ≢ None → Any (λ h. IsSome h.stopped) hands.new) }
+        ensures unasked { IfOk result (λ asked. stop.now.can_stop ≡ false → asked ≡ None) }
+        ensures fault { IfErr result (λ f. HasStopped self.old.closed self.new.closed self.old.words
+            self.new.words (map (λ h. W.told h.worker) hands.old)
+            (map (λ h. W.told h.worker) hands.new) (map (λ h. h.refused) hands.new) f) }
+    {
         self.closed.know();
         let mut words = self.words;
         loop {
-            self.run_once(rt, alloc, words, hands)?;
+            self.run_once(rt, alloc, words, hands, stop)?;
             if !has_refused(hands) {
-                return Ok(());
+                return Ok(left(hands));
             }
             words = words_after(self.words)?;
         }
@@ -121,6 +148,7 @@ impl Map {
         alloc: Global,
         words: u32,
         hands: &mut [Hand<W>],
+        stop: &Stop,
     ) -> Result<(), ReopenFault>
         requires few { length hands.old ≤ caller_limit }
         ensures ran { OnOk result (HasRunOnOne self.old.closed self.new.closed words self.new.words
@@ -133,14 +161,17 @@ impl Map {
         ensures unchanged { OnErr result (self.new.closed ≡ self.old.closed) }
         ensures kept { OnErr result (self.new.words ≡ self.old.words) }
         ensures idle { OnErr result (hands.new ≡ hands.old) }
-        ensures done { OnOk result (All (λ h. h.refused ≡ None → W.is_done h.worker) hands.new) }
+        ensures done { OnOk result
+            (All (λ h. h.refused ≡ None → h.stopped ≡ None → W.is_done h.worker) hands.new) }
+        ensures unasked { OnOk result
+            (stop.now.can_stop ≡ false → first_stop (map (λ h. h.stopped) hands.new) ≡ None) }
         ensures same { length hands.new ≡ length hands.old }
     {
         self.closed.know();
         let (tree, mut maker) = open_enough(alloc, &mut self.image, &self.closed, words)?;
         self.words = tree.words() as u32;
         hire_all(&tree, &mut maker, hands);
-        work_all(rt, &tree, hands);
+        work_all(rt, &tree, hands, stop);
         dismiss_all(&tree, &mut maker, hands);
         self.closed = tree.close(maker);
         Ok(())

@@ -9,13 +9,14 @@ ghost use Rattle.ist_map.specs.Refusing.{IsRefusedTo};
 ghost use Rattle.ist_map.specs.Scripts.{told_in};
 
 use crate::hands::Worker;
+use crate::stops::{Stop, StopRequest};
 use ist_core::{Command, Full, Reply};
 use ist_tree::{Pass, Tree};
 use std::alloc::{AllocError, Global};
 use std::marker::Model;
 
 /// Makes given calls in their order, and keeps the reply of each. It asks for a tree with more words
-/// when a call is refused, or a rebuild was.
+/// when a call is refused, or a rebuild was, and asks before each call whether it is to stop.
 ///
 /// Contracts see its commands and the replies so far.
 #[derive(Drop)]
@@ -41,8 +42,17 @@ impl Worker for Script {
 
     ghost is_done = { λ s. length s.replies ≡ length s.commands };
 
-    fn work(&mut self, tree: &Tree, pass: &mut Pass) -> Result<(), Full> {
+    fn work(
+        &mut self,
+        tree: &Tree,
+        pass: &mut Pass,
+        stop: &Stop,
+    ) -> Result<Option<StopRequest>, Full> {
         while self.replies.len() < self.commands.len() {
+            let asked = stop.requested();
+            if asked.is_some() {
+                return Ok(asked);
+            }
             let command = self.commands[self.replies.len()];
             let reply = call(tree, pass, command)?;
             self.replies.push_reserved(reply);
@@ -50,7 +60,7 @@ impl Worker for Script {
                 return Err(full);
             }
         }
-        Ok(())
+        Ok(None)
     }
 }
 

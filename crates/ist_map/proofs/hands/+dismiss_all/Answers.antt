@@ -12,15 +12,15 @@ use Rattle.ist_map.proofs.hands.+dismiss_all.Goals as goal
 pub returns-in-Some-clause-done : goal.returns-in-Some-clause-done
 returns-in-Some-clause-done g t c before =
     let all = subst
-    (All (λ (h : Hand g.row.W.Denot). h.refused ≡ None → g.W.Worker.is_done h.worker))
+    (All (λ (h : Hand g.row.W.Denot). h.refused ≡ None → h.stopped ≡ None → g.W.Worker.is_done h.worker))
     c.in-Some.ensures.cases.0 before in
-    All-cons (λ (h : Hand g.row.W.Denot). h.refused ≡ None → g.W.Worker.is_done h.worker)
+    All-cons (λ (h : Hand g.row.W.Denot). h.refused ≡ None → h.stopped ≡ None → g.W.Worker.is_done h.worker)
     c.dismiss.new.self c.dismiss_all.new.hands
-    (λ none. subst g.W.Worker.is_done (sym c.dismiss.ensures.worker)
-    (All-head (λ (h : Hand g.row.W.Denot). h.refused ≡ None → g.W.Worker.is_done h.worker) _ _ all
-    (sym c.dismiss.ensures.refused ∙ none)))
+    (λ none unasked. subst g.W.Worker.is_done (sym c.dismiss.ensures.worker)
+    (All-head (λ (h : Hand g.row.W.Denot). h.refused ≡ None → h.stopped ≡ None → g.W.Worker.is_done h.worker) _ _ all
+    (sym c.dismiss.ensures.refused ∙ none) (sym c.dismiss.ensures.left ∙ unasked)))
     (c.dismiss_all.ensures.done (All-tail
-    (λ (h : Hand g.row.W.Denot). h.refused ≡ None → g.W.Worker.is_done h.worker) _ _ all))
+    (λ (h : Hand g.row.W.Denot). h.refused ≡ None → h.stopped ≡ None → g.W.Worker.is_done h.worker) _ _ all))
 
 -- the maker has seen what all passes had seen
 pub returns-in_default-clause-seen : goal.returns-in_default-clause-seen

@@ -4,8 +4,8 @@ use Rattle.std.specs.List.{range_with_len}
 use Rattle.ist_rest.specs.RestingWords.{HoldPairs}
 use Rattle.ist_tree.specs.Faces.{TreeFace}
 use Rattle.ist_map.specs.Growing.{words_for_tree}
-use Rattle.ist_map.specs.Hands.{calls_by}
-use Rattle.ist_map.proofs.HandLemmas.{all_worked}
+use Rattle.ist_map.specs.Hands.{calls_by, first_stop}
+use Rattle.ist_map.proofs.HandLemmas.{all_worked, none_asked}
 use Rattle.ist_map.specs.Refusing.{WasRefusedOn}
 use Rattle.ist_map.proofs.RunLemmas.{refused_on, run_one}
 use Rattle.ist_reopen.specs.Generations.{generation_of}
@@ -45,3 +45,9 @@ returns-clause-ran g c =
     (λ h. h.refused) c.dismiss_all.new.hands (λ k d low.
     refused_on _ _ c.close.ensures.stands _ same_tree c.close.ensures.words _
     (c.dismiss_all.ensures.refused c.work_all.ensures.refused k d low)))
+
+-- none stopped by a handle by which no stop is requested
+pub returns-clause-unasked : goal.returns-clause-unasked
+returns-clause-unasked g c never =
+    ap first_stop c.dismiss_all.ensures.left
+    ∙ none_asked (λ h. h.stopped) c.work_all.new.hands c.work_all.ensures.unasked never

@@ -1,7 +1,8 @@
-use Rattle.std.proofs.Common.{rules, refl, arith}
+use Rattle.std.proofs.Common.{◌≡◌, ◌∙◌, None, All, rules, refl, sym, arith}
 use Rattle.ist_map.proofs.GrowLemmas.{any_refused, passed_on, stops, stops_here}
+use Rattle.ist_map.proofs.HandLemmas.{all_unasked, one_asked}
 use Rattle.ist_map.proofs.RunLemmas.{run_none, one_more, underway_more}
-use Rattle.ist_map.proofs.running.Map.run.Goals as goal
+use Rattle.ist_map.proofs.running.Map.run_until.Goals as goal
 
 -- no tree yet
 pub loop-hands-init : goal.loop-hands-init
@@ -26,10 +27,21 @@ returns-in_err-run_once-clause-ran g c =
     c.in_err-run_once.ensures.unchanged c.in_err-run_once.ensures.kept
     c.in_err-run_once.ensures.idle).ran
 
--- one tree more, on which all are done
+-- one tree more, on which none was refused
 pub returns-then-not-has_refused-clause-ran : goal.returns-then-not-has_refused-clause-ran
 returns-then-not-has_refused-clause-ran g c =
     one_more _ _ _ _ _ _ _ _ _ _ _ _ c.loop-hands.invariant.underway c.in_ok-run_once.ensures.ran
+
+-- all are done on it if none stopped by request, and else one did
+pub returns-then-not-has_refused-clause-done : goal.returns-then-not-has_refused-clause-done
+returns-then-not-has_refused-clause-done g c none k d low =
+    let unrefused : All (λ h. h.refused ≡ None) c.run_once.new.hands = search rules in
+    c.in_ok-run_once.ensures.done k d low (unrefused k d low)
+    (all_unasked (λ h. h.stopped) c.run_once.new.hands (sym c.left.ensures.value ∙ none) k d low)
+
+pub returns-then-not-has_refused-clause-left : goal.returns-then-not-has_refused-clause-left
+returns-then-not-has_refused-clause-left g c some =
+    one_asked (λ h. h.stopped) c.run_once.new.hands (λ none. some (c.left.ensures.value ∙ none))
 
 -- one tree more, and none may have more words
 pub returns-in_err-words-clause-fault : goal.returns-in_err-words-clause-fault

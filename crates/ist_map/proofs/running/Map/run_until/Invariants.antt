@@ -2,7 +2,7 @@ use Rattle.std.proofs.Common.{◌≤◌, ◌-◌, ◌*◌, length, map}
 use Rattle.ist_core.specs.Enabled.{caller_limit}
 use Rattle.ist_core.specs.RowLayout.{place_limit}
 use Rattle.ist_map.specs.Running.{IsUnderway}
-use Rattle.ist_map.proofs.running.Map.run.Given as goal
+use Rattle.ist_map.proofs.running.Map.run_until.Given as goal
 
 -- the trees so far are a run, and a worker was refused on the last of them
 abbrev pub invariant-loop-hands : goal.invariant-loop-hands
