@@ -202,7 +202,7 @@ static void read_in_order(void) {
     ist_free(&owner);
 }
 
-/* The words that are left: a put and a shot take some, a find takes none. */
+/* The words that are left: a put and a shot take some, a find and a list take none. */
 static void use_words(void) {
     ist_entry entries[2] = {{1, 10}, {2, 20}};
     ist_owner owner = {0};
@@ -213,7 +213,14 @@ static void use_words(void) {
     check(ist_open(1000, entries, 2, &owner) == IST_DONE && ist_new_pass(&owner, &pass) == IST_DONE, 161);
     check(ist_room((ist_pass *)&owner, &left) == IST_MISUSE && left == 7 && owner.full, 162);
     check(ist_room(&pass, &left) == IST_DONE && left == 1000 - ist_words_for(2), 163);
+    ist_entry room[3] = {{7, 7}, {7, 7}, {7, 7}};
+    uint64_t count = 7;
+    check(ist_list_live(&pass, 0, UINT64_MAX, room, 1, &count) == IST_DONE && count == 2, 170);
+    check(room[0].key == 1 && room[0].value == 10 && room[1].key == 7, 171);
+    check(ist_list_live(&pass, 2, 9, room, 3, &count) == IST_DONE && count == 1 && room[0].value == 20 && room[1].key == 7, 172);
+    check(ist_list_live(&pass, 3, 2, NULL, 0, &count) == IST_DONE && count == 0, 173);
     check(ist_find(&pass, 1).some && ist_room(&pass, &less) == IST_DONE && less == left, 164);
+    check(ist_list_live((ist_pass *)&owner, 0, 9, room, 3, &count) == IST_MISUSE && count == 0 && room[0].key == 2, 174);
     /* a handle with a shot is no pass */
     check(ist_take_shot(&pass, 0, &why) == IST_DONE && ist_room(&pass, &less) == IST_MISUSE && less == left, 165);
     check(ist_drop_shot(&pass) == IST_DONE && ist_room(&pass, &less) == IST_DONE, 166);

@@ -75,6 +75,8 @@ void read_in_order() {
     ist::pass pass(tree), other(tree);
     for (std::uint64_t key = 0; key < 300; key++) check(bool(pass.put(10 * key, key)), "put");
     check(pass.at_least(11)->key == 20 && pass.at_most(19)->key == 10 && !pass.at_least(2991), "the next keys");
+    auto all = pass.list(0, last_key);
+    check(all.size() == 300 && all[299].key == 2990 && all[299].value == 299 && pass.list(11, 19).empty(), "a list in one walk");
     std::uint64_t left = pass.room();
     check(left < 100000 && pass.find(20) == 2 && other.room() == left, "a find takes no words");
     check(pass.put(20, 2).before == 2 && other.room() < left, "a put takes some");

@@ -106,6 +106,7 @@ unsafe extern "C" {
     fn ist_at_least(pass: *mut Handle, key: u64, found: *mut Pair) -> u32;
     fn ist_at_most(pass: *mut Handle, key: u64, found: *mut Pair) -> u32;
     fn ist_list_range(pass: *mut Handle, first: u64, last: u64, room: *mut Pair, rooms: usize, piece: *mut Piece) -> u32;
+    fn ist_list_live(pass: *mut Handle, first: u64, last: u64, room: *mut Pair, rooms: usize, count: *mut u64) -> u32;
     fn ist_room(pass: *mut Handle, words: *mut u64) -> u32;
     fn ist_shot_words(pairs: u64) -> u64;
     fn ist_take_shot(pass: *mut Handle, words: u64, why: *mut Shortage) -> u32;
@@ -356,6 +357,32 @@ impl PassHandle {
         let status = unsafe { ist_list_range(&mut self.handle, first, last, at, rooms, &mut piece) };
         assert_eq!(status, DONE);
         (piece.count as usize, piece.more.then_some(piece.next))
+    }
+
+    /// Appends the pairs from `first` to `last`, found in one walk; in two if they are more than there is room for, or than twice as
+    /// many as are expected.
+    pub(crate) fn append(&mut self, first: u64, last: u64, expected: usize, pairs: &mut Vec<Pair>) -> Result<(), Error> {
+        let begun = pairs.len();
+        let mut rooms = (pairs.capacity() - begun).min(2 * expected + 64);
+        loop {
+            pairs.resize(begun + rooms, Pair::default());
+            let (at, mut count) = (pairs[begun..].as_mut_ptr(), 0);
+            // SAFETY: pointer and length are those of one slice, and the handle and `count` are the call's alone.
+            let status = unsafe { ist_list_live(&mut self.handle, first, last, at, rooms, &mut count) };
+            let count = count as usize;
+            if status == DONE && count <= rooms {
+                pairs.truncate(begun + count);
+                return Ok(());
+            }
+            pairs.truncate(begun);
+            if status == MEMORY {
+                return Err(Error::Memory);
+            }
+            assert_eq!(status, DONE);
+            // others may put some more meanwhile
+            rooms = count + count / 8;
+            pairs.try_reserve(rooms).map_err(|_| Error::Memory)?;
+        }
     }
 
     /// How many words of the tree are left, at a moment of the call.

@@ -30,33 +30,8 @@ pub fn shot_words(pairs: usize) -> Option<u64> {
     Some(ffi::shot_words(pairs as u64)).filter(|words| *words != 0)
 }
 
-// Appends the pairs from the first key to the last, by calls that write as many as there is room for, and return how many these are
-// and the key to go on from.
-pub(crate) fn append_listed(
-    pairs: &mut Vec<Pair>,
-    (mut first, last): (u64, u64),
-    mut list: impl FnMut(u64, u64, &mut [Pair]) -> (usize, Option<u64>),
-) -> Result<(), Error> {
-    loop {
-        let begun = pairs.len();
-        pairs.try_reserve(64).map_err(|_| Error::Memory)?;
-        pairs.resize(begun + 64, Pair::default());
-        let (count, next) = list(first, last, &mut pairs[begun..]);
-        pairs.truncate(begun + count);
-        match next {
-            Some(key) => first = key,
-            None => return Ok(()),
-        }
-    }
-}
-
-fn listed(ends: Option<(u64, u64)>, list: impl FnMut(u64, u64, &mut [Pair]) -> (usize, Option<u64>)) -> Vec<Pair> {
-    let mut pairs = Vec::new();
-    if let Some(ends) = ends {
-        append_listed(&mut pairs, ends, list).expect("there is memory for the list");
-    }
-    pairs
-}
+// Why a list that isn't made panics.
+const NO_MEMORY: &str = "there is memory for the list";
 
 // The first and the last key of the range, if it has keys.
 pub(crate) fn ends<R: RangeBounds<u64>>(range: R) -> Option<(u64, u64)> {
@@ -319,8 +294,12 @@ impl<'t> Pass<'t> {
     /// # Ok::<(), luskadorv::Error>(())
     /// ```
     pub fn list<R: RangeBounds<u64>>(&mut self, range: R) -> Vec<Pair> {
-        let handle = self.handle();
-        listed(ends(range), |first, last, room| handle.list(first, last, room))
+        let mut pairs = Vec::new();
+        if let Some((first, last)) = ends(range) {
+            pairs.try_reserve(64).expect(NO_MEMORY);
+            self.handle().append(first, last, 0, &mut pairs).expect(NO_MEMORY);
+        }
+        pairs
     }
 
     /// Writes the pairs from `first` to `last` into `room`, in increasing order of keys, as many as there is room for. Returns
@@ -463,8 +442,16 @@ impl Shot<'_> {
     /// # Ok::<(), luskadorv::Error>(())
     /// ```
     pub fn list<R: RangeBounds<u64>>(&mut self, range: R) -> Vec<Pair> {
-        let handle = self.handle();
-        listed(ends(range), |first, last, room| handle.list(first, last, room))
+        let (mut pairs, mut rest) = (Vec::new(), ends(range));
+        while let Some((first, last)) = rest {
+            let begun = pairs.len();
+            pairs.try_reserve(64).expect(NO_MEMORY);
+            pairs.resize(begun + 64, Pair::default());
+            let (count, next) = self.handle().list(first, last, &mut pairs[begun..]);
+            pairs.truncate(begun + count);
+            rest = next.map(|key| (key, last));
+        }
+        pairs
     }
 
     /// Writes the pairs from `first` to `last` into `room`, as [`Pass::list_into`].

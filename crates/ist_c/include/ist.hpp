@@ -17,6 +17,7 @@
 #include <exception>
 #include <memory>
 #include <mutex>
+#include <new>
 #include <optional>
 #include <utility>
 #include <vector>
@@ -246,10 +247,15 @@ public:
         return ist_at_most(&lent_.handle, key, &found) == IST_DONE ? std::optional<entry>(found) : std::nullopt;
     }
 
-    /* The pairs with keys from `first` to `last`, both included, each at a moment of its own, in increasing order of keys. `each`
-     * gets an entry, and returns whether to go on. */
+    /* The pairs with keys from `first` to `last`, both included, each at a moment of its own, in increasing order of keys. `list`
+     * finds them in one walk. `each` gets an entry, and returns whether to go on. */
     std::vector<entry> list(std::uint64_t first, std::uint64_t last) {
-        return detail::all_of(ist_list_range, &lent_.handle, first, last);
+        std::vector<entry> found(64);
+        for (std::uint64_t count = 0, rooms = 64;; rooms = found.size()) {
+            if (ist_list_live(&lent_.handle, first, last, found.data(), rooms, &count) == IST_MEMORY) throw std::bad_alloc();
+            found.resize(count);
+            if (count <= rooms) return found;
+        }
     }
     template <class Each> void for_each(std::uint64_t first, std::uint64_t last, Each each) {
         detail::each_of(ist_list_range, &lent_.handle, first, last, each);

@@ -8,9 +8,10 @@ use Rattle.ist_handles.specs.declared.pieces.Piece.{Piece}
 use Rattle.ist_handles.specs.declared.held.Held.{Held}
 use Rattle.ist_handles.specs.declared.held.Held.TheVariants as of
 use Rattle.ist_handles.specs.declared.passes.TreePass.{TreePass}
-use Rattle.ist_handles.specs.Results.{done}
-use Rattle.ist_handles.specs.Entries.{Wrote}
+use Rattle.ist_handles.specs.Results.{done, memory}
+use Rattle.ist_handles.specs.Entries.{Wrote, written}
 use Rattle.ist_c.specs.Reads.{IsNextPair, ReadsBy, pass_reads, EntriesHold, ListsBy, pass_lists}
+use Rattle.ist_c.specs.Reads.{HasWalkedRange, ListsLive, lists_live, lists_no_more, ReadsInTree}
 use Rattle.ist_c.specs.Reads.{HasCountedRoom, CountsRoom, pass_counts}
 
 -- what a pass behind a handle found as the next pair was read by this pass, and written
@@ -30,6 +31,25 @@ pub read_range : (held : Held) (p q : TreePass) (first last : ℕ) (room after :
 read_range held p q first last room after before piece is same listed =
     subst (λ (h : Held). ListsBy h (of.Pass q) first last done room after before piece) (sym is)
     (pass_lists p q first last room after before piece same listed)
+
+-- what a pass behind a handle found in one walk is the list of a range, and written
+pub listed_live : (held : Held) (p q : TreePass) (first last : ℕ) (found : List Pair)
+    (room after : List Entry) (before count : ℕ) → held ≡ of.Pass p → HasWalkedRange p q first last found
+    → after ≡ written found room → count ≡ length found
+    → ListsLive held (of.Pass q) first last done room after before count
+listed_live held p q first last found room after before count is listed wrote many =
+    subst (λ (h : Held). ListsLive h (of.Pass q) first last done room after before count) (sym is)
+    (subst (λ es. ListsLive (of.Pass p) (of.Pass q) first last done room es before count) (sym wrote)
+    (subst (λ n. ListsLive (of.Pass p) (of.Pass q) first last done room (written found room) before n)
+    (sym many) (lists_live p q first last found room before listed)))
+
+-- without memory it has only read
+pub listed_none : (held : Held) (p q : TreePass) (first last : ℕ) (room : List Entry) (count : ℕ)
+    → held ≡ of.Pass p → ReadsInTree p q
+    → ListsLive held (of.Pass q) first last memory room room count count
+listed_none held p q first last room count is read =
+    subst (λ (h : Held). ListsLive h (of.Pass q) first last memory room room count count) (sym is)
+    (lists_no_more p q first last room count read)
 
 -- what a pass behind a handle counted was left of its tree, and written
 pub counted_room : (held : Held) (p q : TreePass) (before words : ℕ) → held ≡ of.Pass p

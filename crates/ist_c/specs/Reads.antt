@@ -7,14 +7,15 @@ use Rattle.ist_tree.specs.RealTime.{StepsIn}
 use Rattle.ist_tree.specs.Room.{HasLeft, HasMadeNone}
 use Rattle.ist_live.specs.Reading.{HasOnlyRead}
 use Rattle.ist_live.specs.Ends.{IsNextUp, IsNextDown}
+use Rattle.ist_live.specs.Lists.{AreInTurn, AreLive}
 use Rattle.ist_live.specs.Pieces.{IsPiece}
 use Rattle.ist_handles.specs.declared.entries.Entry.{Entry}
 use Rattle.ist_handles.specs.declared.pieces.Piece.{Piece}
 use Rattle.ist_handles.specs.declared.held.Held.{Held}
 use Rattle.ist_handles.specs.declared.held.Held.TheVariants as of
 use Rattle.ist_handles.specs.declared.passes.TreePass.{TreePass}
-use Rattle.ist_handles.specs.Entries.{pairs_in, Wrote, next_key}
-use Rattle.ist_handles.specs.Results.{done, misuse}
+use Rattle.ist_handles.specs.Entries.{pairs_in, Wrote, next_key, written}
+use Rattle.ist_handles.specs.Results.{done, memory, misuse}
 use Rattle.ist_c.specs.Kinds.{IsNoPass}
 
 -- the pass is of the same tree, and made no call: it has only read
@@ -65,6 +66,27 @@ pub data ListsBy : Held → Held → ℕ → ℕ → ℕ → List Entry → List
         → ListsBy (of.Pass p) (of.Pass q) first last done room after before piece
     none_lists : (held : Held) (first last : ℕ) (room : List Entry) (piece : Piece)
         → (length room ≡ 0) ⊎ IsNoPass held → ListsBy held held first last misuse room room piece piece
+
+-- ---- a range in one walk
+
+-- the pass is of the same tree, and has only read: each key of a range had what the pairs found give it, at a
+-- moment of its own, and time never goes back along the keys
+pub record HasWalkedRange (p q : TreePass) (first last : ℕ) (found : List Pair) : Type 0 where
+  pub read : ReadsInTree p q
+  pub live : AreLive p.pass q.pass first last found
+  pub in_turn : AreInTurn p.pass q.pass found
+
+-- a handle of a pass holds this pass still, which listed a range: the room has the pairs, as many as there is
+-- room for, and the count is that of all; without memory nothing is written. Only a handle of something
+-- else is misused, and is as before
+pub data ListsLive : Held → Held → ℕ → ℕ → ℕ → List Entry → List Entry → ℕ → ℕ → Type 0 where
+  lists_live : (p q : TreePass) (first last : ℕ) (found : List Pair) (room : List Entry) (before : ℕ)
+      → HasWalkedRange p q first last found
+      → ListsLive (of.Pass p) (of.Pass q) first last done room (written found room) before (length found)
+  lists_no_more : (p q : TreePass) (first last : ℕ) (room : List Entry) (count : ℕ) → ReadsInTree p q
+      → ListsLive (of.Pass p) (of.Pass q) first last memory room room count count
+  live_none : (held : Held) (first last : ℕ) (room : List Entry) (count : ℕ) → IsNoPass held
+      → ListsLive held held first last misuse room room count count
 
 -- ---- the words that are left
 

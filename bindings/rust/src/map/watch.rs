@@ -17,7 +17,6 @@ use super::locked;
 use super::parts::room_for;
 use super::update::Update;
 use crate::ffi::PassHandle;
-use crate::tree::append_listed;
 use crate::{Error, Full, Pair};
 use std::collections::HashMap;
 use std::sync::Mutex;
@@ -155,7 +154,7 @@ impl Inner {
         let mut pairs = room_for(directory.parts(first, last).map(|part| part.pairs.len() + part.pairs.len() / 8).sum())?;
         for part in directory.parts(first, last) {
             let mut pass = part.lend()?;
-            append_listed(&mut pairs, (first, last), |first, last, room| pass.list(first, last, room))?;
+            pass.append(first, last, part.pairs.len(), &mut pairs)?;
             self.reached(Step::Listing);
         }
         Ok(pairs)

@@ -7,7 +7,6 @@ use super::parts::{Part, opened, room_for};
 use super::plans::Plan;
 use super::sizes::{FIRST_WORDS, USUAL};
 use crate::shared::Shared;
-use crate::tree::append_listed;
 use crate::{Error, Pair};
 use std::slice::from_ref;
 
@@ -42,7 +41,7 @@ impl Inner {
         let mut pairs = room_for(self.keys() as usize)?;
         for part in self.directory().parts(0, u64::MAX) {
             let mut pass = part.lend()?;
-            append_listed(&mut pairs, (part.first, part.last), |first, last, room| pass.list(first, last, room))?;
+            pass.append(part.first, part.last, part.pairs.len(), &mut pairs)?;
         }
         Ok(pairs)
     }
