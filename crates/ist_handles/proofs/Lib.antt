@@ -1,5 +1,6 @@
 pub mod EntryLemmas
 pub mod SendLemmas
+pub mod RisingEntryLemmas
 pub mod ShotPieceLemmas
 pub mod SortLemmas
 pub mod UptoLemmas

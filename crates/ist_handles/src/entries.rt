@@ -1,7 +1,7 @@
 //! The pairs that a caller in C passes in, and that it gets.
-ghost use Rattle.std.specs.Prelude.{◌≡◌, IfOk, OnOk};
+ghost use Rattle.std.specs.Prelude.{◌≡◌, IfOk, IfSome, OnOk};
 ghost use Rattle.plain_map.specs.Rising.{IsRising};
-ghost use Rattle.ist_handles.specs.Entries.{Wrote, pairs_given, written};
+ghost use Rattle.ist_handles.specs.Entries.{Wrote, pair_of_entry, pairs_given, written};
 
 use crate::results::{DONE, NO_KEY};
 use ist_core::{Command, Pair};
@@ -14,6 +14,35 @@ use std::alloc::{AllocError, Global};
 pub struct Entry {
     pub key: u64,
     pub value: u64,
+}
+
+// The entry as a pair.
+fn pair_of(entry: &Entry) -> Pair
+    ensures value { result ≡ pair_of_entry entry.now }
+{
+    Pair {
+        key: entry.key,
+        value: entry.value,
+    }
+}
+
+// Copies the entries as pairs, if each key is greater than the one before it.
+fn copy_rising(alloc: Global, entries: &[Entry]) -> Result<Option<Vec<Pair>>, AllocError>
+    ensures rising { IfOk result (λ copied. IfSome copied (λ pairs. IsRising pairs.items)) }
+    ensures given { IfOk result (λ copied.
+        IfSome copied (λ pairs. pairs.items ≡ pairs_given entries.now)) }
+{
+    let mut pairs = Vec::with_capacity(alloc, entries.len())?;
+    let mut last = 0;
+    for entry in entries {
+        let pair = pair_of(entry);
+        if !pairs.is_empty() && pair.key <= last {
+            return Ok(None);
+        }
+        last = pair.key;
+        pairs.push_reserved(pair);
+    }
+    Ok(Some(pairs))
 }
 
 // Puts the entries into a map, one after another, and returns its pairs.
@@ -39,14 +68,14 @@ fn sort_entries(alloc: Global, entries: &mut [Entry]) -> Result<(), AllocError>
 }
 
 /// Returns the pairs of the entries, in increasing order of keys: of entries with one key the last. Entries
-/// in order of their keys take a time that grows as their number, and others as that of a sort: a put of the
+/// with strictly increasing keys are copied, and others sorted and put one after another: a put of the
 /// greatest key so far moves no pair. Fails only if memory runs out.
 pub fn pairs_of_entries(alloc: Global, entries: &[Entry]) -> Result<Vec<Pair>, AllocError>
     ensures rising { IfOk result (λ pairs. IsRising pairs.items) }
     ensures given { IfOk result (λ pairs. pairs.items ≡ pairs_given entries.now) }
 {
-    if entries.is_sorted_by_key(|entry| entry.key) {
-        return put_all(alloc, entries);
+    if let Some(pairs) = copy_rising(alloc, entries)? {
+        return Ok(pairs);
     }
     let mut sorted = Vec::from_slice(alloc, entries)?;
     sort_entries(alloc, &mut sorted)?;
