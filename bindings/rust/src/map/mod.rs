@@ -4,10 +4,10 @@
 //! directory says which part has a key. It is never changed: another one replaces it, and the version says so.
 //!
 //! The library's tree has passes, each for one call at a time. The map keeps them in slots, and a call locks a slot: its thread's own, or
-//! the next one that is free. So threads share no lock, as long as there are no more of them than slots.
+//! the next one that is free. So threads share no lock, as long as no more have called maps than there are slots.
 //!
 //! A part keeps the pairs with which its tree was opened, and each update that changes a key records the key in its slot. When few words
-//! of a part are left, the update that finds so claims the part, gives its slot up, and makes the parts that follow:
+//! of a part are left, the update that finds so gives its slot up, claims the part, and makes the parts that follow:
 //!
 //! - `Calm`: the records are taken over. The next trees are opened with the pairs of the old one: those with which it was opened, but each
 //!   recorded key as it is found in the tree.
