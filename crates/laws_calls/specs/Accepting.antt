@@ -1,4 +1,4 @@
--- The law over lawful logs on callers that made no entry. `src/laws.rt` names it.
+-- The law over lawful logs on callers that made no entry. `src/walks.rt` names it.
 use Rattle.std.specs.Prelude.{List, None, Some, ℕ, ◌↔◌, ◌≡◌, ◌≢◌}
 use Rattle.ist_core.specs.declared.commands.Command.{Command}
 use Rattle.ist_core.specs.declared.events.Event.TheVariants.{Install}

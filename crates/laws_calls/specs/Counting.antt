@@ -1,4 +1,4 @@
--- The law over lawful logs on where an update may be counted. `src/laws.rt` names it.
+-- The law over lawful logs on where an update may be counted. `src/walks.rt` names it.
 use Rattle.std.specs.Prelude.{List, Some, length, slice_get, ℕ, ◌+◌, ◌∷◌, ◌≡◌, ◌≢◌, ◌≤◌}
 use Rattle.ist_core.specs.declared.events.Event.{Event}
 use Rattle.ist_core.specs.declared.events.Event.TheVariants.{Count}

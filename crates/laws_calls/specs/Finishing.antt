@@ -1,4 +1,4 @@
--- The laws over lawful logs on rows that were linked or are finished. `src/laws.rt` lists them.
+-- The laws over lawful logs on rows that were linked or are finished. `src/rows.rt` lists them.
 use Rattle.std.specs.Prelude.{Bool, List, Some, false, filter, length, map, true, ℕ, ◌+◌, ◌≢◌, ◌≤◌}
 use Rattle.std.specs.List.Sorted.{IsStrictlyIncreasing}
 use Rattle.ist_core.specs.declared.commands.Command.{Command}

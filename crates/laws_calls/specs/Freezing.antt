@@ -1,4 +1,4 @@
--- The law over lawful logs on the tree that remains after a freeze. `src/laws.rt` names it.
+-- The law over lawful logs on the tree that remains after a freeze. `src/rows.rt` names it.
 use Rattle.std.specs.Prelude.{List, Some, length, map, ℕ, ◌≡◌, ◌≤◌}
 use Rattle.ist_core.specs.declared.pairs.Pair.{Pair}
 use Rattle.ist_core.specs.Changes.{changes_of, map_at}

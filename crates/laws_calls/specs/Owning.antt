@@ -1,4 +1,4 @@
--- The laws over lawful logs on changes and the callers that install them. `src/laws.rt` lists them.
+-- The laws over lawful logs on changes and the callers that install them. `src/settling.rt` lists them.
 use Rattle.std.specs.Prelude.{List, Some, ℕ, ◌<◌, ◌∷◌, ◌≡◌, ◌⊎◌}
 use Rattle.ist_core.specs.declared.events.Event.TheVariants.{Install}
 use Rattle.ist_core.specs.declared.events.Who.TheVariants.{Caller}

@@ -1,4 +1,4 @@
--- The law over lawful logs on a table whose callers are done. `src/laws.rt` names it.
+-- The law over lawful logs on a table whose callers are done. `src/settling.rt` names it.
 use Rattle.std.specs.Prelude.{List, Some, ℕ, ◌+◌, ◌<◌, ◌∷◌, ◌≡◌, ◌≢◌, ◌≤◌, ◌⊎◌}
 use Rattle.ist_core.specs.declared.events.Event.TheVariants.{Count, Install}
 use Rattle.ist_core.specs.declared.events.Event.{Event}

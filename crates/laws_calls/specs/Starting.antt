@@ -1,4 +1,4 @@
--- The laws over lawful logs on how a rebuild begins and which slots hold it. `src/laws.rt` lists
+-- The laws over lawful logs on how a rebuild begins and which slots hold it. `src/settling.rt` lists
 -- them.
 use Rattle.std.specs.Prelude.{List, Some, ℕ, ◌≡◌}
 use Rattle.ist_core.specs.declared.pairs.Pair.{Pair}

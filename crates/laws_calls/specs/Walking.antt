@@ -1,4 +1,4 @@
--- The law over lawful logs on the rows that a search or a walk meets. `src/laws.rt` names it.
+-- The law over lawful logs on the rows that a search or a walk meets. `src/walks.rt` names it.
 use Rattle.std.specs.Prelude.{List, Some, [], length, slice_get, ℕ, ◌++◌, ◌∷◌, ◌≡◌, ◌≤◌}
 use Rattle.ist_core.specs.declared.pairs.Pair.{Pair}
 use Rattle.ist_core.specs.Elements.{Among}

@@ -1,4 +1,4 @@
--- The law over lawful logs on how far the draw word of a rebuild can grow. `src/laws.rt` names it.
+-- The law over lawful logs on how far the draw word of a rebuild can grow. `src/rebuilds.rt` names it.
 use Rattle.std.specs.Prelude.{List, Some, ℕ, ◌+◌, ◌≡◌, ◌≤◌}
 use Rattle.ist_core.specs.declared.pairs.Pair.{Pair}
 use Rattle.ist_core.specs.declared.states.RebuildRow.{RebuildRow}

@@ -1,4 +1,4 @@
--- The laws over lawful logs on rows that were linked. `src/laws.rt` lists them.
+-- The laws over lawful logs on rows that were linked. `src/links.rt` lists them.
 use Rattle.std.specs.Prelude.{List, Some, true, ℕ, ◌∷◌, ◌≡◌, ◌≢◌, ◌⊎◌}
 use Rattle.ist_core.specs.declared.events.Event.TheVariants.{Decide}
 use Rattle.ist_core.specs.declared.pairs.Pair.{Pair}

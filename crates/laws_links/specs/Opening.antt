@@ -1,4 +1,4 @@
--- The law over lawful logs on a table whose rebuilds are done. `src/laws.rt` names it.
+-- The law over lawful logs on a table whose rebuilds are done. `src/rebuilds.rt` names it.
 use Rattle.std.specs.Prelude.{List, Some, ℕ, ◌≡◌, ◌⊎◌}
 use Rattle.ist_core.specs.declared.pairs.Pair.{Pair}
 use Rattle.ist_core.specs.declared.states.InnerRow.{InnerRow}

@@ -1,4 +1,4 @@
--- The laws over lawful logs on rebuilds and on the contents. `src/laws.rt` lists them.
+-- The laws over lawful logs on rebuilds and on the contents. `src/rebuilds.rt` lists them.
 use Rattle.std.specs.Prelude.{List, Some, length, true, ℕ, ◌↔◌, ◌∷◌, ◌≡◌, ◌≢◌, ◌≤◌, ◌⊎◌}
 use Rattle.ist_core.specs.declared.events.Event.{Event}
 use Rattle.ist_core.specs.declared.events.Event.TheVariants.{Decide}

@@ -1,4 +1,4 @@
--- The law over lawful logs on rows that aren't linked any more. `src/laws.rt` names it.
+-- The law over lawful logs on rows that aren't linked any more. `src/rebuilds.rt` names it.
 use Rattle.std.specs.Prelude.{List, ℕ}
 use Rattle.ist_core.specs.declared.pairs.Pair.{Pair}
 use Rattle.ist_core.specs.Lawful.{Lawful, state_of}

@@ -1,5 +1,5 @@
 -- What the stability law asks for is needed: an event that is enabled after both logs has it.
--- `src/laws.rt` lists the clauses.
+-- `src/stability.rt` lists the clauses.
 use Rattle.std.specs.Prelude.{List, Some, ℕ, ◌≡◌}
 use Rattle.ist_core.specs.declared.events.Event.{Event}
 use Rattle.ist_core.specs.declared.events.Event.TheVariants.{Install, Okay, Pass}

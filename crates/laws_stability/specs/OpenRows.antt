@@ -1,4 +1,4 @@
--- Where to find an open row that a slot once held. `src/laws.rt` names the law.
+-- Where to find an open row that a slot once held. `src/progress.rt` names the law.
 use Rattle.std.specs.Prelude.{List, Some, ℕ, ◌≡◌}
 use Rattle.ist_core.specs.declared.pairs.Pair.{Pair}
 use Rattle.ist_core.specs.Lawful.{Lawful, state_of}

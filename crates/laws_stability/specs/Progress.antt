@@ -1,4 +1,4 @@
--- How far a table has come: a count of steps that can happen only so often. `src/laws.rt` names the laws.
+-- How far a table has come: a count of steps that can happen only so often. `src/progress.rt` names the laws.
 use Rattle.std.specs.Prelude.{List, [], ◌∷◌, ℕ, ◌+◌, ◌*◌, ◌<◌, ◌≤◌}
 use Rattle.ist_core.specs.declared.events.Event.{Event}
 use Rattle.ist_core.specs.declared.events.Event.TheVariants.{Install, Resolve, Mark}

@@ -1,4 +1,4 @@
--- The stability law: an event that is enabled stays enabled under events of others. `src/laws.rt`
+-- The stability law: an event that is enabled stays enabled under events of others. `src/stability.rt`
 -- lists its clauses.
 use Rattle.std.specs.Prelude.{Bool, List, Some, ℕ, ◌+◌, ◌≡◌}
 use Rattle.ist_core.specs.declared.events.Event.{Event}

@@ -1,4 +1,4 @@
--- What stays the same while a table comes no further. `src/laws.rt` names the laws.
+-- What stays the same while a table comes no further. `src/progress.rt` names the laws.
 use Rattle.std.specs.Prelude.{List, Some, ℕ, ◌≤◌, ◌≡◌, ◌≢◌}
 use Rattle.ist_core.specs.declared.pairs.Pair.{Pair}
 use Rattle.ist_core.specs.Lawful.{Lawful, state_of}
