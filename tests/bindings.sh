@@ -45,7 +45,7 @@ exports() {
     python3 "$here/tests/exports.py" "$@"
 }
 lists() {
-    exports rattle "$here"/crates/ist_c/src/*.rt "$here"/crates/ist_handles/src/*.rt >"$all/rattle"
+    exports rattle "$here"/crates/ist_c/src/*.rt "$here"/crates/ist_handles/src/*.rt "$here"/crates/ist_core/src/pairs.rt >"$all/rattle"
     exports c "$include/ist.h" "$here/bindings/c/library.c" | grep -v -e '^ist_version(' -e '^ist_open(' -e '^ist_reopen(' >"$all/inner"
     exports c "$include/ist.h" | grep -v '^ist_version() -> u32$' >"$all/c"
     exports rust "$here/bindings/rust/src/ffi.rs" >"$all/rust"

@@ -16,8 +16,8 @@ from pathlib import Path
 WORDS = {
     "rattle": {
         "u64": "u64", "u32": "u32", "bool": "bool", "CallResult": "result", "&mut Handle": "handle*", "&mut u64": "u64*",
-        "&mut Shortage": "shortage*", "&mut Piece": "piece*", "&mut Stats": "stats*", "&mut Entry": "entry*",
-        "&[Entry]": "entry const*, size", "&mut [Entry]": "entry*, size", "Opaque": "pointer",
+        "&mut Shortage": "shortage*", "&mut Piece": "piece*", "&mut Stats": "stats*", "&mut Pair": "entry*",
+        "&[Pair]": "entry const*, size", "&mut [Pair]": "entry*, size", "Opaque": "pointer",
     },
     "c": {
         "uint64_t": "u64", "uint32_t": "u32", "bool": "bool", "size_t": "size", "ist_result": "result", "void": "nothing",
@@ -32,7 +32,7 @@ WORDS = {
     },
 }
 STRUCTS = {
-    "CallResult": "result", "Shortage": "shortage", "Piece": "piece", "Stats": "stats", "Entry": "entry", "Pair": "entry",
+    "CallResult": "result", "Shortage": "shortage", "Piece": "piece", "Stats": "stats", "Pair": "entry",
     "Handle": "handle",
 }
 

@@ -25,10 +25,11 @@ MOST_OF_A_SCRIPT = 1 << 18
 # What `main` passes for a parameter, by its type. Handles alternate between two, which are empty.
 ARGUMENTS = {
     "Global": "alloc", "u32": "0", "u64": "0", "&mut u64": "&mut number", "&mut Shortage": "&mut short", "&mut Piece": "&mut piece",
-    "&mut Stats": "&mut stats", "&mut Entry": "&mut entry", "&[Entry]": "&room", "&mut [Entry]": "&mut room",
+    "&mut Stats": "&mut stats", "&mut Pair": "&mut pair", "&[Pair]": "&room", "&mut [Pair]": "&mut room",
 }
 MAIN = """
-use ist_handles::{{Entry, Handle, Piece, Shortage, Stats}};
+use ist_core::Pair;
+use ist_handles::{{Handle, Piece, Shortage, Stats}};
 
 fn main(rt: HostRuntime) {{
     let alloc = rt.alloc();
@@ -38,8 +39,8 @@ fn main(rt: HostRuntime) {{
     let mut short = Shortage {{ next: 0, asked: 0, words: 0 }};
     let mut piece = Piece {{ count: 0, more: false, next: 0 }};
     let mut stats = Stats {{ keys: 0, words: 0, used: 0 }};
-    let mut entry = Entry {{ key: 0, value: 0 }};
-    let mut room = [Entry {{ key: 0, value: 0 }}];
+    let mut pair = Pair {{ key: 0, value: 0 }};
+    let mut room = [Pair {{ key: 0, value: 0 }}];
 {calls}
 }}
 """

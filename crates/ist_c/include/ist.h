@@ -74,7 +74,7 @@ typedef struct ist_stats { uint64_t keys, words, used; } ist_stats;
 uint64_t ist_words_for(uint64_t pairs);
 
 /* Opens a tree of these pairs (of two with one key the later), with this many words of 8 bytes, at most 2^28. All its
- * memory is allocated here. */
+ * memory is allocated here. Pairs whose keys rise are read where they are, and others copied and sorted first. */
 uint32_t ist_open(uint32_t words, const ist_entry *entries, size_t count, ist_owner *out);
 
 /* Makes a new pass. The status is IST_MEMORY also if 2^32 - 1 were made since the tree was opened, whether or not they were

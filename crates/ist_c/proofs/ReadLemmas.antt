@@ -3,20 +3,19 @@ use Rattle.std.proofs.Common.{◌≡◌, ℕ, Bool, List, length, Option, sym, s
 use Rattle.std.specs.Arc.{arc_value}
 use Rattle.ist_core.specs.declared.pairs.Pair.{Pair}
 use Rattle.ist_live.specs.Reading.{HasOnlyRead}
-use Rattle.ist_handles.specs.declared.entries.Entry.{Entry}
 use Rattle.ist_handles.specs.declared.pieces.Piece.{Piece}
 use Rattle.ist_handles.specs.declared.held.Held.{Held}
 use Rattle.ist_handles.specs.declared.held.Held.TheVariants as of
 use Rattle.ist_handles.specs.declared.passes.TreePass.{TreePass}
 use Rattle.ist_handles.specs.Results.{done, memory}
-use Rattle.ist_handles.specs.Entries.{Wrote, written}
+use Rattle.ist_handles.specs.Pairs.{Wrote, written}
 use Rattle.ist_c.specs.Reads.{IsNextPair, ReadsBy, pass_reads, EntriesHold, ListsBy, pass_lists}
 use Rattle.ist_c.specs.Reads.{HasWalkedRange, ListsLive, lists_live, lists_no_more, ReadsInTree}
 use Rattle.ist_c.specs.Reads.{HasCountedRoom, CountsRoom, pass_counts}
 
 -- what a pass behind a handle found as the next pair was read by this pass, and written
 pub read_next : (way : Bool) (held : Held) (p q : TreePass) (key status : ℕ) (pair : Option Pair)
-    (before after : Entry) → held ≡ of.Pass p → arc_value q.tree ≡ arc_value p.tree
+    (before after : Pair) → held ≡ of.Pass p → arc_value q.tree ≡ arc_value p.tree
     → HasOnlyRead p.pass q.pass → IsNextPair way p.pass q.pass key pair → Wrote pair status before after
     → ReadsBy way held (of.Pass q) key status before after
 read_next way held p q key status pair before after is tree read next wrote =
@@ -24,7 +23,7 @@ read_next way held p q key status pair before after is tree read next wrote =
     (pass_reads way p q key status pair before after (record { same_tree = tree; read = read }) next wrote)
 
 -- what a pass behind a handle listed was read by this pass, and written
-pub read_range : (held : Held) (p q : TreePass) (first last : ℕ) (room after : List Entry)
+pub read_range : (held : Held) (p q : TreePass) (first last : ℕ) (room after : List Pair)
     (before piece : Piece) → held ≡ of.Pass p → length after ≡ length room
     → EntriesHold p q first last after piece
     → ListsBy held (of.Pass q) first last done room after before piece
@@ -34,7 +33,7 @@ read_range held p q first last room after before piece is same listed =
 
 -- what a pass behind a handle found in one walk is the list of a range, and written
 pub listed_live : (held : Held) (p q : TreePass) (first last : ℕ) (found : List Pair)
-    (room after : List Entry) (before count : ℕ) → held ≡ of.Pass p → HasWalkedRange p q first last found
+    (room after : List Pair) (before count : ℕ) → held ≡ of.Pass p → HasWalkedRange p q first last found
     → after ≡ written found room → count ≡ length found
     → ListsLive held (of.Pass q) first last done room after before count
 listed_live held p q first last found room after before count is listed wrote many =
@@ -44,7 +43,7 @@ listed_live held p q first last found room after before count is listed wrote ma
     (sym many) (lists_live p q first last found room before listed)))
 
 -- without memory it has only read
-pub listed_none : (held : Held) (p q : TreePass) (first last : ℕ) (room : List Entry) (count : ℕ)
+pub listed_none : (held : Held) (p q : TreePass) (first last : ℕ) (room : List Pair) (count : ℕ)
     → held ≡ of.Pass p → ReadsInTree p q
     → ListsLive held (of.Pass q) first last memory room room count count
 listed_none held p q first last room count is read =

@@ -1,13 +1,13 @@
 -- What a pass behind a handle did with a shot.
 use Rattle.std.proofs.Common.{◌≡◌, ℕ, List, length, sym, subst}
 use Rattle.std.specs.Arc.{arc_value}
+use Rattle.ist_core.specs.declared.pairs.Pair.{Pair}
 use Rattle.ist_core.specs.declared.ports.Full.{Full}
 use Rattle.ist_tree.specs.declared.freezing.Frozen.{Frozen}
 use Rattle.ist_tree.specs.Calls.{HasSeenMore}
 use Rattle.ist_tree.specs.Freezing.{HasStartedNone}
 use Rattle.ist_scan.specs.Room.{HadRoom, IsShotRefused}
 use Rattle.ist_scan.specs.Shots.{HasTakenShot}
-use Rattle.ist_handles.specs.declared.entries.Entry.{Entry}
 use Rattle.ist_handles.specs.declared.held.Held.{Held}
 use Rattle.ist_handles.specs.declared.held.Held.TheVariants as of
 use Rattle.ist_handles.specs.declared.passes.TreePass.{TreePass}
@@ -74,7 +74,7 @@ counted_shot held s keys before is value =
     (subst (λ (n : ℕ). CountsShot (of.Shot s) done before n) (sym value) (counts_shot s before))
 
 -- a handle of a shot lists it, and holds it still
-pub listed_shot : (held : Held) (s t : ShotFace) (first last : ℕ) (room after : List Entry)
+pub listed_shot : (held : Held) (s t : ShotFace) (first last : ℕ) (room after : List Pair)
     (before piece : Piece) → held ≡ of.Shot s → length after ≡ length room
     → HasListedShot s t first last after piece
     → ListsShot held (of.Shot t) first last done room after before piece

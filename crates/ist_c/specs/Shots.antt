@@ -1,18 +1,18 @@
 -- What taking a shot, reading it and dropping it do to what a handle holds.
-use Rattle.std.specs.Prelude.{◌≡◌, ◌⊎◌, ℕ, ◌≤◌, List, length}
+use Rattle.std.specs.Prelude.{take, ◌≡◌, ◌⊎◌, ℕ, ◌≤◌, List, length}
 use Rattle.std.specs.Arc.{arc_value}
+use Rattle.ist_core.specs.declared.pairs.Pair.{Pair}
 use Rattle.ist_core.specs.declared.ports.Full.{Full}
 use Rattle.ist_tree.specs.Calls.{HasSeenMore}
 use Rattle.ist_tree.specs.Freezing.{HasStartedNone}
 use Rattle.ist_scan.specs.Room.{HadRoom, IsShotRefused}
 use Rattle.ist_scan.specs.Shots.{HasTakenShot, HasOnlyLooked}
-use Rattle.ist_handles.specs.declared.entries.Entry.{Entry}
 use Rattle.ist_handles.specs.declared.held.Held.{Held}
 use Rattle.ist_handles.specs.declared.held.Held.TheVariants as of
 use Rattle.ist_handles.specs.declared.passes.TreePass.{TreePass}
 use Rattle.ist_handles.specs.declared.pieces.Piece.{Piece}
 use Rattle.ist_handles.specs.declared.results.Shortage.{Shortage}
-use Rattle.ist_handles.specs.Entries.{next_key, pairs_in}
+use Rattle.ist_handles.specs.Pairs.{next_key}
 use Rattle.ist_handles.specs.Results.{done, full, misuse, full_of}
 use Rattle.ist_handles.specs.ShotPieces.{ShotFace, IsShotPiece}
 use Rattle.ist_c.specs.Kinds.{IsNoPass, IsNoShot}
@@ -57,22 +57,22 @@ pub data CountsShot : Held → ℕ → ℕ → ℕ → Type 0 where
 
 -- the shot is the same, its pass only looked, and the first entries have the pairs of the shot from the
 -- first key of a range up to the key to go on from
-pub record HasListedShot (s t : ShotFace) (first last : ℕ) (room : List Entry) (piece : Piece)
+pub record HasListedShot (s t : ShotFace) (first last : ℕ) (room : List Pair) (piece : Piece)
     : Type 0 where
   pub same_tree : arc_value t.taker.tree ≡ arc_value s.taker.tree
   pub same_shot : t.shot ≡ s.shot
   pub looked : HasOnlyLooked s.taker.pass t.taker.pass
   pub within : piece.count ≤ length room
-  pub pairs : IsShotPiece s.taker.pass s.shot first last (next_key piece) (pairs_in piece.count room)
+  pub pairs : IsShotPiece s.taker.pass s.shot first last (next_key piece) (take piece.count room)
 
 -- a handle of a shot holds it still, and a range of it was written, or the first part of it; only without
 -- room, or by a handle of something else, is it misuse, and the handle is as before
-pub data ListsShot : Held → Held → ℕ → ℕ → ℕ → List Entry → List Entry → Piece → Piece → Type 0
+pub data ListsShot : Held → Held → ℕ → ℕ → ℕ → List Pair → List Pair → Piece → Piece → Type 0
   where
-    lists_shot : (s t : ShotFace) (first last : ℕ) (room after : List Entry) (before piece : Piece)
+    lists_shot : (s t : ShotFace) (first last : ℕ) (room after : List Pair) (before piece : Piece)
         → length after ≡ length room → HasListedShot s t first last after piece
         → ListsShot (of.Shot s) (of.Shot t) first last done room after before piece
-    lists_no_shot : (held : Held) (first last : ℕ) (room : List Entry) (piece : Piece)
+    lists_no_shot : (held : Held) (first last : ℕ) (room : List Pair) (piece : Piece)
         → (length room ≡ 0) ⊎ IsNoShot held → ListsShot held held first last misuse room room piece piece
 
 -- ---- dropping

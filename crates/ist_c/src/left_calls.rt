@@ -3,18 +3,19 @@ ghost use Rattle.std.specs.Prelude.{◌≡◌, true, false};
 ghost use Rattle.ist_c.specs.Listing.{ListsLeft, CountsLeft};
 ghost use Rattle.ist_handles.specs.Results.{misuse};
 
-use ist_handles::{DONE, Entry, Handle, Held, MISUSE, Stats, write_entries};
+use ist_core::Pair;
+use ist_handles::{DONE, Handle, Held, MISUSE, Stats, write_pairs};
 use std::alloc::Global;
 
 // Writes the pairs from this number on.
-fn list_in(held: &Held, from: u64, room: &mut [Entry], count: &mut u64) -> u32
+fn list_in(held: &Held, from: u64, room: &mut [Pair], count: &mut u64) -> u32
     ensures lists { ListsLeft held.now from result room.old room.new count.old count.new }
 {
     match held {
         Held::Left(left) => {
             *count = left.pairs.len() as u64;
             if from < left.pairs.len() as u64 {
-                write_entries(&left.pairs[from as usize..], room);
+                write_pairs(&left.pairs[from as usize..], room);
             }
             DONE
         }
@@ -29,7 +30,7 @@ pub extern "C" fn ist_list(
     alloc: Global,
     closed: &mut Handle,
     from: u64,
-    room: &mut [Entry],
+    room: &mut [Pair],
     count: &mut u64,
 ) -> u32
     ensures full { closed.new.full ≡ closed.old.full }

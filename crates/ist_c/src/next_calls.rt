@@ -3,12 +3,13 @@ ghost use Rattle.std.specs.Prelude.{◌≡◌, true, false};
 ghost use Rattle.ist_c.specs.Reads.{ReadsBy, up, down};
 ghost use Rattle.ist_handles.specs.Results.{misuse};
 
-use ist_handles::{Entry, Handle, Held, MISUSE, write_pair};
+use ist_core::Pair;
+use ist_handles::{Handle, Held, MISUSE, write_pair};
 use ist_live::{at_least, at_most};
 use std::alloc::Global;
 
 // Writes the pair with the least key that is at least `key`.
-fn at_least_in(held: &mut Held, key: u64, found: &mut Entry) -> u32
+fn at_least_in(held: &mut Held, key: u64, found: &mut Pair) -> u32
     ensures reads { ReadsBy up held.old held.new key result found.old found.new }
 {
     match held {
@@ -18,7 +19,7 @@ fn at_least_in(held: &mut Held, key: u64, found: &mut Entry) -> u32
 }
 
 // Writes the pair with the greatest key that is at most `key`.
-fn at_most_in(held: &mut Held, key: u64, found: &mut Entry) -> u32
+fn at_most_in(held: &mut Held, key: u64, found: &mut Pair) -> u32
     ensures reads { ReadsBy down held.old held.new key result found.old found.new }
 {
     match held {
@@ -29,7 +30,7 @@ fn at_most_in(held: &mut Held, key: u64, found: &mut Entry) -> u32
 
 /// Writes the pair with the least key that is at least `key`. The status is `NO_KEY` if there is none.
 #[unsafe(no_mangle)]
-pub extern "C" fn ist_at_least(alloc: Global, pass: &mut Handle, key: u64, found: &mut Entry) -> u32
+pub extern "C" fn ist_at_least(alloc: Global, pass: &mut Handle, key: u64, found: &mut Pair) -> u32
     ensures full { pass.new.full ≡ pass.old.full }
     ensures empty { pass.old.full ≡ false → (result ≡ misuse) × (found.new ≡ found.old) }
     ensures reads { pass.old.full ≡ true → ReadsBy up pass.old.opaque.value
@@ -47,7 +48,7 @@ pub extern "C" fn ist_at_least(alloc: Global, pass: &mut Handle, key: u64, found
 
 /// Writes the pair with the greatest key that is at most `key`. The status is `NO_KEY` if there is none.
 #[unsafe(no_mangle)]
-pub extern "C" fn ist_at_most(alloc: Global, pass: &mut Handle, key: u64, found: &mut Entry) -> u32
+pub extern "C" fn ist_at_most(alloc: Global, pass: &mut Handle, key: u64, found: &mut Pair) -> u32
     ensures full { pass.new.full ≡ pass.old.full }
     ensures empty { pass.old.full ≡ false → (result ≡ misuse) × (found.new ≡ found.old) }
     ensures reads { pass.old.full ≡ true → ReadsBy down pass.old.opaque.value

@@ -3,12 +3,13 @@ ghost use Rattle.std.specs.Prelude.{◌≡◌, true, false};
 ghost use Rattle.ist_c.specs.Reads.{ListsBy, ListsLive};
 ghost use Rattle.ist_handles.specs.Results.{misuse};
 
-use ist_handles::{DONE, Entry, Handle, Held, MEMORY, MISUSE, Piece, read_piece, write_entries};
+use ist_core::Pair;
+use ist_handles::{DONE, Handle, Held, MEMORY, MISUSE, Piece, read_piece, write_pairs};
 use ist_live::list_live;
 use std::alloc::Global;
 
 // Writes the pairs from `first` to `last`, as many as there is room for.
-fn list_in(held: &mut Held, first: u64, last: u64, room: &mut [Entry], piece: &mut Piece) -> u32
+fn list_in(held: &mut Held, first: u64, last: u64, room: &mut [Pair], piece: &mut Piece) -> u32
     ensures lists { ListsBy held.old held.new first last result room.old room.new piece.old
         piece.new }
 {
@@ -32,7 +33,7 @@ pub extern "C" fn ist_list_range(
     pass: &mut Handle,
     first: u64,
     last: u64,
-    room: &mut [Entry],
+    room: &mut [Pair],
     piece: &mut Piece,
 ) -> u32
     ensures full { pass.new.full ≡ pass.old.full }
@@ -58,7 +59,7 @@ fn live_in(
     held: &mut Held,
     first: u64,
     last: u64,
-    room: &mut [Entry],
+    room: &mut [Pair],
     count: &mut u64,
 ) -> u32
     ensures lists { ListsLive held.old held.new first last result room.old room.new count.old
@@ -68,7 +69,7 @@ fn live_in(
         Held::Pass(pass) => match list_live(alloc, &pass.tree.tree, &mut pass.pass, first, last) {
             Ok(found) => {
                 *count = found.len() as u64;
-                write_entries(found.as_slice(), room);
+                write_pairs(found.as_slice(), room);
                 DONE
             }
             Err(_) => MEMORY,
@@ -85,7 +86,7 @@ pub extern "C" fn ist_list_live(
     pass: &mut Handle,
     first: u64,
     last: u64,
-    room: &mut [Entry],
+    room: &mut [Pair],
     count: &mut u64,
 ) -> u32
     ensures full { pass.new.full ≡ pass.old.full }

@@ -5,8 +5,9 @@ ghost use Rattle.ist_handles.specs.declared.held.Held.TheVariants.{Pass};
 ghost use Rattle.ist_c.specs.Shots.{TakesShot, CountsShot, ListsShot, DropsShot};
 ghost use Rattle.ist_handles.specs.Results.{misuse};
 
+use ist_core::Pair;
 use ist_handles::{
-    DONE, Entry, Handle, Held, MISUSE, PAIRS_LIMIT, Piece, Shortage, TreePass, TreeShot, refused,
+    DONE, Handle, Held, MISUSE, PAIRS_LIMIT, Piece, Shortage, TreePass, TreeShot, refused,
 };
 use ist_scan::{Shot, shot_words};
 use std::alloc::Global;
@@ -113,7 +114,7 @@ pub extern "C" fn ist_count_shot(alloc: Global, shot: &mut Handle, keys: &mut u6
 }
 
 // Writes the pairs of the shot from `first` to `last`, as many as there is room for.
-fn list_in(held: &mut Held, first: u64, last: u64, room: &mut [Entry], piece: &mut Piece) -> u32
+fn list_in(held: &mut Held, first: u64, last: u64, room: &mut [Pair], piece: &mut Piece) -> u32
     ensures lists { ListsShot held.old held.new first last result room.old room.new piece.old
         piece.new }
 {
@@ -137,7 +138,7 @@ pub extern "C" fn ist_list_shot(
     shot: &mut Handle,
     first: u64,
     last: u64,
-    room: &mut [Entry],
+    room: &mut [Pair],
     piece: &mut Piece,
 ) -> u32
     ensures full { shot.new.full ≡ shot.old.full }

@@ -5,7 +5,7 @@ ghost use Rattle.ist_tree.specs.Faces.{calls_in};
 ghost use Rattle.plain_map.specs.Rising.{IsRising};
 ghost use Rattle.ist_c.specs.Calls.{NumbersOwner};
 ghost use Rattle.ist_c.specs.Closing.{fault_status};
-ghost use Rattle.ist_handles.specs.Entries.{pairs_given};
+ghost use Rattle.ist_handles.specs.Pairs.{pairs_given};
 ghost use Rattle.ist_c.specs.Keeping.{KeepsInHandle};
 ghost use Rattle.ist_c.specs.Kinds.{IsAsBefore};
 ghost use Rattle.ist_c.specs.Opening.{AreWordsFor, OpensNew};
@@ -14,8 +14,8 @@ ghost use Rattle.ist_handles.specs.Results.{misuse};
 
 use ist_core::Pair;
 use ist_handles::{
-    DONE, Entry, Handle, Held, MEMORY, MISUSE, PAIRS_LIMIT, SMALL, TreeOwner, TreePass,
-    pairs_of_entries,
+    DONE, Handle, Held, MEMORY, MISUSE, PAIRS_LIMIT, SMALL, TreeOwner, TreePass, are_rising,
+    sorted_pairs,
 };
 use ist_image::needed_words;
 use ist_reopen::{MOST_WORDS, ReopenFault};
@@ -75,25 +75,29 @@ fn open_owner(alloc: Global, words: u32, pairs: &[Pair], number: u64, out: &mut 
     }
 }
 
-/// Opens a tree of these pairs, with this many words and this number, and makes `out` its owner. `ist_open`
+/// Opens a tree of these pairs, of those with one key the last, with this many words and this number, and makes
+/// `out` its owner. Pairs whose keys rise are read where they are, and others copied and sorted first. `ist_open`
 /// of C gives each tree the next number.
 #[unsafe(no_mangle)]
 pub extern "C" fn open_numbered(
     alloc: Global,
     words: u32,
-    entries: &[Entry],
+    pairs: &[Pair],
     number: u64,
     out: &mut Handle,
 ) -> u32
     ensures filled { out.old.full ≡ true → (result ≡ misuse) × (out.new ≡ out.old) }
     ensures opens { out.old.full ≡ false
-        → OpensNew words (pairs_given entries.now) number out.old out.new result }
+        → OpensNew words (pairs_given pairs.now) number out.old out.new result }
 {
     if out.full {
         return MISUSE;
     }
-    match pairs_of_entries(alloc, entries) {
-        Ok(pairs) => open_owner(alloc, words, pairs.as_slice(), number, out),
+    if are_rising(pairs) {
+        return open_owner(alloc, words, pairs, number, out);
+    }
+    match sorted_pairs(alloc, pairs) {
+        Ok(sorted) => open_owner(alloc, words, sorted.as_slice(), number, out),
         Err(_) => MEMORY,
     }
 }

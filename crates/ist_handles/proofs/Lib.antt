@@ -1,6 +1,6 @@
-pub mod EntryLemmas
+pub mod PairLemmas
 pub mod SendLemmas
-pub mod RisingEntryLemmas
+pub mod RisingLemmas
 pub mod ShotPieceLemmas
 pub mod SortLemmas
 pub mod UptoLemmas

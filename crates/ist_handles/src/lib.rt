@@ -6,11 +6,11 @@
 #![tactic(auto)]
 
 mod closed_trees;
-mod entries;
 mod handles;
 mod held;
 mod opaques;
 mod owners;
+mod pairs;
 mod passes;
 mod pieces;
 mod raw_boxes;
@@ -20,11 +20,11 @@ mod shots;
 mod trees;
 
 pub use crate::closed_trees::{ClosedTree, LeftPairs};
-pub use crate::entries::{Entry, pairs_of_entries, write_entries, write_pair};
 pub use crate::handles::Handle;
 pub use crate::held::Held;
 pub use crate::opaques::Opaque;
 pub use crate::owners::{PAIRS_LIMIT, TreeOwner};
+pub use crate::pairs::{are_rising, sorted_pairs, write_pair, write_pairs};
 pub use crate::passes::{TreeNote, TreePass};
 pub use crate::pieces::{Piece, read_piece};
 pub use crate::results::{

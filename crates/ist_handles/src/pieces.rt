@@ -1,10 +1,10 @@
 //! The pairs of a range, as many as there is room for.
-ghost use Rattle.std.specs.Prelude.{◌≡◌, ◌<◌, ◌≤◌, length, Some, None};
+ghost use Rattle.std.specs.Prelude.{take, ◌≡◌, ◌<◌, ◌≤◌, length, Some, None};
 ghost use Rattle.ist_live.specs.Pieces.{IsPiece};
 ghost use Rattle.ist_live.specs.Reading.{HasOnlyRead};
-ghost use Rattle.ist_handles.specs.Entries.{next_key, pairs_in};
+ghost use Rattle.ist_handles.specs.Pairs.{next_key};
 
-use crate::entries::Entry;
+use ist_core::Pair;
 use ist_live::at_least;
 use ist_tree::{Pass, Tree};
 
@@ -44,12 +44,12 @@ pub(crate) fn next_piece(count: usize, from: u64) -> Piece
 
 /// Writes the pairs from `first` to `last`, as many as there is room for, by one search after another.
 /// Never blocks, never allocates, always returns.
-pub fn read_piece(tree: &Tree, pass: &mut Pass, first: u64, last: u64, room: &mut [Entry]) -> Piece
+pub fn read_piece(tree: &Tree, pass: &mut Pass, first: u64, last: u64, room: &mut [Pair]) -> Piece
     requires same_tree { pass.old.tree ≡ tree.now }
     requires some { 0 < length room.old }
     ensures read { HasOnlyRead pass.old pass.new }
     ensures pairs { IsPiece pass.old pass.new first last (next_key result)
-        (pairs_in result.count room.new) }
+        (take result.count room.new) }
     ensures within { result.count ≤ length room.new }
     ensures room { length room.new ≡ length room.old }
 {
@@ -68,10 +68,7 @@ pub fn read_piece(tree: &Tree, pass: &mut Pass, first: u64, last: u64, room: &mu
             let below = last_piece(count);
             return below;
         }
-        room[count] = Entry {
-            key: pair.key,
-            value: pair.value,
-        };
+        room[count] = pair;
         count += 1;
         if pair.key == last {
             let whole = last_piece(count);

@@ -1,12 +1,12 @@
 //! The pairs of a range of a shot, as many as there is room for.
-ghost use Rattle.std.specs.Prelude.{◌≡◌, ◌<◌, ◌≤◌, length};
+ghost use Rattle.std.specs.Prelude.{take, ◌≡◌, ◌<◌, ◌≤◌, length};
 ghost use Rattle.ist_tree.specs.Freezing.{IsFrozenFor};
 ghost use Rattle.ist_scan.specs.Shots.{HasOnlyLooked};
-ghost use Rattle.ist_handles.specs.Entries.{next_key, pairs_in};
+ghost use Rattle.ist_handles.specs.Pairs.{next_key};
 ghost use Rattle.ist_handles.specs.ShotPieces.{IsShotPiece};
 
-use crate::entries::Entry;
 use crate::pieces::{Piece, last_piece, next_piece};
+use ist_core::Pair;
 use ist_scan::Shot;
 use ist_tree::{Pass, Tree};
 
@@ -18,14 +18,14 @@ pub(crate) fn read_shot(
     shot: &Shot,
     first: u64,
     last: u64,
-    room: &mut [Entry],
+    room: &mut [Pair],
 ) -> Piece
     requires same_tree { pass.old.tree ≡ tree.now }
     requires frozen { IsFrozenFor pass.old shot.now }
     requires some { 0 < length room.old }
     ensures looked { HasOnlyLooked pass.old pass.new }
     ensures pairs { IsShotPiece pass.old shot.now first last (next_key result)
-        (pairs_in result.count room.new) }
+        (take result.count room.new) }
     ensures within { result.count ≤ length room.new }
     ensures room { length room.new ≡ length room.old }
 {
@@ -37,10 +37,7 @@ pub(crate) fn read_shot(
             let rest = last_piece(count);
             return rest;
         };
-        room[count] = Entry {
-            key: pair.key,
-            value: pair.value,
-        };
+        room[count] = pair;
         count += 1;
         if pair.key == last {
             let whole = last_piece(count);

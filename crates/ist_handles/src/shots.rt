@@ -1,15 +1,15 @@
 //! A pass with the shot that it took.
-ghost use Rattle.std.specs.Prelude.{◌≡◌, ◌<◌, ◌≤◌, length};
+ghost use Rattle.std.specs.Prelude.{take, ◌≡◌, ◌<◌, ◌≤◌, length};
 ghost use Rattle.std.specs.Arc.{arc_value};
 ghost use Rattle.ist_tree.specs.Freezing.{IsFrozenFor};
 ghost use Rattle.ist_scan.specs.Shots.{HasOnlyLooked};
-ghost use Rattle.ist_handles.specs.Entries.{next_key, pairs_in};
+ghost use Rattle.ist_handles.specs.Pairs.{next_key};
 ghost use Rattle.ist_handles.specs.ShotPieces.{IsShotPiece};
 
-use crate::entries::Entry;
 use crate::passes::TreePass;
 use crate::pieces::Piece;
 use crate::shot_pieces::read_shot;
+use ist_core::Pair;
 use ist_scan::Shot;
 use std::marker::Model;
 
@@ -58,13 +58,13 @@ impl TreeShot {
     }
 
     /// Writes the pairs of the shot from `first` to `last`, as many as there is room for.
-    pub fn list(&mut self, first: u64, last: u64, room: &mut [Entry]) -> Piece
+    pub fn list(&mut self, first: u64, last: u64, room: &mut [Pair]) -> Piece
         requires some { 0 < length room.old }
         ensures tree { arc_value self.new.taker.tree ≡ arc_value self.old.taker.tree }
         ensures shot { self.new.shot ≡ self.old.shot }
         ensures looked { HasOnlyLooked self.old.taker.pass self.new.taker.pass }
         ensures pairs { IsShotPiece self.old.taker.pass self.old.shot first last (next_key result)
-            (pairs_in result.count room.new) }
+            (take result.count room.new) }
         ensures within { result.count ≤ length room.new }
         ensures room { length room.new ≡ length room.old }
     {

@@ -8,8 +8,8 @@ pub returns-then-from-len : goal.returns-then-from-len
 returns-then-from-len c =
     record {
       lists = listed_left c.args.held.now c.in-Left.left c.args.from c.len.result c.args.room.now
-          c.write_entries.new.room c.args.count.now c.in-Left.is (search rules)
-          (c.write_entries.ensures.written ∙ rest_written c.deref.result.now c.in-Left.left.pairs.items
+          c.write_pairs.new.room c.args.count.now c.in-Left.is (search rules)
+          (c.write_pairs.ensures.written ∙ rest_written c.deref.result.now c.in-Left.left.pairs.items
           c.args.room.now c.args.from c.deref.ensures.value);
     }
 

@@ -9,7 +9,7 @@ returns-in-Pass c =
     let e = c.at_most.ensures in
     record {
       reads = read_next down c.args.held.now c.in-Pass.pass _ c.args.key c.write_pair.result
-          c.at_most.result c.args.found.now c.write_pair.new.entry c.in-Pass.is refl e.read e.next
+          c.at_most.result c.args.found.now c.write_pair.new.place c.in-Pass.is refl e.read e.next
           c.write_pair.ensures.wrote;
     }
 

@@ -9,7 +9,7 @@ returns-in-Ok c =
     let e = c.in-Ok.ensures in
     record {
       lists = listed_live c.args.held.now c.in-Pass.pass _ c.args.first c.args.last c.in-Ok.found.items
-          c.args.room.now c.write_entries.new.room c.args.count.now c.len.result c.in-Pass.is (record {
+          c.args.room.now c.write_pairs.new.room c.args.count.now c.len.result c.in-Pass.is (record {
             read = record { same_tree = refl; read = c.list_live.ensures.read };
             live = e.live;
             in_turn = e.in_turn;

@@ -1,11 +1,10 @@
 -- The room has the pairs that were found so far.
-use Rattle.std.proofs.Common.{refl, arith, ◌∙◌}
-use Rattle.std.proofs.lemmas.List.{length-set}
+use Rattle.std.proofs.Common.{take, refl, arith, ◌∙◌}
+use Rattle.std.proofs.lemmas.List.{length-set, take_more_set}
 use Rattle.ist_live.specs.Pieces.{IsPiece}
 use Rattle.ist_live.proofs.ReadLemmas.{read_not}
 use Rattle.ist_live.proofs.PieceLemmas.{read_to_none, read_on, piece_none, piece_ends, piece_full, piece_goes_on, read_to_more}
-use Rattle.ist_handles.specs.Entries.{pairs_in}
-use Rattle.ist_handles.proofs.EntryLemmas.{pairs_pushed, piece_said}
+use Rattle.ist_handles.proofs.PairLemmas.{piece_said}
 use Rattle.ist_handles.proofs.pieces.read_piece.Goals as goal
 
 -- there are no keys
@@ -16,14 +15,14 @@ pub returns-then-last-first-clause-pairs : goal.returns-then-last-first-clause-p
 returns-then-last-first-clause-pairs c =
     let e = c.last_piece-empty.ensures in
     piece_said (IsPiece _ _ _ _) _ _ _ c.args.room.now e.next e.count
-    (piece_none c.args.pass.now c.args.first c.args.last (pairs_in 0 c.args.room.now) refl c.if-last-first.true)
+    (piece_none c.args.pass.now c.args.first c.args.last (take 0 c.args.room.now) refl c.if-last-first.true)
 
 -- nothing was read yet
 pub pairs-init : goal.pairs-init
 pairs-init c =
     let some = c.if-last-first.false in
     record {
-      read = read_to_none c.args.pass.now c.args.first c.args.last (pairs_in 0 c.args.room.now) refl (omega arith);
+      read = read_to_none c.args.pass.now c.args.first c.args.last (take 0 c.args.room.now) refl (omega arith);
       free = c.requires.some;
       room = refl;
     }
@@ -64,7 +63,7 @@ returns-then-pair-last-clause-pairs c =
     let e = c.last_piece-whole.ensures in
     piece_said (IsPiece _ _ _ _) _ _ _ _ e.next e.count
     (piece_full _ _ _ _ _ _ _ c.pairs.invariant.read c.at_least.ensures.read c.in-Some.pair
-    c.in-Some.ensures.next _ (pairs_pushed c.pairs.room c.pairs.count _ c.pairs.invariant.free)
+    c.in-Some.ensures.next _ (take_more_set c.pairs.room c.pairs.count _ c.pairs.invariant.free)
     c.if-pair-last.true)
 
 -- the room is full
@@ -79,7 +78,7 @@ returns-then-count-room-clause-pairs c =
     let e = c.next_piece-part.ensures in
     piece_said (IsPiece _ _ _ _) _ _ _ _ e.next e.count
     (piece_goes_on _ _ _ _ _ _ _ c.pairs.invariant.read c.at_least.ensures.read c.in-Some.pair
-    c.in-Some.ensures.next _ (pairs_pushed c.pairs.room c.pairs.count _ c.pairs.invariant.free) (omega arith))
+    c.in-Some.ensures.next _ (take_more_set c.pairs.room c.pairs.count _ c.pairs.invariant.free) (omega arith))
 
 -- it goes on after the pair
 pub pairs-preserved : goal.pairs-preserved
@@ -89,7 +88,7 @@ pairs-preserved c =
     let same = length-set c.pairs.room c.pairs.count _ in
     record {
       read = read_to_more _ _ _ _ _ _ _ c.pairs.invariant.read c.at_least.ensures.read c.in-Some.pair
-          c.in-Some.ensures.next _ (pairs_pushed c.pairs.room c.pairs.count _ c.pairs.invariant.free)
+          c.in-Some.ensures.next _ (take_more_set c.pairs.room c.pairs.count _ c.pairs.invariant.free)
           (omega arith);
       free = let more = c.if-count-room.false in omega arith;
       room = same ∙ c.pairs.invariant.room;

@@ -1,9 +1,8 @@
 -- The room has the first pairs of the interval in the shot.
-use Rattle.std.proofs.Common.{refl, arith, ◌∙◌}
-use Rattle.std.proofs.lemmas.List.{length-set}
-use Rattle.ist_handles.specs.Entries.{pairs_in}
+use Rattle.std.proofs.Common.{take, refl, arith, ◌∙◌}
+use Rattle.std.proofs.lemmas.List.{length-set, take_more_set}
 use Rattle.ist_handles.specs.ShotPieces.{IsShotPiece}
-use Rattle.ist_handles.proofs.EntryLemmas.{pairs_pushed, piece_said}
+use Rattle.ist_handles.proofs.PairLemmas.{piece_said}
 use Rattle.ist_handles.proofs.ShotPieceLemmas.{read_to_none, walk_on, looked_on, read_on, bounds, piece_ends, piece_full, piece_goes_on}
 use Rattle.ist_handles.proofs.shot_pieces.read_shot.Goals as goal
 
@@ -12,7 +11,7 @@ pub pairs-init : goal.pairs-init
 pairs-init c =
     let w = c.walk-walk.ensures in
     record {
-      read = read_to_none c.args.pass.now c.args.shot.now c.args.first c.args.last (pairs_in 0 c.args.room.now) refl;
+      read = read_to_none c.args.pass.now c.args.shot.now c.args.first c.args.last (take 0 c.args.room.now) refl;
       walk = record {
         shot_is = w.shot;
         first_is = w.first;
@@ -51,7 +50,7 @@ returns-then-pair-last-clause-pairs c =
     piece_said (IsShotPiece _ _ _ _) _ _ _ _ e.next e.count
     (piece_full _ _ _ _ _ _ _ _ _ _ i.read i.walk c.next.ensures.looked c.next.ensures.by_pairs
     c.know.ensures.lawful c.requires.frozen c.in-Some.pair c.in-Some.is _
-    (pairs_pushed c.pairs.room c.pairs.count _ i.free) c.if-pair-last.true)
+    (take_more_set c.pairs.room c.pairs.count _ i.free) c.if-pair-last.true)
 
 -- there is a key after the pair
 pub overflow_add-pair : goal.overflow_add-pair
@@ -76,7 +75,7 @@ returns-then-count-room-clause-pairs c =
     piece_said (IsShotPiece _ _ _ _) _ _ _ _ e.next e.count
     (piece_goes_on _ _ _ _ _ _ _ _ _ _ i.read i.walk c.next.ensures.looked c.next.ensures.by_pairs
     c.know.ensures.lawful c.requires.frozen c.in-Some.pair c.in-Some.is _
-    (pairs_pushed c.pairs.room c.pairs.count _ i.free) c.if-pair-last.false)
+    (take_more_set c.pairs.room c.pairs.count _ i.free) c.if-pair-last.false)
 
 -- it goes on after the pair
 pub pairs-preserved : goal.pairs-preserved
@@ -86,7 +85,7 @@ pairs-preserved c =
     record {
       read = read_on _ _ _ _ _ _ _ _ _ _ i.read i.walk c.next.ensures.looked c.next.ensures.by_pairs
           c.know.ensures.lawful c.requires.frozen c.in-Some.pair c.in-Some.is _
-          (pairs_pushed c.pairs.room c.pairs.count _ i.free);
+          (take_more_set c.pairs.room c.pairs.count _ i.free);
       walk = walk_on _ _ _ _ _ _ _ _ i.walk c.next.ensures.one_walk c.in-Some.ensures.given
           c.next.ensures.way;
       free = let more = c.if-count-room.false in omega arith;

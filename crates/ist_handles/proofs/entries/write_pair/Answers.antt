@@ -1,9 +1,0 @@
--- The entry has the pair, or is as before.
-use Rattle.ist_handles.proofs.EntryLemmas.{wrote_some, wrote_not}
-use Rattle.ist_handles.proofs.entries.write_pair.Goals as goal
-
-pub returns-in-Some : goal.returns-in-Some
-returns-in-Some c = record { wrote = wrote_some c.args.pair c.in-Some.pair c.args.entry.now c.in-Some.is }
-
-pub returns-in-None : goal.returns-in-None
-returns-in-None c = record { wrote = wrote_not c.args.pair c.args.entry.now c.in-None.is }
