@@ -2,3 +2,4 @@
 pub mod Steps
 pub mod Late
 pub mod Races
+pub mod At

@@ -11,6 +11,7 @@ ghost use Rattle.ist_rows.specs.Going.{IsReady};
 ghost use Rattle.ist_rebuild.specs.Starting.{MayStart};
 ghost use Rattle.ist_core.specs.declared.events.Who.TheVariants.{Maker};
 ghost use Rattle.ist_rule.specs.Learning.{now};
+ghost use Rattle.test_rebuilds.specs.At.{IsAtTable};
 
 use ist_build::{fill_parts, set_root};
 use ist_core::Full;
@@ -34,8 +35,7 @@ pub(crate) fn enter_call(table: &TreeTable, maker: &mut TreeToken) -> Caller
     requires maker { maker.old.view.who ≡ Maker }
     requires given { maker.old.view.given ≡ maker.old.view.made }
     requires few { maker.old.view.made < caller_limit }
-    ensures ready { IsReady result }
-    ensures same_table { result.token.view.table ≡ table.now.table }
+    ensures ready { IsAtTable table.now IsReady result }
     ensures maker_table { maker.new.view.table ≡ table.now.table }
     ensures made { (maker.new.view.who ≡ Maker) × (maker.new.view.made ≡ maker.old.view.made + 1) }
     ensures given { maker.new.view.given ≡ maker.new.view.made }
@@ -48,10 +48,8 @@ pub(crate) fn enter_call(table: &TreeTable, maker: &mut TreeToken) -> Caller
 
 // Returns the word in the anchor's slot.
 fn slot_word(table: &TreeTable, who: &mut Caller) -> u64
-    requires same_table { who.old.token.view.table ≡ table.now.table }
-    requires ready { IsReady who.old }
-    ensures same_table { who.new.token.view.table ≡ table.now.table }
-    ensures ready { IsReady who.new }
+    requires ready { IsAtTable table.now IsReady who.old }
+    ensures ready { IsAtTable table.now IsReady who.new }
     ensures holds { SlotHolds (now who.new.token.view) anchor 0 result }
 {
     know(&who.token);
@@ -61,10 +59,8 @@ fn slot_word(table: &TreeTable, who: &mut Caller) -> u64
 
 /// Returns the inner row below the anchor, if there is one: a rebuild of it may be started.
 pub(crate) fn see_row(table: &TreeTable, who: &mut Caller) -> Option<u32>
-    requires same_table { who.old.token.view.table ≡ table.now.table }
-    requires ready { IsReady who.old }
-    ensures same_table { who.new.token.view.table ≡ table.now.table }
-    ensures ready { IsReady who.new }
+    requires ready { IsAtTable table.now IsReady who.old }
+    ensures ready { IsAtTable table.now IsReady who.new }
     ensures may_start { IfSome result (MayStart who.new.token.view anchor 0) }
 {
     let word = slot_word(table, who);
@@ -77,11 +73,9 @@ pub(crate) fn see_row(table: &TreeTable, who: &mut Caller) -> Option<u32>
 
 /// Starts a rebuild of the row that the caller has seen below the anchor.
 pub(crate) fn begin(table: &TreeTable, who: &mut Caller, target: u32) -> Result<Started, Full>
-    requires same_table { who.old.token.view.table ≡ table.now.table }
-    requires ready { IsReady who.old }
+    requires ready { IsAtTable table.now IsReady who.old }
     requires may_start { MayStart who.old.token.view anchor 0 target }
-    ensures same_table { who.new.token.view.table ≡ table.now.table }
-    ensures ready { IsReady who.new }
+    ensures ready { IsAtTable table.now IsReady who.new }
     ensures started { (rebuild : ℕ) → result ≡ Ok (Yes rebuild)
         → IsStarted (now who.new.token.view) rebuild }
 {
@@ -90,10 +84,8 @@ pub(crate) fn begin(table: &TreeTable, who: &mut Caller, target: u32) -> Result<
 
 /// Returns the rebuild below the anchor, if there is one.
 pub(crate) fn see_rebuild(table: &TreeTable, who: &mut Caller) -> Option<u32>
-    requires same_table { who.old.token.view.table ≡ table.now.table }
-    requires ready { IsReady who.old }
-    ensures same_table { who.new.token.view.table ≡ table.now.table }
-    ensures ready { IsReady who.new }
+    requires ready { IsAtTable table.now IsReady who.old }
+    ensures ready { IsAtTable table.now IsReady who.new }
     ensures started { IfSome result (IsStarted (now who.new.token.view)) }
 {
     let word = slot_word(table, who);
@@ -106,11 +98,9 @@ pub(crate) fn see_rebuild(table: &TreeTable, who: &mut Caller) -> Option<u32>
 
 /// Marks the target of the rebuild, and counts its keys.
 pub(crate) fn mark(table: &TreeTable, who: &mut Caller, rebuild: u32) -> Marked
-    requires same_table { who.old.token.view.table ≡ table.now.table }
-    requires ready { IsReady who.old }
+    requires ready { IsAtTable table.now IsReady who.old }
     requires started { IsStarted (now who.old.token.view) rebuild }
-    ensures same_table { who.new.token.view.table ≡ table.now.table }
-    ensures ready { IsReady who.new }
+    ensures ready { IsAtTable table.now IsReady who.new }
     ensures marked { HasMarkedTarget (now who.new.token.view) rebuild result.target result.keys }
     ensures started { IsStarted (now who.new.token.view) rebuild }
     ensures buildable { IsBuildable (now who.new.token.view) rebuild }
@@ -123,11 +113,9 @@ pub(crate) fn mark(table: &TreeTable, who: &mut Caller, rebuild: u32) -> Marked
 
 /// Gives the rebuild its root.
 pub(crate) fn set(table: &TreeTable, who: &mut Caller, rebuild: u32) -> Result<Ref, Full>
-    requires same_table { who.old.token.view.table ≡ table.now.table }
-    requires ready { IsReady who.old }
+    requires ready { IsAtTable table.now IsReady who.old }
     requires buildable { IsBuildable (now who.old.token.view) rebuild }
-    ensures same_table { who.new.token.view.table ≡ table.now.table }
-    ensures ready { IsReady who.new }
+    ensures ready { IsAtTable table.now IsReady who.new }
     ensures buildable { IsBuildable (now who.new.token.view) rebuild }
     ensures started { IsStarted (now who.new.token.view) rebuild }
     ensures rooted { IfOk result (λ root. IsRooted (now who.new.token.view) rebuild) }
@@ -138,8 +126,7 @@ pub(crate) fn set(table: &TreeTable, who: &mut Caller, rebuild: u32) -> Result<R
 
 /// Fills the parts of the rebuild's root.
 pub(crate) fn fill_all(table: &TreeTable, who: &mut Caller, rebuild: u32) -> Result<(), Full>
-    requires same_table { who.old.token.view.table ≡ table.now.table }
-    requires ready { IsReady who.old }
+    requires ready { IsAtTable table.now IsReady who.old }
     requires buildable { IsBuildable (now who.old.token.view) rebuild }
     requires rooted { IsRooted (now who.old.token.view) rebuild }
     ensures ready { IsReady who.new }
@@ -150,11 +137,9 @@ pub(crate) fn fill_all(table: &TreeTable, who: &mut Caller, rebuild: u32) -> Res
 
 /// Helps the rebuild until it is done.
 pub(crate) fn help_on(table: &TreeTable, who: &mut Caller, rebuild: u32) -> Result<Helped, Full>
-    requires same_table { who.old.token.view.table ≡ table.now.table }
-    requires ready { IsReady who.old }
+    requires ready { IsAtTable table.now IsReady who.old }
     requires started { IsStarted (now who.old.token.view) rebuild }
-    ensures same_table { who.new.token.view.table ≡ table.now.table }
-    ensures ready { IsReady who.new }
+    ensures ready { IsAtTable table.now IsReady who.new }
     ensures started { IsStarted (now who.new.token.view) rebuild }
 {
     know(&who.token);

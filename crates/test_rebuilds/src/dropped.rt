@@ -2,6 +2,7 @@
 ghost use Rattle.std.specs.Prelude.{◌≡◌};
 ghost use Rattle.ist_rows.specs.Rows.{IsCaller};
 ghost use Rattle.ist_tree.specs.Insides.{IsPass};
+ghost use Rattle.test_rebuilds.specs.At.{IsAtTable};
 
 use crate::judging::same;
 use crate::tables::{Opened, open};
@@ -16,10 +17,8 @@ use std::alloc::Global;
 // The row at which the inner row in the anchor's slot lies, for which the caller gives up its pair row,
 // if that lies lower.
 fn give_up(table: &TreeTable, who: &mut Caller) -> Option<u32>
-    requires same_table { who.old.token.view.table ≡ table.now.table }
-    requires caller { IsCaller who.old }
-    ensures same_table { who.new.token.view.table ≡ table.now.table }
-    ensures caller { IsCaller who.new }
+    requires caller { IsAtTable table.now IsCaller who.old }
+    ensures caller { IsAtTable table.now IsCaller who.new }
 {
     begin_search(table, &mut who.token);
     let word = load_top(table, &mut who.token);
@@ -39,8 +38,7 @@ fn give_up(table: &TreeTable, who: &mut Caller) -> Option<u32>
 type DroppedRow = (Result<u32, Full>, Option<u32>, Result<u32, Full>);
 
 fn reserve_again(table: &TreeTable, low: &mut Caller, other: &mut Caller) -> Option<DroppedRow>
-    requires same_table { low.old.token.view.table ≡ table.now.table }
-    requires caller { IsCaller low.old }
+    requires caller { IsAtTable table.now IsCaller low.old }
     requires other_table { other.old.token.view.table ≡ table.now.table }
     requires other_pass { IsPass other.old }
 {

@@ -8,6 +8,7 @@ ghost use Rattle.ist_dcss.specs.Helping.{MayHelp};
 ghost use Rattle.ist_rows.specs.Going.{IsReady};
 ghost use Rattle.ist_rule.specs.Learning.{now};
 ghost use Rattle.ist_tree.specs.Insides.{IsPass};
+ghost use Rattle.test_rebuilds.specs.At.{IsAtTable};
 
 use crate::callers::{enter_call, help_on, mark, see_rebuild};
 use crate::judging::same;
@@ -68,8 +69,7 @@ fn build_over(
     image: &[u64],
 ) -> Result<(bool, bool), AllocError>
     requires maker_table { maker.old.view.table ≡ table.now.table }
-    requires same_table { builder.old.token.view.table ≡ table.now.table }
-    requires ready { IsReady builder.old }
+    requires ready { IsAtTable table.now IsReady builder.old }
     ensures maker_table { maker.new.view.table ≡ table.now.table }
 {
     let Some(rebuild) = see_rebuild(table, builder) else {

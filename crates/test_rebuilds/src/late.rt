@@ -19,6 +19,7 @@ ghost use Rattle.ist_updates.specs.Changing.{Prepares};
 ghost use Rattle.ist_rows.specs.Going.{HasGone};
 ghost use Rattle.ist_rows.specs.Filling.{with_own};
 ghost use Rattle.ist_updates.specs.Trying.{IsAtSlot};
+ghost use Rattle.test_rebuilds.specs.At.{IsAtTable};
 
 use crate::updates::ask;
 use ist_core::{ChangeRow, Full};
@@ -111,8 +112,7 @@ fn has_leaf(table: &TreeTable, token: &mut TreeToken, slot: Slot, key: u64) -> b
 
 // Returns the row of this kind that the caller holds, or a fresh one.
 fn take(table: &TreeTable, who: &mut Caller, kind: Kind) -> Result<u32, Full>
-    requires same_table { who.old.token.view.table ≡ table.now.table }
-    requires caller { IsCaller who.old }
+    requires caller { IsAtTable table.now IsCaller who.old }
     requires refused { HasRefused who.old }
     ensures gone { HasGone Prepares who.old who.new }
     ensures held { IfOk result (λ base. row_of kind (spares_of who.new) ≡ Some base) }
@@ -133,8 +133,7 @@ fn plan(
     key: u64,
     value: u64,
 ) -> Result<LatePut, Full>
-    requires same_table { who.old.token.view.table ≡ table.now.table }
-    requires caller { IsCaller who.old }
+    requires caller { IsAtTable table.now IsCaller who.old }
     requires refused { HasRefused who.old }
     ensures same_table { who.new.token.view.table ≡ table.now.table }
     ensures gone { IfOk result (λ put. HasGone Prepares who.old who.new) }
@@ -161,8 +160,7 @@ fn plan(
 
 // Fills both rows of the put.
 fn fill_both(table: &TreeTable, who: &mut Caller, put: LatePut)
-    requires same_table { who.old.token.view.table ≡ table.now.table }
-    requires caller { IsCaller who.old }
+    requires caller { IsAtTable table.now IsCaller who.old }
     requires rows { HasBoth who.old put.change put.leaf }
     ensures caller { IsCaller who.new }
     ensures same { who.new ≡ with_own who.old who.new.token.view.own }
@@ -216,8 +214,7 @@ fn fill_for(
 /// Begins a put of the value at the key, whose leaf is in a slot of the row below the anchor. Makes all
 /// steps before the install, and no further step.
 pub(crate) fn prepare(table: &TreeTable, who: &mut Caller, key: u64, value: u64) -> Option<LatePut>
-    requires same_table { who.old.token.view.table ≡ table.now.table }
-    requires pass { IsPass who.old }
+    requires pass { IsAtTable table.now IsPass who.old }
     ensures same_table { who.new.token.view.table ≡ table.now.table }
     ensures filled { IfSome result (λ put. IsFilled who.new put.change put.leaf put.row) }
 {

@@ -4,6 +4,7 @@ ghost use Rattle.test_rebuilds.specs.Steps.{HasMarkedTarget};
 ghost use Rattle.ist_core.specs.Shapes.{share_from};
 ghost use Rattle.ist_rows.specs.Going.{IsReady};
 ghost use Rattle.ist_rule.specs.Learning.{now};
+ghost use Rattle.test_rebuilds.specs.At.{IsAtTable};
 
 use crate::callers::{Marked, begin, enter_call, mark, see_row};
 use crate::judging::same;
@@ -29,12 +30,10 @@ fn base_of(reference: Ref) -> u32 {
 
 // Returns the base of the leaf number `i` of the finished target.
 fn leaf_base(table: &TreeTable, who: &mut Caller, rebuild: u32, marked: Marked, i: u64) -> u32
-    requires same_table { who.old.token.view.table ≡ table.now.table }
-    requires ready { IsReady who.old }
+    requires ready { IsAtTable table.now IsReady who.old }
     requires marked { HasMarkedTarget (now who.old.token.view) rebuild marked.target marked.keys }
     requires within { i < marked.keys }
-    ensures same_table { who.new.token.view.table ≡ table.now.table }
-    ensures ready { IsReady who.new }
+    ensures ready { IsAtTable table.now IsReady who.new }
     ensures marked { HasMarkedTarget (now who.new.token.view) rebuild marked.target marked.keys }
 {
     know(&who.token);
@@ -52,12 +51,10 @@ pub(crate) fn are_pairs(
     pairs: &[Pair],
 ) -> bool
     requires maker_table { maker.old.view.table ≡ table.now.table }
-    requires same_table { who.old.token.view.table ≡ table.now.table }
-    requires ready { IsReady who.old }
+    requires ready { IsAtTable table.now IsReady who.old }
     requires marked { HasMarkedTarget (now who.old.token.view) rebuild marked.target marked.keys }
     ensures maker_table { maker.new.view.table ≡ table.now.table }
-    ensures same_table { who.new.token.view.table ≡ table.now.table }
-    ensures ready { IsReady who.new }
+    ensures ready { IsAtTable table.now IsReady who.new }
     ensures marked { HasMarkedTarget (now who.new.token.view) rebuild marked.target marked.keys }
 {
     let mut right = pairs.len() as u64 == marked.keys;
@@ -72,8 +69,7 @@ pub(crate) fn are_pairs(
 
 // Builds the ideal subtree over all leaves of the finished target, in rows that stay the caller's.
 fn part(table: &TreeTable, who: &mut Caller, rebuild: u32, marked: Marked) -> Result<Ref, Full>
-    requires same_table { who.old.token.view.table ≡ table.now.table }
-    requires ready { IsReady who.old }
+    requires ready { IsAtTable table.now IsReady who.old }
     requires marked { HasMarkedTarget (now who.old.token.view) rebuild marked.target marked.keys }
     requires few { marked.keys < share_from }
 {
@@ -99,8 +95,7 @@ pub(crate) fn is_part(
     image: &[u64],
 ) -> Result<bool, AllocError>
     requires maker_table { maker.old.view.table ≡ table.now.table }
-    requires same_table { who.old.token.view.table ≡ table.now.table }
-    requires ready { IsReady who.old }
+    requires ready { IsAtTable table.now IsReady who.old }
     requires marked { HasMarkedTarget (now who.old.token.view) rebuild marked.target marked.keys }
     ensures maker_table { maker.new.view.table ≡ table.now.table }
 {
@@ -125,8 +120,7 @@ fn agree_in(
     image: &[u64],
 ) -> Result<(bool, bool), OpenFault>
     requires maker_table { maker.old.view.table ≡ table.now.table }
-    requires same_table { who.old.token.view.table ≡ table.now.table }
-    requires ready { IsReady who.old }
+    requires ready { IsAtTable table.now IsReady who.old }
     requires few { last ≤ 100000 }
 {
     let Some(target) = see_row(table, who) else {

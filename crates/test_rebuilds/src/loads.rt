@@ -3,6 +3,7 @@ ghost use Rattle.std.specs.Prelude.{◌≡◌, ◌<◌};
 ghost use Rattle.test_rebuilds.specs.Steps.{HasMarkedTarget};
 ghost use Rattle.ist_rows.specs.Going.{IsReady};
 ghost use Rattle.ist_rule.specs.Learning.{now};
+ghost use Rattle.test_rebuilds.specs.At.{IsAtTable};
 
 use crate::callers::{Marked, enter_call, mark};
 use crate::judging::same;
@@ -16,12 +17,10 @@ use std::alloc::Global;
 
 // How many words are loaded on the way to the leaf number `i` of the finished target.
 fn loads_to(table: &TreeTable, who: &mut Caller, rebuild: u32, marked: Marked, i: u64) -> u64
-    requires same_table { who.old.token.view.table ≡ table.now.table }
-    requires ready { IsReady who.old }
+    requires ready { IsAtTable table.now IsReady who.old }
     requires marked { HasMarkedTarget (now who.old.token.view) rebuild marked.target marked.keys }
     requires within { i < marked.keys }
-    ensures same_table { who.new.token.view.table ≡ table.now.table }
-    ensures ready { IsReady who.new }
+    ensures ready { IsAtTable table.now IsReady who.new }
     ensures marked { HasMarkedTarget (now who.new.token.view) rebuild marked.target marked.keys }
 {
     know(&who.token);
@@ -37,8 +36,7 @@ fn first_other(
     marked: Marked,
     cases: &[(u64, u64)],
 ) -> Option<u64>
-    requires same_table { who.old.token.view.table ≡ table.now.table }
-    requires ready { IsReady who.old }
+    requires ready { IsAtTable table.now IsReady who.old }
     requires marked { HasMarkedTarget (now who.old.token.view) rebuild marked.target marked.keys }
 {
     for (i, loads) in cases {
@@ -55,8 +53,7 @@ fn first_other(
 // Returns how many keys the finished target has, and the first of these leaves for which a
 // different number of words is loaded, in a rebuild of all pairs.
 fn see_in(table: &TreeTable, who: &mut Caller, cases: &[(u64, u64)]) -> Option<(u64, Option<u64>)>
-    requires same_table { who.old.token.view.table ≡ table.now.table }
-    requires ready { IsReady who.old }
+    requires ready { IsAtTable table.now IsReady who.old }
 {
     let rebuild = begin_top(table, who)?;
     let marked = mark(table, who, rebuild);

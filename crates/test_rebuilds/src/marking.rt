@@ -3,6 +3,7 @@ ghost use Rattle.std.specs.Prelude.{◌≡◌};
 ghost use Rattle.ist_core.specs.Rebuilding.{IsStarted};
 ghost use Rattle.ist_rows.specs.Going.{IsReady};
 ghost use Rattle.ist_rule.specs.Learning.{now};
+ghost use Rattle.test_rebuilds.specs.At.{IsAtTable};
 
 use crate::callers::{enter_call, mark, see_rebuild};
 use crate::judging::same;
@@ -74,8 +75,7 @@ fn two_callers_mark_one_subtree_in_turn(rt: HostRuntime) {
 
 // Returns what a caller counts that has no more to do.
 fn mark_moved(table: &TreeTable, who: Caller, rebuild: u32) -> u64
-    requires same_table { who.token.view.table ≡ table.now.table }
-    requires ready { IsReady who }
+    requires ready { IsAtTable table.now IsReady who }
     requires started { IsStarted (now who.token.view) rebuild }
 {
     let mut who = who;

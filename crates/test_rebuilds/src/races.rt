@@ -8,6 +8,7 @@ ghost use Rattle.ist_core.specs.References.{unset_word};
 ghost use Rattle.ist_core.specs.RowLayout.{rebuild_root_offset};
 ghost use Rattle.ist_rows.specs.Going.{IsReady};
 ghost use Rattle.ist_rule.specs.Learning.{now, ExchangedOrLost};
+ghost use Rattle.test_rebuilds.specs.At.{IsAtTable};
 
 use crate::callers::{Marked, enter_call, help_on, mark, see_rebuild, set};
 use crate::judging::same;
@@ -25,8 +26,7 @@ use std::alloc::{AllocError, Global};
 // Builds the root over two keys, in a row of the caller's own, and then looks whether the rebuild
 // has a root. If it has none yet, returns the word of what was built.
 fn build(table: &TreeTable, who: &mut Caller, rebuild: u32, marked: Marked) -> Option<u64>
-    requires same_table { who.old.token.view.table ≡ table.now.table }
-    requires ready { IsReady who.old }
+    requires ready { IsAtTable table.now IsReady who.old }
     requires marked { HasMarkedTarget (now who.old.token.view) rebuild marked.target marked.keys }
     ensures same_table { who.new.token.view.table ≡ table.now.table }
     ensures built { IfSome result (HoldsRoot who.new.token.view who.new.number rebuild) }
@@ -108,8 +108,7 @@ fn race(
 
 // Returns the root that the rebuild has, and whether the root then replaces the target.
 fn end(table: &TreeTable, who: &mut Caller, rebuild: u32) -> (Option<Ref>, bool)
-    requires same_table { who.old.token.view.table ≡ table.now.table }
-    requires ready { IsReady who.old }
+    requires ready { IsAtTable table.now IsReady who.old }
     requires started { IsStarted (now who.old.token.view) rebuild }
 {
     mark(table, who, rebuild);

@@ -2,6 +2,7 @@
 ghost use Rattle.std.specs.Prelude.{◌≡◌, true, Ok};
 ghost use Rattle.ist_core.specs.declared.events.Who.TheVariants.{Maker};
 ghost use Rattle.ist_tree.specs.Insides.{IsPass};
+ghost use Rattle.test_rebuilds.specs.At.{IsAtTable};
 
 use crate::callers::help_on;
 use crate::updates::{enter_idle, start_after, update_all};
@@ -77,12 +78,10 @@ fn shrink(
     rest: &mut Caller,
     first: u64,
 ) -> Result<bool, AllocError>
-    requires same_table { most.old.token.view.table ≡ table.now.table }
-    requires pass { IsPass most.old }
+    requires pass { IsAtTable table.now IsPass most.old }
     requires its_table { rest.old.token.view.table ≡ table.now.table }
     requires its_pass { IsPass rest.old }
-    ensures same_table { most.new.token.view.table ≡ table.now.table }
-    ensures pass { result ≡ Ok true → IsPass most.new }
+    ensures pass { result ≡ Ok true → IsAtTable table.now IsPass most.new }
 {
     let last = first.saturating_add(14);
     let updates = removes(alloc, first.saturating_add(1), last.saturating_sub(1))?;
@@ -100,12 +99,10 @@ fn start_second(
     most: &mut Caller,
     starter: &mut Caller,
 ) -> Result<bool, AllocError>
-    requires same_table { most.old.token.view.table ≡ table.now.table }
-    requires pass { IsPass most.old }
+    requires pass { IsAtTable table.now IsPass most.old }
     requires its_table { starter.old.token.view.table ≡ table.now.table }
     requires its_pass { IsPass starter.old }
-    ensures same_table { most.new.token.view.table ≡ table.now.table }
-    ensures pass { result ≡ Ok true → IsPass most.new }
+    ensures pass { result ≡ Ok true → IsAtTable table.now IsPass most.new }
 {
     let updates = puts(alloc, 16, 7)?;
     match start_after(table, most, starter, updates.as_slice(), 16, Some(1007)) {
@@ -150,8 +147,7 @@ fn bring(
     third: &mut Caller,
     shape: Shape,
 ) -> Result<bool, OpenFault>
-    requires same_table { most.old.token.view.table ≡ table.now.table }
-    requires pass { IsPass most.old }
+    requires pass { IsAtTable table.now IsPass most.old }
     requires first_table { first.old.token.view.table ≡ table.now.table }
     requires first_pass { IsPass first.old }
     requires second_table { second.old.token.view.table ≡ table.now.table }

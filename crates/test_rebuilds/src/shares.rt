@@ -4,6 +4,7 @@ ghost use Rattle.std.specs.Prelude.{◌≡◌, IfSome};
 ghost use Rattle.ist_core.specs.Rebuilding.{IsStarted};
 ghost use Rattle.ist_rows.specs.Going.{IsReady};
 ghost use Rattle.ist_rule.specs.Learning.{now};
+ghost use Rattle.test_rebuilds.specs.At.{IsAtTable};
 
 use crate::callers::{begin, enter_call, fill_all, help_on, mark, see_rebuild, see_row, set};
 use crate::judging::same;
@@ -18,10 +19,8 @@ use std::thread::{Threads, join};
 
 /// Starts a rebuild of what is below the anchor.
 pub(crate) fn begin_top(table: &TreeTable, who: &mut Caller) -> Option<u32>
-    requires same_table { who.old.token.view.table ≡ table.now.table }
-    requires ready { IsReady who.old }
-    ensures same_table { who.new.token.view.table ≡ table.now.table }
-    ensures ready { IsReady who.new }
+    requires ready { IsAtTable table.now IsReady who.old }
+    ensures ready { IsAtTable table.now IsReady who.new }
     ensures started { IfSome result (IsStarted (now who.new.token.view)) }
 {
     let Some(target) = see_row(table, who) else {
@@ -65,8 +64,7 @@ struct Shared {
 
 // Sets the root of the rebuild that the caller finds, and fills its parts. Returns the root.
 fn fill_found(table: &TreeTable, who: &mut Caller) -> Option<Ref>
-    requires same_table { who.old.token.view.table ≡ table.now.table }
-    requires ready { IsReady who.old }
+    requires ready { IsAtTable table.now IsReady who.old }
 {
     let Some(seen) = see_rebuild(table, who) else {
         return None;
@@ -172,8 +170,7 @@ struct Beside {
 
 // Helps a rebuild by a caller that has no more to do. Returns whether it was replaced.
 fn help_moved(table: &TreeTable, who: Caller, rebuild: u32) -> bool
-    requires same_table { who.token.view.table ≡ table.now.table }
-    requires ready { IsReady who }
+    requires ready { IsAtTable table.now IsReady who }
     requires started { IsStarted (now who.token.view) rebuild }
 {
     let mut who = who;

@@ -1,6 +1,7 @@
 //! Starts and rebuilds that are refused, at each number of words.
 ghost use Rattle.std.specs.Prelude.{◌≡◌};
 ghost use Rattle.ist_rows.specs.Going.{IsReady};
+ghost use Rattle.test_rebuilds.specs.At.{IsAtTable};
 
 use crate::callers::{begin, enter_call, help_on, see_row};
 use crate::judging::same;
@@ -27,8 +28,7 @@ struct Came {
 // Rebuilds the whole table. Returns why that was refused, if it was, and the word of the rebuild's root.
 fn rebuild_in(table: &TreeTable, maker: &mut TreeToken, who: &mut Caller) -> (Option<Full>, u64)
     requires maker_table { maker.old.view.table ≡ table.now.table }
-    requires same_table { who.old.token.view.table ≡ table.now.table }
-    requires ready { IsReady who.old }
+    requires ready { IsAtTable table.now IsReady who.old }
 {
     let Some(target) = see_row(table, who) else {
         return (None, 0);

@@ -4,6 +4,7 @@ ghost use Rattle.ist_core.specs.Rebuilding.{IsStarted};
 ghost use Rattle.ist_rows.specs.Going.{IsReady};
 ghost use Rattle.ist_rule.specs.Learning.{now};
 ghost use Rattle.ist_tree.specs.Insides.{IsPass};
+ghost use Rattle.test_rebuilds.specs.At.{IsAtTable};
 
 use crate::callers::{enter_call, help_on, mark};
 use crate::judging::same;
@@ -107,11 +108,9 @@ fn help_where(
     rebuild: u32,
     at_once: bool,
 ) -> Option<Result<Helped, Full>>
-    requires same_table { who.old.token.view.table ≡ table.now.table }
-    requires ready { IsReady who.old }
+    requires ready { IsAtTable table.now IsReady who.old }
     requires started { IsStarted (now who.old.token.view) rebuild }
-    ensures same_table { who.new.token.view.table ≡ table.now.table }
-    ensures ready { IsReady who.new }
+    ensures ready { IsAtTable table.now IsReady who.new }
     ensures started { IsStarted (now who.new.token.view) rebuild }
 {
     if at_once {

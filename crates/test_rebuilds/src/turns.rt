@@ -1,6 +1,7 @@
 //! Two callers that start one rebuild, of which the other ends it.
 ghost use Rattle.std.specs.Prelude.{◌≡◌};
 ghost use Rattle.ist_rows.specs.Going.{IsReady};
+ghost use Rattle.test_rebuilds.specs.At.{IsAtTable};
 
 use crate::callers::{begin, enter_call, help_on, mark, see_rebuild, see_row};
 use crate::judging::same;
@@ -56,8 +57,7 @@ fn help_found(
     who: &mut Caller,
 ) -> Option<((u32, u32, u64, u64), Result<Helped, Full>)>
     requires maker_table { maker.old.view.table ≡ table.now.table }
-    requires same_table { who.old.token.view.table ≡ table.now.table }
-    requires ready { IsReady who.old }
+    requires ready { IsAtTable table.now IsReady who.old }
     ensures maker_table { maker.new.view.table ≡ table.now.table }
 {
     let Some(seen) = see_rebuild(table, who) else {

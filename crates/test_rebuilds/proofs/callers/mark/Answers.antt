@@ -1,3 +1,4 @@
+use Rattle.std.proofs.Common.{rules}
 use Rattle.ist_dcss.proofs.TargetLemmas.{started_rebuild}
 use Rattle.test_rebuilds.proofs.ReadyLemmas.{is_marked}
 use Rattle.ist_rebuild.proofs.BuiltOutLemmas.{HasMarkedForBuild, has_marked, may_mark}
@@ -12,24 +13,25 @@ target_of-target-requires-clause-published c =
 -- the target of a started rebuild may be marked
 pub mark_and_count-keys-requires-clause-may_mark : goal.mark_and_count-keys-requires-clause-may_mark
 mark_and_count-keys-requires-clause-may_mark c =
-    may_mark c.args.who.now c.target_of-target.new.token c.args.rebuild _ c.requires.ready
+    may_mark c.args.who.now c.target_of-target.new.token c.args.rebuild _ c.requires.ready.0
     c.requires.started c.target_of-target.ensures.seen c.target_of-target.ensures.target
 
 -- and is finished then
 marked : (c : goal.After-mark_and_count-keys)
     → HasMarkedForBuild c.args.who.now c.mark_and_count-keys.new.token c.args.rebuild
 marked c =
-    has_marked c.args.who.now c.target_of-target.new.token _ _ _ _ c.requires.ready
+    has_marked c.args.who.now c.target_of-target.new.token _ _ _ _ c.requires.ready.0
     c.requires.started c.target_of-target.ensures.seen c.target_of-target.ensures.target
     c.mark_and_count-keys.ensures.went c.mark_and_count-keys.ensures.finished
 
 pub returns-clause-ready : goal.returns-clause-ready
-returns-clause-ready c = still_ready (marked c).helped.on
+returns-clause-ready c =
+    (still_ready (marked c).helped.on, search rules)
 
 pub returns-clause-marked : goal.returns-clause-marked
 returns-clause-marked c =
     is_marked c.args.who.now c.target_of-target.new.token c.mark_and_count-keys.new.token _ _ _
-    c.requires.ready c.requires.started c.target_of-target.ensures.seen
+    c.requires.ready.0 c.requires.started c.target_of-target.ensures.seen
     c.target_of-target.ensures.target c.mark_and_count-keys.ensures.went
     c.mark_and_count-keys.ensures.finished
 

@@ -1,3 +1,4 @@
+use Rattle.std.proofs.Common.{rules}
 use Rattle.ist_build.specs.Calls.{Builds}
 use Rattle.ist_rebuild.proofs.HelpedLemmas.{built_helped}
 use Rattle.ist_rebuild.proofs.BuiltOutLemmas.{buildable_went}
@@ -5,11 +6,13 @@ use Rattle.ist_rows.proofs.GoneLemmas.{still_ready}
 use Rattle.test_rebuilds.proofs.callers.set.Goals as goal
 
 pub returns-clause-ready : goal.returns-clause-ready
-returns-clause-ready c =
-    still_ready (built_helped c.args.who.now c.set_root.new.who c.requires.ready
-    c.set_root.ensures.caller
-    c.set_root.ensures.refused c.set_root.ensures.number c.set_root.ensures.rows
-    c.set_root.ensures.went).on
+returns-clause-ready c = (
+  still_ready (built_helped c.args.who.now c.set_root.new.who c.requires.ready.0
+      c.set_root.ensures.caller
+      c.set_root.ensures.refused c.set_root.ensures.number c.set_root.ensures.rows
+      c.set_root.ensures.went).on,
+  search rules,
+)
 
 pub returns-clause-buildable : goal.returns-clause-buildable
 returns-clause-buildable c =

@@ -1,4 +1,4 @@
-use Rattle.std.proofs.Common.{refl, sym}
+use Rattle.std.proofs.Common.{rules, refl, sym}
 use Rattle.ist_core.specs.Shown.{shown_slot}
 use Rattle.ist_core.specs.Slots.{in_anchor}
 use Rattle.ist_rebuild.proofs.HelpedLemmas.{loads_helped}
@@ -9,11 +9,13 @@ use Rattle.ist_tree.proofs.SearchCountLemmas.{idle_begun}
 use Rattle.test_rebuilds.proofs.callers.slot_word.Goals as goal
 
 pub returns-clause-ready : goal.returns-clause-ready
-returns-clause-ready c =
-    still_ready (loads_helped _ c.load_top.new.token
-    (still_ready (idle_begun c.args.who.now c.args.who.now c.begin_search.new.token
-    (idle_same c.args.who.now c.know.ensures.sound c.requires.ready) c.begin_search.ensures.begun).on)
-    (looked_goes_on _ _ _ _ c.load_top.ensures.looked)).on
+returns-clause-ready c = (
+  still_ready (loads_helped _ c.load_top.new.token
+      (still_ready (idle_begun c.args.who.now c.args.who.now c.begin_search.new.token
+      (idle_same c.args.who.now c.know.ensures.sound c.requires.ready.0) c.begin_search.ensures.begun).on)
+      (looked_goes_on _ _ _ _ c.load_top.ensures.looked)).on,
+  search rules,
+)
 
 -- the slot held the word that was loaded
 pub returns-clause-holds : goal.returns-clause-holds

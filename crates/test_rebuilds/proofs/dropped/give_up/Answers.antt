@@ -1,3 +1,4 @@
+use Rattle.std.proofs.Common.{rules}
 use Rattle.ist_rule.proofs.GoingOnLemmas.{looked_goes_on}
 use Rattle.ist_rows.specs.Rows.{IsCaller}
 use Rattle.ist_rows.proofs.CallerGoingLemmas.{caller_goes_on}
@@ -11,16 +12,16 @@ use Rattle.ist_layout.proofs.MeaningLemmas.{word_names}
 still : (c : After-load_top-word) → IsCaller (record c.args.who.now { token = c.load_top-word.new.token })
 still c =
     caller_goes_on (record c.args.who.now { token = c.begin_search.new.token }) c.load_top-word.new.token
-    (caller_begun c.args.who.now c.begin_search.new.token c.requires.caller c.begin_search.ensures.begun)
+    (caller_begun c.args.who.now c.begin_search.new.token c.requires.caller.0 c.begin_search.ensures.begun)
     (looked_goes_on _ _ _ _ c.load_top-word.ensures.looked)
 
-pub returns-in_default-clause-caller : goal.returns-in_default-clause-caller
-returns-in_default-clause-caller c =
-    still (goal.at.returns-in_default-clause-caller c).After-load_top-word
+pub returns-in_default : goal.returns-in_default
+returns-in_default c =
+    record { caller = (still (goal.at.returns-in_default c).After-load_top-word, search rules) }
 
-pub returns-in_default-2-clause-caller : goal.returns-in_default-2-clause-caller
-returns-in_default-2-clause-caller c =
-    still (goal.at.returns-in_default-2-clause-caller c).After-load_top-word
+pub returns-in_default-2 : goal.returns-in_default-2
+returns-in_default-2 c =
+    record { caller = (still (goal.at.returns-in_default-2 c).After-load_top-word, search rules) }
 
 pub drop_pair-requires-clause-caller : goal.drop_pair-requires-clause-caller
 drop_pair-requires-clause-caller c =
@@ -33,10 +34,10 @@ drop_pair-requires-clause-below c =
     (word_names _ _ _ _ c.from_word.ensures.value c.in-Some-Inner.is c.in-Some-Inner.field-0-is)
     c.in-Some.is c.if-pair-base.true
 
-pub returns-in_default-pair-clause-caller : goal.returns-in_default-pair-clause-caller
-returns-in_default-pair-clause-caller c =
-    still (goal.at.returns-in_default-pair-clause-caller c).After-load_top-word
+pub returns-in_default-pair : goal.returns-in_default-pair
+returns-in_default-pair c =
+    record { caller = (still (goal.at.returns-in_default-pair c).After-load_top-word, search rules) }
 
-pub returns-in_default-pair-2-clause-caller : goal.returns-in_default-pair-2-clause-caller
-returns-in_default-pair-2-clause-caller c =
-    still (goal.at.returns-in_default-pair-2-clause-caller c).After-load_top-word
+pub returns-in_default-pair-2 : goal.returns-in_default-pair-2
+returns-in_default-pair-2 c =
+    record { caller = (still (goal.at.returns-in_default-pair-2 c).After-load_top-word, search rules) }

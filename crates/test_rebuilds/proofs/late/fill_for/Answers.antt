@@ -1,3 +1,4 @@
+use Rattle.std.proofs.Common.{rules}
 use Rattle.ist_rule.proofs.WentOnLemmas.{goes_on_grow}
 use Rattle.laws_links.proofs.FormLemmas.{room_grows}
 use Rattle.ist_updates.specs.Changing.{Prepares}
@@ -11,9 +12,11 @@ pub is_open-requires-clause-node : goal.is_open-requires-clause-node
 is_open-requires-clause-node c = slot_node _ _ c.requires.at_slot
 
 pub plan-requires-clause-caller : goal.plan-requires-clause-caller
-plan-requires-clause-caller c =
-    (loads_gone Prepares c.args.who.now c.is_open.new.token c.requires.asked.caller
-    c.requires.asked.refused c.is_open.ensures.seen).caller
+plan-requires-clause-caller c = (
+  (loads_gone Prepares c.args.who.now c.is_open.new.token c.requires.asked.caller
+      c.requires.asked.refused c.is_open.ensures.seen).caller,
+  search rules,
+)
 
 pub plan-requires-clause-refused : goal.plan-requires-clause-refused
 plan-requires-clause-refused c =

@@ -5,7 +5,7 @@ use Rattle.test_rebuilds.proofs.late.take.Goals as goal
 -- the caller has reserved the row, or held it
 pub returns-clause-gone : goal.returns-clause-gone
 returns-clause-gone c =
-    (taken _ _ c.args.kind (word_count_of c.args.table.now) c.requires.caller c.requires.refused
+    (taken _ _ c.args.kind (word_count_of c.args.table.now) c.requires.caller.0 c.requires.refused
     c.know.ensures.sound _ record {
       caller = c.reserve-taken.ensures.caller;
       number = c.reserve-taken.ensures.number;

@@ -21,7 +21,7 @@ laid : (c : After-know-2) → HasLaid c.build_part.new.who.token.view c.build_pa
 laid c =
     has_laid c.args.who.now c.build_part.new.who c.args.rebuild c.args.marked.target _ _
     (ref_meant c.in-Ok.root) c.if-marked-ne2.false c.know.ensures.sound c.requires.marked
-    c.requires.ready.caller.mine c.build_part.ensures.number c.build_part.ensures.went
+    c.requires.ready.0.caller.mine c.build_part.ensures.number c.build_part.ensures.went
     c.in-Ok.ensures.laid
     (ap ref_of c.to_word-word.ensures.value ∙ ref_of-word_of _ c.in-Ok.ensures.good)
 
@@ -31,7 +31,7 @@ load-stood-requires-clause-within c =
     let low = laid_low _ _ _ _ c.know-2.ensures.sound
     (laid (goal.at.load-stood-requires-clause-within c).After-know-2) in
     let same = ap (λ (v : View). v.table.words) c.build_part.ensures.went.same
-    ∙ ap (λ t. t.words) c.requires.same_table in
+    ∙ ap (λ t. t.words) c.requires.ready.1 in
     omega (arith, c.from.ensures, c.know-2.ensures.words)
 
 pub load-stood-requires-clause-no_walk : goal.load-stood-requires-clause-no_walk

@@ -9,9 +9,9 @@ pub end_call-requires : goal.end_call-requires
 end_call-requires c =
     let done = c.in-Ok.ensures in (
       ap (λ (v : View). v.table) done.went.went.same
-          ∙ ap (λ (v : View). v.table) c.ask.ensures.begun.view ∙ c.requires.same_table,
+          ∙ ap (λ (v : View). v.table) c.ask.ensures.begun.view ∙ c.requires.pass.1,
       may_end c.args.who.now c.ask.new.who c.apply.new.who (command_for c.args.key c.args.value)
-          c.ask.ensures.sound c.requires.pass c.ask.ensures.begun c.ask.ensures.number done.went
+          c.ask.ensures.sound c.requires.pass.0 c.ask.ensures.begun c.ask.ensures.number done.went
           done.number done.caller c.reply.result
           (subst (MayEnd c.apply.new.who (command_for c.args.key c.args.value))
           (sym c.reply.ensures.value) (done.answered c.in_default.not-Unmet)),
