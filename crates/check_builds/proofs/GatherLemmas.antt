@@ -197,10 +197,10 @@ module _ (ps : Pieces) where
       (a.0, a.1, subst P (append-nil a.0) whole)
 
   -- if the words have no leaves, no list has P
-  pub left_lacks : (P : List PlacedLeaf → Type 0) (old mid new : List PlacedLeaf)
-      (words left : List ℕ) → IsFoundAndLeft P old mid words → GathersOn ps words mid false left new
+  pub left_lacks : (P : List PlacedLeaf → Type 0) (old mid : List PlacedLeaf) (words : List ℕ)
+      → IsFoundAndLeft P old mid words → ((leaves : List PlacedLeaf) → ¬ (SlotsHaveLeaves ps words leaves))
       → (leaves : List PlacedLeaf) → ¬ (P leaves)
-  left_lacks P old mid new words left a b leaves p = let it = a.2.no_other leaves p in b it.0 it.2
+  left_lacks P old mid words a b leaves p = let it = a.2.no_other leaves p in b it.0 it.2
 
   -- at first nothing was found, and the slots of the row are left
   pub begun : (base : ℕ) (none waiting : List ℕ) (out : List PlacedLeaf) → none ≡ []
@@ -215,13 +215,6 @@ module _ (ps : Pieces) where
         subst (λ ws. LeavesLeft ps (λ ls. HasLeaves ps (Some (InnerAt base)) ls) [] ws) (sym turned)
             (row_left base puts.0 puts.1),
       )
-
-  -- the words may be written otherwise
-  pub on_words : (words others : List ℕ) (old new : List PlacedLeaf) (found : Bool) (left : List ℕ)
-      → words ≡ others → GathersOn ps others old found left new
-      → GathersOn ps words old found left new
-  on_words words others old new found left e h =
-      subst (λ ws. GathersOn ps ws old found left new) (sym e) h
 
 -- ---- words that wait
 

@@ -1,8 +1,8 @@
 -- Which sizes go on from what is kept, and when that is as much as all lists allow. Serves `keeping.rt`.
 use Rattle.std.proofs.Common.{◌≡◌, ◌↔◌, ◌∙◌, ◌+◌, ◌≤◌, Bool, true, false, not, nat_eq, ℕ, IsTrue}
 use Rattle.std.proofs.Common.{List, [], ◌∷◌, ◌++◌, length, take, Some, None}
-use Rattle.std.proofs.Common.{refl, sym, ap, subst, append-nil, arith}
-use Rattle.std.proofs.lemmas.List.{take_all}
+use Rattle.std.proofs.Common.{refl, sym, ap, subst, append-nil, drop, arith}
+use Rattle.std.proofs.lemmas.List.{take_all, take-append-drop}
 use Rattle.std.specs.Ordering.{nat_cmp}
 use Rattle.std.specs.BTreeMap as tree
 use Rattle.std.specs.BTreeMap.{BTreeMap}
@@ -45,6 +45,21 @@ module _ (all : BTreeMap ℕ KeptReadings) (lists : List (List ℕ)) (caller : �
     (λ g. i.1 (subst (λ (k : KeptReadings). CanBeRead (take k.lists lists) sizes)
         (some_is (sym g.found ∙ found)) g.read)),
   )
+
+  -- the sizes after those that were kept are read on from what is left there
+  pub rest_goes_on : (kept : KeptReadings) (known : List (List ℕ)) (n : ℕ) (left next : List SizeReading)
+      (empty : Bool) → tree.get nat_cmp all caller ≡ Some kept → IsKept lists kept
+      → known ≡ take kept.lists lists → left ≡ left_at kept n → n ≤ length kept.sizes.items
+      → take n kept.sizes.items ≡ take n sizes → empty ≡ nat_eq (length next) 0
+      → ((more : List ℕ) → SomeGoes known any_room next more
+      ↔ SomeGoes known any_room left (drop n sizes ++ more))
+      → IsTrue (not empty) ↔ GoOnFrom all lists caller sizes
+  rest_goes_on kept known n left next empty found k few is within same e reads =
+      let here : AreReadings known any_room (take n sizes) left = rw (few, is, sym same) (k.each n within) in
+      let read : SomeGoes known any_room next [] ↔ CanBeRead known sizes =
+      rw (take-append-drop n sizes) at (some_left known (take n sizes) (drop n sizes) left next reads here) in
+      kept_goes_on kept (not empty) found
+      (rw few at (iff_trans (end_read known any_room next [] empty (omega arith) e) read))
 
 -- ---- what is enough
 

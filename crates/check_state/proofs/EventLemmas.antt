@@ -1,23 +1,6 @@
 -- The state after an event, in the cases of the code. Serves `advancing.rt`.
-use Rattle.std.proofs.Common.{
-  ◌≡◌,
-  ◌≢◌,
-  ◌∙◌,
-  ℕ,
-  Bool,
-  true,
-  false,
-  List,
-  [],
-  ◌∷◌,
-  Option,
-  Some,
-  None,
-  refl,
-  sym,
-  ap,
-  subst,
-}
+use Rattle.std.proofs.Common.{◌≡◌, ◌≢◌, ◌∙◌, ℕ, Bool, true, false, List, [], ◌∷◌, Option, Some, None, refl, sym, ap, subst}
+use Rattle.std.specs.Prelude.{Result, OnOk}
 use Rattle.ist_core.specs.declared.pairs.Pair.{Pair}
 use Rattle.ist_core.specs.declared.lists.Row.{Row}
 use Rattle.ist_core.specs.declared.states.ChangeRow.{ChangeRow}
@@ -38,6 +21,13 @@ use Rattle.check_state.specs.Advancing.{TakesNoRows}
 pub by_event : (r : Replica) (t : Snapshot) (e f : Event) → e ≡ f → Mirrors r (after t f)
     → Mirrors r (after t e)
 by_event r t e f is h = subst (λ x. Mirrors r (after t x)) (sym is) h
+
+-- what brings a replica forward by the event that was matched does so by the event
+pub done_by : {E : Type 0} (r s : Replica) {e f : Event} (result : Result (Unit {0}) E) → e ≡ f
+    → OnOk result ((t : Snapshot) → Mirrors r t → Mirrors s (after t f))
+    → OnOk result ((t : Snapshot) → Mirrors r t → Mirrors s (after t e))
+done_by r s result is =
+    subst (λ x. OnOk result ((t : Snapshot) → Mirrors r t → Mirrors s (after t x))) (sym is)
 
 -- what is right after the event that was matched is right after the event
 pub at_event : (pairs : List Pair) (words : ℕ) (log : Log) (Right : Log → Type 0) (e f : Event) → e
@@ -95,21 +85,19 @@ held_installed t base (row ∷ fresh) = at (change_of row.words)
     at None = refl
     at (Some change) = refl
 
--- the held rows are taken away from what they were before the Install
-pub installed_given_up : (r : Replica) (t : Snapshot) (base : ℕ) (rows gone : List Row) → gone
-    ≡ rows
-    → Mirrors r (record (installed t base rows) {
-      held = without (bases_of gone)
-          (installed t base rows).held;
-    })
-    → Mirrors r (record (installed t base rows) { held = without (bases_of rows) t.held })
-installed_given_up r t base rows gone same h =
-    subst (λ xs. Mirrors r (record (installed t base rows) { held = without (bases_of rows) xs }))
+-- an Install is done once its rows are published, and then given up
+pub installed_given_up : {r s u : Replica} (base : ℕ) {rows fresh gone : List Row} → fresh ≡ rows → gone ≡ rows
+    → ((t : Snapshot) → Mirrors r t → Mirrors s (installed t base fresh))
+    → ((t : Snapshot) → Mirrors s t → Mirrors u (record t { held = without (bases_of gone) t.held }))
+    → (t : Snapshot) → Mirrors r t
+    → Mirrors u (record (installed t base rows) { held = without (bases_of rows) t.held })
+installed_given_up {s = s} {u = u} base {rows = rows} same out put give t h =
+    let there = subst (λ xs. Mirrors s (installed t base xs)) same (put t h) in
+    subst (λ held. Mirrors u (record (installed t base rows) { held = without (bases_of rows) held }))
     (held_installed t base rows)
-    (subst (λ xs. Mirrors r (record (installed t base rows) {
-      held = without (bases_of xs)
-          (installed t base rows).held;
-    })) same h)
+    (subst (λ xs. Mirrors u (record (installed t base rows) {
+      held = without (bases_of xs) (installed t base rows).held;
+    })) out (give (installed t base rows) there))
 
 -- the word of a decision
 pub decided_so : (r : Replica) (t : Snapshot) (base word : ℕ) (said : Bool) → word ≡ decision_word

@@ -1,11 +1,13 @@
 -- What holds of a build once all its rows are reserved, and once they are built. Serves
 -- `build_at_once`.
 use Rattle.std.proofs.Common.{◌≡◌, ℕ, ◌≤◌, List, ◌++◌, length, Result, Ok, Err, IfOk, IfErr, sym, ap, subst, arith}
+use Rattle.std.specs.List.{sum}
 use Rattle.ist_core.specs.declared.ports.Full.{Full}
 use Rattle.ist_core.specs.Arithmetic.{degree}
 use Rattle.ist_core.specs.Leaves.{PlacedLeaf}
 use Rattle.ist_core.specs.RowLayout.{inner_words, place_limit}
 use Rattle.ist_core.specs.Shapes.{shape}
+use Rattle.ist_core.proofs.PrefixLemmas.{goes_on_by}
 use Rattle.ist_core.proofs.ShapeLemmas.{shape_many}
 use Rattle.ist_rule.specs.declared.view.View.{View}
 use Rattle.ist_rule.specs.Rule.{IsSound, own_at}
@@ -13,7 +15,10 @@ use Rattle.ist_rule.specs.Learning.{now, GoesOnTo}
 use Rattle.ist_rows.specs.declared.callers.Caller.{Caller}
 use Rattle.ist_rows.specs.Rows.{IsCaller}
 use Rattle.ist_rows.specs.Building.{IsInBuild, HasTaken}
-use Rattle.ist_rows.specs.Block.{HoldsBlock, AreNext, ReservedAll}
+use Rattle.ist_rows.specs.Block.{HoldsBlock, AreNext, HasNoRoom, ReservedAll}
+use Rattle.ist_rows.specs.Taken.{HasTakenFew, HasTakenFewIn}
+use Rattle.ist_rows.proofs.FewLemmas.{out_in, out_on}
+use Rattle.ist_rows.proofs.FewStepLemmas.{few_reserved_all, no_room_out}
 use Rattle.ist_rows.proofs.BlockLemmas.{holds_them}
 use Rattle.ist_rows.proofs.ReserveLemmas.{next_low}
 use Rattle.ist_build.specs.Laying.{BuiltOn, ArePlaced, HaveLeaves, AreKeysOf, AreNextRows, IsLaid, IsShort, IsWritten, IsLaidBelow}
@@ -56,6 +61,7 @@ pub record BlockBuilt (old new : Caller) (leaves : List ℕ) (word : ℕ) : Type
   pub laid : (placed : List PlacedLeaf) → ArePlaced (now old.token.view) leaves placed
       → IsLaid new.token.view new.number (now old.token.view).next word placed
   pub taken : HasTaken old (shape (length leaves)) new
+  pub few : HasTakenFew (sum (shape (length leaves))) 0 old new
 
 -- the rows are there to be laid, and what is known once they are
 pub record BlockReady (old new : Caller) (leaves keys : List ℕ) (base : ℕ) : Type 0 where
@@ -145,6 +151,8 @@ module _ (old new : Caller) (leaves keys : List ℕ) (at base : ℕ) (base_is : 
           built = block_built last end word written;
           laid = block_laid last end word written laid;
           taken = block_taken last end word written;
+          few = subst (λ (x : Caller). HasTakenFew (sum sizes) 0 old x) (sym written.same)
+              (few_reserved_all old new c at sizes reserved);
         };
       }
 
@@ -157,10 +165,13 @@ pub record LaterBuilt (old new : Caller) (words : ℕ) (leaves : List ℕ) (answ
       → ArePlaced (now old.token.view) leaves placed
       → IsLaid new.token.view new.number (now old.token.view).next word placed)
   pub taken : IfOk answer (λ word. HasTaken old (shape (length leaves)) new)
+  pub few : HasTakenFewIn answer (sum (shape (length leaves))) 0 old new
   pub full : IfErr answer (λ full. IsShort old.token.view words (length leaves) full new.token.view)
 
--- a build that began after loads
+-- a build that began after loads, as there was no room for all rows
 pub later_built : (old mid new : Caller) (words : ℕ) (leaves : List ℕ) → IsCaller old
+    → words ≡ old.token.view.words
+    → HasNoRoom old.token.view words (sum (shape (length leaves))) mid.token.view
     → mid ≡ record old { token = mid.token } → GoesOnTo old.token.view mid.token.view
     → BuiltOn mid.token.view new.token.view → (answer : Result ℕ Full)
     → IfOk answer (λ word. (placed : List PlacedLeaf)
@@ -169,7 +180,7 @@ pub later_built : (old mid new : Caller) (words : ℕ) (leaves : List ℕ) → I
     → IfOk answer (λ word. HasTaken mid (shape (length leaves)) new)
     → IfErr answer (λ full. IsShort mid.token.view words (length leaves) full new.token.view)
     → LaterBuilt old new words leaves answer
-later_built old mid new words leaves c same g b (Ok word) laid taken full =
+later_built old mid new words leaves c is room same g b (Ok word) laid taken full =
     let v = old.token.view in
     let on = loads_built v mid.token.view g in
     record {
@@ -179,13 +190,16 @@ later_built old mid new words leaves c same g b (Ok word) laid taken full =
           (laid placed (placed_on v mid.token.view on leaves placed a));
       taken = taken_on old mid.token (shape (length leaves)) new c g
           (subst (λ (x : Caller). HasTaken x (shape (length leaves)) new) same taken);
+      few = out_in (Ok word) _ 0 old new (out_on _ old mid new (goes_on_by b.later)
+          (no_room_out old mid c words _ is room));
       full = tt;
     }
-later_built old mid new words leaves c same g b (Err full) laid taken short =
+later_built old mid new words leaves c is room same g b (Err full) laid taken short =
     let v = old.token.view in
     record {
       built = built_more v mid.token.view new.token.view (loads_built v mid.token.view g) b;
       laid = tt;
       taken = tt;
+      few = out_on _ old mid new (goes_on_by b.later) (no_room_out old mid c words _ is room);
       full = short_on v mid.token.view g words (length leaves) full new.token.view short;
     }

@@ -1,7 +1,7 @@
 -- How few words a build takes, function by function. Serves `block`, `parts`, `top` and `root`.
-use Rattle.std.proofs.Common.{◌≡◌, ℕ, ◌+◌, ◌<◌, ◌≤◌, nat_lt, Bool, true, false, if◌then◌else◌, List, length, Result, refl, sym, ap, ◌∙◌, subst, arith}
+use Rattle.std.proofs.Common.{◌≡◌, ℕ, ◌+◌, ◌<◌, ◌≤◌, nat_lt, Bool, true, false, if◌then◌else◌, List, length, Result, refl, sym, ap, ◌∙◌, subst, ⊎_elim, arith}
 use Rattle.std.specs.List.{sum}
-use Rattle.std.proofs.lemmas.Bool.Decides.{nat_tests}
+use Rattle.std.proofs.lemmas.Bool.Decides.{nat_tests, eqb_tells}
 use Rattle.ist_core.specs.declared.events.Event.{Event}
 use Rattle.ist_core.specs.declared.ports.Full.{Full}
 use Rattle.ist_core.specs.declared.events.Who.TheVariants.{Caller as CallerOf}
@@ -14,12 +14,13 @@ use Rattle.ist_core.proofs.DrawLemmas.{finished_once}
 use Rattle.ist_core.proofs.OptionLemmas.{same_rebuild}
 use Rattle.ist_rule.specs.Faces.{TokenFace}
 use Rattle.ist_rule.specs.declared.view.View.{View}
-use Rattle.ist_rule.specs.Learning.{GoesOnTo, storing}
+use Rattle.ist_rule.specs.Learning.{GoesOnTo, Logged, ExchangedOrLost, storing}
+use Rattle.ist_rule.proofs.GoingOnLemmas.{goes_on_who}
 use Rattle.ist_rows.specs.declared.callers.Caller.{Caller}
 use Rattle.ist_rows.specs.Rows.{IsCaller}
-use Rattle.ist_rows.specs.Taken.{HasTakenFew, HasTakenFewIn, IsLaterCaller, TakesFew}
+use Rattle.ist_rows.specs.Taken.{HasTakenFew, HasTakenFewIn, IsLaterCaller, TakesFew, TakesNoWords, taken_at}
 use Rattle.ist_rows.proofs.FewLemmas.{later_went}
-use Rattle.ist_rows.proofs.FewStepLemmas.{few_call, few_kept, none_loads}
+use Rattle.ist_rows.proofs.FewStepLemmas.{few_call, few_kept, none_loads, none_logged, none_logged_load, none_more}
 use Rattle.ist_build.specs.Back.{HasBuilt, IsBack}
 use Rattle.ist_build.specs.Calls.{Builds, IsTold, root_words}
 use Rattle.ist_build.specs.Laying.{BuiltOn, IsReservation, LaidOn}
@@ -102,3 +103,25 @@ told_once t rebuild j k h l =
     let row_is = same_rebuild (t.pieces rebuild) h.row l.row h.published l.published in
     finished_once t l.row.target j k (subst (λ r. IsFinishedWith t r.target j) row_is h.finished)
     l.finished
+
+-- ---- steps that take none
+
+-- loads, and then an event that reserves nothing
+pub none_then : (who : Caller) (mid last : TokenFace) → who.token.view.who ≡ CallerOf who.number
+    → GoesOnTo who.token.view mid.view → (event : Event) → Logged mid.view event last.view
+    → taken_at who.number event ≡ 0 → TakesNoWords who (record who { token = last })
+none_then who mid last mine g event l nothing =
+    let via = record who { token = mid } in
+    none_more who via (record who { token = last }) (none_loads who mid mine g)
+    (none_logged via last (goes_on_who g ∙ mine) event l nothing)
+
+-- an exchange whose two events reserve nothing
+pub none_exchanged : (who : Caller) (token : TokenFace) → who.token.view.who ≡ CallerOf who.number
+    → (event lost : Event) (place old found : ℕ)
+    → ExchangedOrLost who.token.view event lost place old found token.view
+    → taken_at who.number event ≡ 0 → taken_at who.number lost ≡ 0
+    → TakesNoWords who (record who { token = token })
+none_exchanged who token mine event lost place old found x nothing none =
+    ⊎_elim (λ same. none_logged who token mine event (x.0 same.1) nothing)
+    (λ other. none_logged_load who token mine lost place found (x.1 other.1) none)
+    (eqb_tells found old)

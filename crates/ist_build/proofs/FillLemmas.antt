@@ -30,9 +30,12 @@ use Rattle.ist_rule.specs.Rule.{IsSound}
 use Rattle.ist_rule.specs.Learning.{now, Looked, Logged, GoesOnTo}
 use Rattle.ist_rule.specs.Watching.{number_of}
 use Rattle.ist_rule.proofs.GoingOnLemmas.{looked_goes_on}
-use Rattle.ist_dcss.proofs.FieldLemmas.{looked_row, row_low}
+use Rattle.ist_dcss.proofs.FieldLemmas.{looked_row}
 use Rattle.ist_rows.specs.declared.callers.Caller.{Caller}
 use Rattle.ist_rows.specs.Building.{sizes_built}
+use Rattle.ist_rows.specs.Taken.{TakesNoWords}
+use Rattle.ist_rows.proofs.FewStepLemmas.{none_loads}
+use Rattle.ist_build.proofs.FewLemmas.{none_then}
 use Rattle.laws_stability.proofs.SetLemmas.{set_later}
 use Rattle.laws_coming.proofs.AddingLemmas.{draw_comes}
 use Rattle.ist_rule.proofs.WentOnLemmas.{later_by-goes_on}
@@ -101,12 +104,15 @@ drawing_drops number rebuild part t =
 
 -- the next part may be drawn, and where the caller is then
 pub record MayDraw (old : Caller) (token : TokenFace) (place word d : ℕ) : Type 0 where
-  pub low : place < token.view.words
   pub looked : IsBack old (record old { token = token })
+  pub idle : TakesNoWords old (record old { token = token })
   pub allowed : word < d → CanAdd token.view place (drawing token.view place)
   pub back : (last : TokenFace) (part : ℕ)
       → Logged token.view (drawing token.view place part) last.view
       → IsBack old (record old { token = last })
+  pub none : (last : TokenFace) (part : ℕ)
+      → Logged token.view (drawing token.view place part) last.view
+      → TakesNoWords old (record old { token = last })
 
 module _ (old : Caller) (token : TokenFace) (r : IsFreeToBuild old) (s : IsSound old.token.view)
     (shared : SharedRoot) (sh : IsSharedAs (now old.token.view) shared) (place word : ℕ)
@@ -126,13 +132,6 @@ module _ (old : Caller) (token : TokenFace) (r : IsFreeToBuild old) (s : IsSound
   told_draw =
       looked_row old.token.view place word token.view l shared.rebuild (Rebuild there.row) 4 there.row.draw
       there.published refl place_is
-
-  -- the place of the draw word lies in the table
-  draw_low : place < token.view.words
-  draw_low =
-      let low = (row_low token.view gone.sound shared.rebuild (Rebuild there.row) there.published 4
-      (omega arith)).0 in
-      omega arith
 
   can : word < shared.degree
       → CanDraw (now token.view) token.view.log old.number shared.rebuild there.row.draw
@@ -196,10 +195,12 @@ module _ (old : Caller) (token : TokenFace) (r : IsFreeToBuild old) (s : IsSound
   pub may_draw : MayDraw old token place word shared.degree
   may_draw =
       record {
-        low = draw_low;
         looked = back_loads old token r gone;
+        idle = none_loads old token r.caller.mine gone;
         allowed = draw_allowed;
         back = draw_back;
+        none = λ last part x. none_then old token last r.caller.mine gone (drawing token.view place part)
+            x refl;
       }
 
 -- ---- slot by slot

@@ -1,15 +1,21 @@
 -- What stays while a caller puts builds in place. Serves `root` and `filling`.
-use Rattle.std.proofs.Common.{ℕ, Result, Ok, Err, IfErr, subst, sym}
+use Rattle.std.proofs.Common.{ℕ, Result, Ok, Err, IfErr, ap, ◌∙◌, subst, sym}
 use Rattle.ist_core.specs.declared.ports.Full.{Full}
 use Rattle.ist_core.specs.Rebuilding.{IsFinishedWith}
 use Rattle.ist_core.specs.Snapshots.{Snapshot}
+use Rattle.ist_core.specs.declared.events.Who.TheVariants.{Caller as CallerOf}
 use Rattle.ist_rule.specs.declared.view.View.{View}
-use Rattle.ist_rule.specs.Learning.{now}
+use Rattle.ist_rule.proofs.GoingOnLemmas.{goes_on_who}
+use Rattle.ist_rule.specs.Learning.{now, GoesOnTo}
 use Rattle.ist_rows.specs.declared.callers.Caller.{Caller}
+use Rattle.ist_rows.specs.Taken.{HasTakenFewIn, TakesNoWords}
+use Rattle.ist_rows.proofs.FewStepLemmas.{few_call, none_more, none_seen}
 use Rattle.ist_build.specs.declared.shared.SharedRoot.{SharedRoot}
 use Rattle.ist_build.specs.Calls.{IsTold, IsBuildable, IsRooted}
 use Rattle.ist_build.specs.Putting.{IsStopped}
 use Rattle.ist_build.specs.Back.{IsBack, IsSharedAs}
+use Rattle.ist_build.proofs.BackLemmas.{back_more}
+use Rattle.ist_build.proofs.FewLemmas.{after_back, told_once}
 use Rattle.ist_build.proofs.FilledLemmas.{rooted_on, err_stopped_on}
 use Rattle.ist_build.proofs.PartSlotLemmas.{shared_on}
 use Rattle.ist_build.proofs.PutOnLemmas.{put_grow}
@@ -81,3 +87,27 @@ pub err_stopped : {A : Type 0} (old mid : Caller) (rebuild words : ℕ) (w : Vie
 err_stopped old mid rebuild words w h b (Ok x) stopped = tt
 err_stopped old mid rebuild words w h b (Err full) stopped =
     stopped_back old mid rebuild words h b full w stopped
+
+-- ---- words
+
+-- a caller that is back by loads took none
+pub none_found : (old new : Caller) → IsBack old new → GoesOnTo old.token.view new.token.view
+    → TakesNoWords old new
+none_found old new b g =
+    none_seen old new b.number (sym (goes_on_who g) ∙ b.ready.caller.mine ∙ ap CallerOf b.number) g
+
+-- nor since an earlier state, if it took none until then
+pub found_from : (old mid new : Caller) → IsBack old mid → TakesNoWords old mid → IsBack mid new
+    → GoesOnTo mid.token.view new.token.view → IsBack old new × TakesNoWords old new
+found_from old mid new a h b g =
+    (back_more old mid new a b, none_more old mid new h (none_found mid new b g))
+
+-- a call that comes after the target was found took few words, by the target's number of keys
+pub few_found : {A : Type 0} (r : Result A Full) (words_of : ℕ → ℕ) (old mid new : Caller)
+    (rebuild j : ℕ) → TakesNoWords old mid → IsBack old mid → IsBack mid new
+    → IsTold (now mid.token.view) rebuild j → HasTakenFewIn r (words_of j) 0 mid new → (k : ℕ)
+    → IsTold (now old.token.view) rebuild k → HasTakenFewIn r (words_of k) 0 old new
+few_found r words_of old mid new rebuild j none a b found few k told =
+    few_call r (words_of k) 0 old mid new none (after_back mid new b)
+    (subst (λ n. HasTakenFewIn r (words_of n) 0 mid new)
+    (told_once (now mid.token.view) rebuild j k found (told_back old mid rebuild k a told)) few)

@@ -1,5 +1,5 @@
 -- The words that the slots of a shared root still take: they only get fewer. Serves `filling`.
-use Rattle.std.proofs.Common.{◌≡◌, ◌≢◌, ℕ, zero, suc, ◌+◌, ◌<◌, ◌≤◌, Bool, true, false, if◌then◌else◌, Option, Some, None, slice_get, get_or, Result, Ok, Err, refl, sym, ap, ◌∙◌, subst, ⊎_elim, arith}
+use Rattle.std.proofs.Common.{◌≡◌, ◌≢◌, ℕ, zero, suc, ◌+◌, ◌<◌, ◌≤◌, Bool, true, false, if◌then◌else◌, Option, Some, None, slice_get, get_or, refl, sym, ap, ◌∙◌, subst, ⊎_elim, arith}
 use Rattle.std.specs.List.{flat_map, sum}
 use Rattle.std.proofs.lemmas.Bool.{cases_lt}
 use Rattle.std.proofs.lemmas.Bool.Decides.{nat_tests}
@@ -19,22 +19,16 @@ use Rattle.laws_calls.proofs.PartLemmas.{lens_all}
 use Rattle.ist_rule.specs.declared.view.View.{View}
 use Rattle.ist_rule.specs.Rule.{IsSound}
 use Rattle.ist_rule.specs.Learning.{now}
-use Rattle.ist_core.specs.declared.ports.Full.{Full}
 use Rattle.ist_core.specs.RowLayout.{slot_place}
 use Rattle.ist_core.specs.Shown.{IsShown}
 use Rattle.ist_rule.proofs.GoingOnLemmas.{looked_goes_on}
 use Rattle.ist_rule.specs.Learning.{Looked}
-use Rattle.ist_rows.specs.declared.callers.Caller.{Caller}
-use Rattle.ist_rows.specs.Taken.{HasRunOut, HasTakenFew, HasTakenFewIn, TakesNoWords}
-use Rattle.ist_rows.proofs.FewLemmas.{few_low, few_more, few_out_more, few_wider, out_wider}
-use Rattle.ist_rows.proofs.FewStepLemmas.{few_none}
 use Rattle.ist_build.specs.declared.shared.SharedRoot.{SharedRoot}
-use Rattle.ist_build.specs.Back.{IsBack, IsSharedAs}
 use Rattle.ist_build.specs.Calls.{parts_words, root_words}
-use Rattle.ist_build.specs.Left.{left_for, left_in, slot_is_set, word_is_set, words_left}
+use Rattle.ist_build.specs.Left.{left_in, slot_is_set, word_is_set, words_left}
 use Rattle.ist_build.specs.Putting.{IsRowOfDegree, IsSlotSet, PutOn}
 use Rattle.ist_build.proofs.BuiltLemmas.{built_grow, loads_built}
-use Rattle.ist_build.proofs.FewLemmas.{after_back, root_few, root_many}
+use Rattle.ist_build.proofs.FewLemmas.{root_few, root_many}
 use Rattle.ist_build.proofs.FillLemmas.{set_on}
 use Rattle.ist_build.proofs.PartSlotLemmas.{degree_on, slot_holds, slot_shown}
 use Rattle.ist_build.proofs.PartsLemmas.{sizes_next}
@@ -216,64 +210,6 @@ slot_open v w node d i place word h less at l is =
     (slot_shown w.start w.words w.log enabled node d i on less)) in
     unset_open w l.sound node i (get_or on.row.slots i 0)
     (slot_holds w.start w.words w.log enabled node d i on less) (sym there ∙ is)
-
--- ---- a caller that fills it
-
-module _ (old new : Caller) (s : SharedRoot) (b : IsBack old new)
-    (sh : IsSharedAs (now new.token.view) s) where
-  -- one that took no word
-  pub fills_none : TakesNoWords old new → HasTakenFew (left_for old s) (left_for new s) old new
-  fills_none h =
-      few_low (left_for old s) (left_for old s) (left_for old s) (left_for new s) old new
-      (omega arith)
-      (left_on old.token.view new.token.view b.put s sh.is.node.row sh.is.node.published)
-      (few_none (left_for old s) old new h)
-
-  module _ (i : ℕ) (low : i < s.degree)
-      (vacant : slot_is_set ((now old.token.view).pieces s.root) i ≡ false) where
-    abbrev cost : ℕ
-    cost = sum (shape (part_len s.keys i))
-
-    here : i < degree s.keys
-    here = subst (λ n. i < n) sh.degree_is low
-
-    -- one that set a slot and took only the words of its part
-    pub fills_part : IsSlotSet (now new.token.view) s.root i → HasTakenFew cost 0 old new
-        → HasTakenFew (left_for old s) (left_for new s) old new
-    fills_part set f =
-        let fewer = left_less old.token.view new.token.view b.put s sh.is.node.row
-        sh.is.node.published i here vacant set in
-        few_low (cost + left_for new s) (0 + left_for new s) (left_for old s) (left_for new s) old new
-        (omega arith) (omega arith) (few_wider cost 0 (left_for new s) old new f)
-
-    -- one for which the words ran out in a part
-    pub fills_out : HasRunOut cost old new → HasRunOut (left_for old s) old new
-    fills_out r =
-        out_wider cost (left_for old s) old new
-        (left_has (slot_is_set ((now old.token.view).pieces s.root)) s.keys i vacant (degree s.keys) here)
-        r
-
-module _ (old mid new : Caller) (s : SharedRoot) (a : IsBack old mid) (b : IsBack mid new)
-    (f : HasTakenFew (left_for old s) (left_for mid s) old mid) where
-  -- one fill after another
-  pub fills_more : HasTakenFew (left_for mid s) (left_for new s) mid new
-      → HasTakenFew (left_for old s) (left_for new s) old new
-  fills_more g =
-      few_more old mid new (after_back old mid a) (after_back mid new b) (left_for old s)
-      (left_for mid s) (left_for new s) f g
-
-  -- one for which the words ran out
-  pub fills_out_more : HasRunOut (left_for mid s) mid new → HasRunOut (left_for old s) old new
-  fills_out_more g =
-      few_out_more old mid new (after_back old mid a) (after_back mid new b) (left_for old s)
-      (left_for mid s) (left_for new s) f g
-
-  -- a call that fills
-  pub fills_then : {A : Type 0} (r : Result A Full)
-      → HasTakenFewIn r (left_for mid s) (left_for new s) mid new
-      → HasTakenFewIn r (left_for old s) (left_for new s) old new
-  fills_then (Ok x) g = fills_more g
-  fills_then (Err full) g = fills_out_more g
 
 -- ---- the root
 

@@ -16,6 +16,7 @@ pub mod LayingPartLemmas
 pub mod SlicePartLemmas
 pub mod LaidBlockLemmas
 pub mod ReservedLemmas
+pub mod PlaceLemmas
 pub mod SlotLemmas
 pub mod ReadLemmas
 pub mod ReadingLemmas
@@ -45,3 +46,4 @@ pub mod FillLemmas
 pub mod AnswerLemmas
 pub mod FewLemmas
 pub mod LeftLemmas
+pub mod FewFillLemmas

@@ -1,5 +1,6 @@
 -- A part that was built, put in its slot or lost. Serves `filling`.
 use Rattle.std.proofs.Common.{Result, Ok, Err, IfOk, IfErr, ◌≡◌, ◌≢◌, ℕ, ◌/◌, ◌<◌, ◌≤◌, List, [], ◌++◌, length, take, drop, Some, slice_get, refl, sym, ap, ap₂, ◌∙◌, subst, ⊎_elim, arith}
+use Rattle.std.specs.List.{sum}
 use Rattle.ist_core.specs.declared.events.Event.{Event}
 use Rattle.ist_core.specs.declared.events.Event.TheVariants.{Place, Lose}
 use Rattle.ist_core.specs.declared.ports.Full.{Full}
@@ -25,6 +26,7 @@ use Rattle.ist_rule.specs.Watching.{number_of}
 use Rattle.ist_rows.specs.declared.callers.Caller.{Caller}
 use Rattle.ist_rows.specs.Rows.{IsCaller}
 use Rattle.ist_rows.specs.Building.{IsInBuild, HasRefused, sizes_built}
+use Rattle.ist_rows.specs.Taken.{HasRunOut, HasTakenFew, HasTakenFewIn}
 use Rattle.laws_coming.specs.Builds.{IsPartBuilt, WasUnset}
 use Rattle.laws_coming.proofs.PartLemmas.{part_comes_or_loses}
 use Rattle.laws_coming.proofs.PlacedLemmas.{part_sizes}
@@ -48,7 +50,7 @@ use Rattle.ist_build.proofs.RootReadyLemmas.{IsTopped, root_topped, topped_set}
 use Rattle.ist_build.proofs.RootPutLemmas.{rows_of_topped}
 use Rattle.ist_build.proofs.TopBegunLemmas.{leaves_on}
 use Rattle.ist_build.proofs.UnsetLemmas.{unset_built}
-use Rattle.ist_build.proofs.PartSlotLemmas.{degree_low, part_lost, part_put, part_two, shared_on, slot_is_place}
+use Rattle.ist_build.proofs.PartSlotLemmas.{part_lost, part_put, part_two, shared_on, slot_is_place}
 
 -- ---- what was built
 
@@ -61,7 +63,6 @@ pub record MayPut (old mid : Caller) (s : SharedRoot) (i place word : ℕ) : Typ
       → ExchangedOrLost mid.token.view (placing mid.token.view s.rebuild i word)
       (losing mid.token.view word) place unset_word found token.view
       → IsFilledAt old (record mid { token = token }) s.root i
-  pub low : place < mid.token.view.words
 
 module _ (old mid : Caller) (s : SharedRoot) (i word : ℕ) (m : IsPartMade old mid s i word) where
   abbrev a : HasBuilt old mid
@@ -222,16 +223,9 @@ module _ (old mid : Caller) (s : SharedRoot) (i word : ℕ) (m : IsPartMade old 
                   (degree s.keys) i on.node less is_place differs lost;
             }
 
-    part_low : place < w.words
-    part_low =
-        let inside = (degree_low w a.built.sound s.root (degree s.keys) on.node).1 in
-        let at = is_place in
-        let within = less in
-        omega arith
-
     -- a part that was made may be put in place
     pub may_put : MayPut old mid s i place word
-    may_put = record { allowed = part_allowed; following = part_after; low = part_low }
+    may_put = record { allowed = part_allowed; following = part_after }
 
 -- ---- in the form of the functions' clauses
 
@@ -246,6 +240,7 @@ shared_now v w g rebuild target root k h =
 -- the part was made, or the build was refused, and the caller is back
 pub record SlotBuilt (old new : Caller) (s : SharedRoot) (i words : ℕ) (answer : Result ℕ Full) : Type 0 where
   pub made : IfOk answer (λ word. IsPartMade old new s i word)
+  pub few : HasTakenFewIn answer (sum (shape (part_len s.keys i))) 0 old new
   pub back : IfErr answer (λ full. IsBack old new)
   pub full : IfErr answer (λ full. IsStopped old.token.view s.rebuild words full new.token.view)
 
@@ -259,10 +254,11 @@ pub slot_built : (old new : Caller) (s : SharedRoot) (i len start words : ℕ) �
     → HasLeaves (now old.token.view).pieces (Some (InnerAt s.target)) all
     → IsLaid new.token.view new.number (now old.token.view).next word (take len (drop start all)))
     → IfOk answer (λ word. 2 ≤ len → IsInBuild new (sizes_built old) (shape len) [])
+    → (2 ≤ len → HasTakenFewIn answer (sum (shape len)) 0 old new)
     → IfErr answer (λ full. IsShort old.token.view words len full new.token.view)
     → IfErr answer (λ full. HasRefused new) → SlotBuilt old new s i words answer
-slot_built old new s i len start words b c sh within unset start_is len_is fewer (Ok word) laid at full
-    refused =
+slot_built old new s i len start words b c sh within unset start_is len_is fewer (Ok word) laid at few
+    full refused =
     let low = (now old.token.view).next in
     let two : 2 ≤ len = let t = part_two s.keys i sh.is.shared in omega arith in
     record {
@@ -278,14 +274,17 @@ slot_built old new s i len start words b c sh within unset start_is len_is fewer
         at = subst (λ n. IsInBuild new (sizes_built old) (shape n) []) len_is (at two);
         unset = unset;
       };
+      few = subst (λ n. HasTakenFew (sum (shape n)) 0 old new) len_is (few two);
       back = tt;
       full = tt;
     }
-slot_built old new s i len start words b c sh within unset start_is len_is fewer (Err full) laid at
+slot_built old new s i len start words b c sh within unset start_is len_is fewer (Err full) laid at few
     short refused =
     let v = old.token.view in
+    let two : 2 ≤ len = let t = part_two s.keys i sh.is.shared in omega arith in
     record {
       made = tt;
+      few = subst (λ n. HasRunOut (sum (shape n)) old new) len_is (few two);
       back = back_refused old new b.number b.rows b.built c refused;
       full = short_stopped v v new.token.view s.rebuild words s.keys full (shared_told (now v) s sh)
           (put_same v b.sound)

@@ -11,7 +11,7 @@ use Rattle.ist_core.specs.Growing.{AllGrow}
 use Rattle.ist_core.specs.Lawful.{EachEnabled, state_of}
 use Rattle.ist_core.specs.Pieces.{Inner, Rebuild}
 use Rattle.ist_core.specs.References.{InnerAt, ref_of, unset_word}
-use Rattle.ist_core.specs.RowLayout.{place_limit, slot_place}
+use Rattle.ist_core.specs.RowLayout.{slot_place}
 use Rattle.ist_core.specs.Shapes.{share_from, share_from_is}
 use Rattle.ist_core.specs.Slots.{SlotHolds, in_anchor, in_row}
 use Rattle.ist_core.specs.Snapshots.{Snapshot}
@@ -40,7 +40,6 @@ use Rattle.ist_rule.proofs.GoingOnLemmas.{looked_goes_on}
 use Rattle.ist_rule.proofs.LaterLemmas.{later-goes_on}
 use Rattle.std.proofs.lemmas.Option.{slice_get-get_or}
 use Rattle.ist_dcss.proofs.SlotPlaceLemmas.{has_degree}
-use Rattle.ist_dcss.proofs.FieldLemmas.{row_low}
 use Rattle.ist_mark.proofs.MarkLemmas.{before_enabled}
 use Rattle.laws_stability.proofs.SlotWordLemmas.{place_of_row}
 use Rattle.laws_coming.specs.Builds.{WasUnset}
@@ -54,21 +53,6 @@ use Rattle.ist_build.proofs.BuiltLemmas.{built_grow, loads_built}
 use Rattle.ist_build.proofs.TopLeafLemmas.{degree_small}
 
 -- ---- slots
-
--- a node's slots lie within the table, and there are few
-pub degree_low : (v : View) → IsSound v → (node d : ℕ) → IsRowOfDegree (now v) node d
-    → (d < place_limit) × (node + 3 + d + d ≤ v.words)
-degree_low v s node d h =
-    let it = has_degree v.start v.words v.log s.lawful.enabled node h.row h.published in
-    let many = it.slots in
-    let keys = it.keys in
-    let same = h.degree_is in
-    let both = length-append h.row.keys h.row.slots in
-    let low = row_low v s node (Inner h.row) h.published
-    (3 + length h.row.keys + length h.row.slots) (omega arith) in
-    let place = low.0 in
-    let all = low.1 in
-    (omega arith, omega arith)
 
 -- a row keeps its number of slots as pieces grow
 pub degree_on : (t u : Snapshot) → AllGrow t.pieces u.pieces → (node d : ℕ) → IsRowOfDegree t node d
@@ -175,19 +159,18 @@ pub shared_slots : (t : Snapshot) (s : SharedRoot) → IsSharedAs t s → IsRowO
 shared_slots t s h = subst (IsRowOfDegree t s.root) (sym h.degree_is) h.is.node
 
 -- each part may be built
-pub shared_share : (t : Snapshot) (rebuild target root k i start len : ℕ)
-    → IsShared t rebuild target root k → i < degree k → start ≡ part_start k i → len ≡ part_len k i
-    → MayBuild t target start len
-shared_share t rebuild target root k i start len h less start_is len_is =
+pub shared_share : (t : Snapshot) (s : SharedRoot) (i start len : ℕ) → IsSharedAs t s → i < s.degree
+    → start ≡ part_start s.keys i → len ≡ part_len s.keys i → MayBuild t s.target start len
+shared_share t s i start len h less start_is len_is =
     record {
-      rebuild = rebuild;
-      row = h.row;
-      published = h.published;
-      target_is = h.target_is;
-      started = h.started;
-      k = k;
-      finished = h.finished;
-      share = share_part i h.shared less start_is len_is;
+      rebuild = s.rebuild;
+      row = h.is.row;
+      published = h.is.published;
+      target_is = h.is.target_is;
+      started = h.is.started;
+      k = s.keys;
+      finished = h.is.finished;
+      share = share_part i h.is.shared (subst (λ n. i < n) h.degree_is less) start_is len_is;
     }
 
 -- a part has two keys or more

@@ -250,10 +250,10 @@ leaves_number v s node k f leaves has =
     number_is v.start v.words s.lawful.opens v.log s.lawful.enabled node k leaves f has
 
 -- the reading at the first slot, after a load
-pub reading_begun : (leaves : List PlacedLeaf) (into : List ℕ) (at : Cursor) (v w : View) (node : ℕ)
-    → IsSound v → GoesOnTo v w → IsFinished (now v) node → at.count ≤ length into
+pub reading_begun : (into : List ℕ) (at : Cursor) (v w : View) (node : ℕ) → IsSound v → GoesOnTo v w
+    → IsFinished (now v) node → at.count ≤ length into → (leaves : List PlacedLeaf)
     → HasLeaves (now v).pieces (Some (InnerAt node)) leaves → IsReading leaves into at w node 0 into at
-reading_begun leaves into at v w node s g f le has =
+reading_begun into at v w node s g f le leaves has =
     reading_on leaves into at v w node f.1.row.degree 0 into at s g
     record {
       row = f.1.row;

@@ -1,5 +1,5 @@
 -- A root that was built, whole or only its top row. Serves `root`.
-use Rattle.std.proofs.Common.{◌≡◌, ◌≢◌, ℕ, ◌+◌, ◌<◌, ◌≤◌, List, [], ◌∷◌, ◌++◌, take, drop, Some, Result, Ok, Err, IfOk, refl, subst, arith}
+use Rattle.std.proofs.Common.{◌≡◌, ℕ, ◌+◌, ◌<◌, ◌≤◌, List, [], ◌∷◌, ◌++◌, take, drop, Some, Result, Ok, Err, IfOk, refl, subst, arith}
 use Rattle.ist_core.specs.declared.ports.Full.{Full}
 use Rattle.ist_core.specs.declared.states.RebuildRow.{RebuildRow}
 use Rattle.ist_core.specs.Arithmetic.{degree}
@@ -7,13 +7,12 @@ use Rattle.ist_core.specs.Leaves.{PlacedLeaf, HasLeaves}
 use Rattle.ist_core.specs.Marking.{HasTarget}
 use Rattle.ist_core.specs.Pieces.{Rebuild}
 use Rattle.ist_core.specs.References.{InnerAt, unset_word}
-use Rattle.ist_core.specs.RowLayout.{anchor_slot_place, inner_words, rebuild_root_offset}
+use Rattle.ist_core.specs.RowLayout.{inner_words, rebuild_root_offset}
 use Rattle.ist_core.specs.Shapes.{shape, share_from}
 use Rattle.ist_core.specs.Snapshots.{Snapshot}
 use Rattle.ist_rule.specs.declared.view.View.{View}
 use Rattle.ist_rule.specs.Rule.{IsSound}
 use Rattle.ist_rule.specs.Learning.{now, Looked}
-use Rattle.ist_dcss.proofs.FieldLemmas.{row_low, row_above}
 use Rattle.ist_rows.specs.declared.callers.Caller.{Caller}
 use Rattle.ist_rows.specs.Rows.{spares_of}
 use Rattle.ist_rows.specs.Building.{IsInBuild, sizes_built}
@@ -24,20 +23,6 @@ use Rattle.ist_build.specs.Calls.{MayBuild, share_whole, IsTold}
 use Rattle.ist_build.specs.Laying.{BuiltOn, IsLaid, IsTopLaid, IsRootLaid, IsTarget}
 use Rattle.ist_build.proofs.RootReadyLemmas.{top_root, whole_laid}
 use Rattle.ist_build.specs.Back.{IsFreeToBuild, IsRootMade}
-
--- the words of a rebuild row lie within the table
-pub rebuild_within : (v : View) (words : ℕ) → IsSound v → v.words ≡ words
-    → (rebuild : ℕ) (row : RebuildRow) → (now v).pieces rebuild ≡ Some (Rebuild row)
-    → (offset place : ℕ) → offset ≤ 4 → place ≡ rebuild + offset → place < words
-rebuild_within v words s same rebuild row e offset place le at =
-    let low = (row_low v s rebuild (Rebuild row) e offset (omega arith)).0 in omega arith
-
--- and after the anchor's slot
-pub rebuild_off : (v : View) → IsSound v → (rebuild : ℕ) (row : RebuildRow)
-    → (now v).pieces rebuild ≡ Some (Rebuild row) → (offset place : ℕ) → place ≡ rebuild + offset
-    → place ≢ anchor_slot_place
-rebuild_off v s rebuild row e offset place at same =
-    let above = row_above v s rebuild (Rebuild row) e in absurd (omega arith)
 
 -- the root was seen Unset
 pub root_unset : (v w : View) (rebuild place word number : ℕ) (row : RebuildRow)

@@ -1,5 +1,6 @@
 -- A root over no key or over one, and what is known before a build. Serves `root`.
-use Rattle.std.proofs.Common.{◌≡◌, ◌≢◌, ℕ, ◌+◌, ◌-◌, ◌<◌, List, [], ◌∷◌, length, map, take, drop, Some, refl, sym, ap, ap₂, ◌∙◌, subst, append-nil, arith}
+use Rattle.std.proofs.Common.{◌≡◌, ◌≢◌, ℕ, ◌+◌, ◌-◌, ◌<◌, List, [], ◌∷◌, length, map, take, drop, Some, refl, sym, ap, ap₂, ◌∙◌, subst, append-nil, ⊎_elim, arith}
+use Rattle.std.proofs.lemmas.Bool.Decides.{eqb_tells}
 use Rattle.ist_core.specs.declared.events.Event.{Event}
 use Rattle.ist_core.specs.declared.events.Event.TheVariants.{Root}
 use Rattle.ist_core.specs.Building.{IsRoot, root_whole, root_top}
@@ -20,19 +21,21 @@ use Rattle.ist_core.proofs.DrawLemmas.{finished_once}
 use Rattle.ist_rule.specs.Conditions.{CanExchange}
 use Rattle.ist_rule.specs.Faces.{TokenFace}
 use Rattle.ist_rule.specs.Rule.{IsSound}
-use Rattle.ist_rule.specs.Learning.{now, Looked, Logged, GoesOnTo}
+use Rattle.ist_rule.specs.Learning.{now, Looked, Logged, Exchanged, GoesOnTo}
 use Rattle.ist_rule.specs.Watching.{number_of}
-use Rattle.ist_rule.proofs.GoingOnLemmas.{looked_goes_on, goes_on_same, goes_on_more}
+use Rattle.ist_rule.proofs.GoingOnLemmas.{looked_goes_on, goes_on_same, goes_on_more, goes_on_who}
 use Rattle.ist_dcss.proofs.FieldLemmas.{row_low, good_base}
 use Rattle.ist_rows.specs.declared.callers.Caller.{Caller}
-use Rattle.ist_rows.specs.Rows.{IsCaller}
 use Rattle.ist_rows.specs.Building.{sizes_built}
+use Rattle.ist_rows.specs.Taken.{TakesNoWords}
+use Rattle.ist_rows.proofs.FewStepLemmas.{none_loads}
 use Rattle.laws_coming.specs.Builds.{IsRootBuilt, WasUnset}
 use Rattle.laws_coming.proofs.RootLemmas.{root_comes}
 use Rattle.ist_build.specs.Laying.{BuiltOn, IsRootLaid, IsTarget, IsLeaf}
 use Rattle.ist_build.specs.BuildEvents.{rooting_few}
 use Rattle.ist_build.specs.Calls.{IsTold}
 use Rattle.ist_build.proofs.BuiltLemmas.{built_grow, loads_built, leaf_goes_on}
+use Rattle.ist_build.proofs.FewLemmas.{none_then}
 use Rattle.ist_build.proofs.ReadingLemmas.{leaves_number}
 use Rattle.laws_links.proofs.FinishedLeafLemmas.{finished_leaves}
 use Rattle.laws_links.proofs.FewLeafLemmas.{leaves_stand}
@@ -119,6 +122,9 @@ pub record MayRootFew (old : Caller) (token : TokenFace) (rebuild word place : �
   pub missed : (last : TokenFace) (found : ℕ) → found ≢ unset_word
       → Looked token.view place found last.view
       → HasPutRoot old (record old { token = last }) rebuild found
+  pub none : (last : TokenFace) (unset found : ℕ)
+      → Exchanged token.view (rooting_few token.view place word) place unset found last.view
+      → TakesNoWords old (record old { token = last })
 
 module _ (old : Caller) (token : TokenFace) (r : IsFreeToBuild old)
     (s : IsSound old.token.view) (gone : GoesOnTo old.token.view token.view)
@@ -221,9 +227,22 @@ module _ (old : Caller) (token : TokenFace) (r : IsFreeToBuild old)
       (omega arith)).0 in
       omega arith
 
+  -- and no word was taken
+  few_none : (last : TokenFace) (unset found : ℕ)
+      → Exchanged token.view (rooting_few token.view place word) place unset found last.view
+      → TakesNoWords old (record old { token = last })
+  few_none last unset found x =
+      ⊎_elim
+      (λ same. none_then old token last r.caller.mine gone (rooting_few token.view place word)
+      (x.0 same.1) refl)
+      (λ other. none_loads old last r.caller.mine (goes_on_more old.token.view token.view last.view gone
+      (looked_goes_on token.view place found last.view (x.1 other.1))))
+      (eqb_tells found unset)
+
   -- a root without rows may be put in place
   pub may_root_few : MayRootFew old token rebuild word place
-  may_root_few = record { low = few_low; allowed = few_allowed; hit = few_hit; missed = few_missed }
+  may_root_few =
+      record { low = few_low; allowed = few_allowed; hit = few_hit; missed = few_missed; none = few_none }
 
 -- ---- before the build
 
@@ -264,10 +283,11 @@ found_so old token last r first second rebuild target k n told h f =
     }
 
 -- a place that was seen Unset was seen so after loads too
-pub found_unset : (old new : Caller) → GoesOnTo old.token.view new.token.view → IsCaller old
-    → new.number ≡ old.number → (place : ℕ) → WasUnset old.token.view old.number place
+pub found_unset : (old new : Caller) (place : ℕ) → IsBack old new
+    → GoesOnTo old.token.view new.token.view → WasUnset old.token.view old.number place
     → WasUnset new.token.view new.number place
-found_unset old new g c number place was =
-    subst (λ n. WasUnset new.token.view n place) (sym number)
-    (unset_built old.token.view new.token.view old.number place c.mine
+found_unset old new place b g was =
+    subst (λ n. WasUnset new.token.view n place) (sym b.number)
+    (unset_built old.token.view new.token.view old.number place
+    (sym (goes_on_who g) ∙ b.ready.caller.mine ∙ ap CallerOf b.number)
     (loads_built old.token.view new.token.view g) was)

@@ -1,5 +1,5 @@
 -- Slots of finished nodes: what they were passed with, and what hangs below. Serves `reading`.
-use Rattle.std.proofs.Common.{◌≡◌, ℕ, ◌+◌, ◌<◌, ◌≤◌, length, length-append, get_or, Some, refl, sym, ap, ◌∙◌, subst, arith}
+use Rattle.std.proofs.Common.{◌≡◌, ℕ, ◌+◌, ◌*◌, ◌/◌, ◌<◌, ◌≤◌, length, get_or, Some, refl, sym, ap, ◌∙◌, subst, arith}
 use Rattle.std.proofs.lemmas.Option.{slice_get-get_or}
 use Rattle.ist_core.specs.declared.states.ChangeRow.{ChangeRow}
 use Rattle.ist_core.specs.Freezing.{KeepsWord, holds_it, holds_change}
@@ -24,14 +24,16 @@ use Rattle.laws_links.proofs.PassLemmas.{passed_no_change}
 use Rattle.ist_rule.specs.declared.view.View.{View}
 use Rattle.ist_rule.specs.Rule.{IsSound}
 use Rattle.ist_rule.specs.Learning.{now, GoesOnTo, Looked}
-use Rattle.ist_rule.proofs.GoingOnLemmas.{looked_goes_on}
-use Rattle.ist_dcss.proofs.FieldLemmas.{row_low, looked_row, good_base}
+use Rattle.ist_rule.proofs.GoingOnLemmas.{looked_goes_on, goes_on_more}
+use Rattle.ist_dcss.proofs.FieldLemmas.{looked_row, good_base}
 use Rattle.ist_dcss.proofs.SlotPlaceLemmas.{has_degree}
 use Rattle.ist_rule.proofs.WentOnLemmas.{goes_on_went, goes_on_grow}
 use Rattle.ist_mark.proofs.KeepingLemmas.{happened_went}
 use Rattle.ist_build.specs.Laying.{IsReservation}
 use Rattle.ist_dcss.specs.Reading.{IsNoChange}
+use Rattle.ist_build.specs.Putting.{IsRowOfDegree}
 use Rattle.ist_build.specs.Reading.{HasSlots, SlotReads}
+use Rattle.ist_build.proofs.PlaceLemmas.{degree_low}
 
 -- ---- the node
 
@@ -57,11 +59,44 @@ pub slots_finished : (v : View) (node degree : ℕ) → HasSlots v node degree �
 slots_finished v node degree h =
     (h.keys, record { row = h.row; published = h.published; status = h.finished })
 
+-- and a row with as many
+pub slots_row : (v : View) (node degree : ℕ) → HasSlots v node degree → IsRowOfDegree (now v) node degree
+slots_row v node degree h = record { row = h.row; published = h.published; degree_is = h.degree_is }
+
 -- a finished node stays finished after loads
 pub finished_on : (v w : View) → GoesOnTo v w → (node k : ℕ) → IsFinishedWith (now v) node k
     → IsFinishedWith (now w) node k
 finished_on v w g node k f =
     finished_with_grows (now v) (now w) (goes_on_grow v w g) node k f
+
+-- a load of its status gives its number of keys
+pub keys_told : (v : View) (place word : ℕ) (w : View) → Looked v place word w → (node : ℕ)
+    → IsFinished (now v) node → place ≡ node → IsFinishedWith (now w) node (word / 4)
+keys_told v place word w l node done at =
+    let f = finished_on v w (looked_goes_on v place word w l) node done.0 done.1 in
+    let is = looked_row v place word w l node (Inner f.row) 0 f.row.status f.published refl (omega arith) in
+    let status : f.row.status ≡ 4 * done.0 + 3 = f.status in
+    let keys : word / 4 ≡ done.0 = omega arith in
+    subst (IsFinishedWith (now w) node) (sym keys) f
+
+-- and one of its degree its slots
+pub degree_told : (v : View) (place word : ℕ) (w : View) → Looked v place word w → (node : ℕ)
+    → IsFinished (now v) node → place ≡ node + 2 → HasSlots w node word
+degree_told v place word w l node done at =
+    let f = finished_on v w (looked_goes_on v place word w l) node done.0 done.1 in
+    record {
+      row = f.row;
+      published = f.published;
+      keys = done.0;
+      finished = f.status;
+      degree_is = sym (looked_row v place word w l node (Inner f.row) 2 f.row.degree f.published refl at);
+    }
+
+-- two loads, one after the other, go on
+pub looked_twice : {u v w : View} {place other word found : ℕ} → Looked u place word v
+    → Looked v other found w → GoesOnTo u w
+looked_twice {u} {v} {w} l m =
+    goes_on_more u v w (looked_goes_on u _ _ v l) (looked_goes_on v _ _ w m)
 
 -- a passed slot stays passed after loads
 pub frozen_on : (v w : View) → GoesOnTo v w → (node i word : ℕ) → IsFrozen v.log node i word
@@ -86,17 +121,7 @@ slot_some v s node degree i h less =
 -- there are few
 pub few_slots : (v : View) → IsSound v → (node degree : ℕ) → HasSlots v node degree
     → (degree < place_limit) × (node + 3 + degree + degree ≤ v.words)
-few_slots v s node degree h =
-    let d = has_degree v.start v.words v.log s.lawful.enabled node h.row h.published in
-    let many = d.slots in
-    let keys = d.keys in
-    let same = h.degree_is in
-    let both = length-append h.row.keys h.row.slots in
-    let low = row_low v s node (Inner h.row) h.published
-    (3 + length h.row.keys + length h.row.slots) (omega arith) in
-    let place = low.0 in
-    let all = low.1 in
-    (omega arith, omega arith)
+few_slots v s node degree h = degree_low v s node degree (slots_row v node degree h)
 
 -- a load of a slot's place gives what it holds
 pub slot_told : (v : View) (place word : ℕ) (w : View) → Looked v place word w
@@ -114,8 +139,17 @@ slot_told v place word w l node degree i before less at =
     (get_or h.row.slots i 0) h.published (get-words_of_slot h.row i ∙ got) (omega arith) in
     in_row h.row h.published (got ∙ ap (λ x. Some x) (sym is))
 
-module _ (w : View) (s : IsSound w) (node degree i word : ℕ) (h : HasSlots w node degree)
-    (less : i < degree) (slot : SlotHolds (now w) node i word) where
+module _ {v : View} {place word : ℕ} {w : View} (l : Looked v place word w) {node degree i : ℕ}
+    (before : HasSlots v node degree) (less : i < degree) (at_slot : place ≡ slot_place node degree i) where
+  h : HasSlots w node degree
+  h = slots_on v w (looked_goes_on v place word w l) node degree before
+
+  slot : SlotHolds (now w) node i word
+  slot = slot_told v place word w l node degree i before less at_slot
+
+  s : IsSound w
+  s = l.sound
+
   -- the word with which it was passed
   passed : (p : ℕ) × IsFrozen w.log node i p
   passed =
@@ -147,10 +181,10 @@ module _ (w : View) (s : IsSound w) (node degree i word : ℕ) (h : HasSlots w n
   one_base a b e = cc
 
   -- and a change would take it out
-  pub passed_change : (change : ℕ) → ref_of word ≡ Some (ChangeAt change)
+  pub passed_change : {change : ℕ} → ref_of word ≡ Some (ChangeAt change)
       → (row : ChangeRow) × ((now w).pieces change ≡ Some (Change row))
       × IsFrozen w.log node i row.from
-  passed_change change is = at keeps
+  passed_change {change} is = at keeps
     where
       at : KeepsWord (now w) w.log node i passed.0
           → (row : ChangeRow) × ((now w).pieces change ≡ Some (Change row))
@@ -168,15 +202,16 @@ module _ (w : View) (s : IsSound w) (node degree i word : ℕ) (h : HasSlots w n
             subst (λ y. IsFrozen w.log node i y) (sym x.from) passed.1,
           )
 
--- the load of that word
-pub from_told : (v : View) (place word : ℕ) (w : View) → Looked v place word w → (change : ℕ)
-    (row : ChangeRow) → (now v).pieces change ≡ Some (Change row) → place ≡ change + 4
-    → word ≡ row.from
-from_told v place word w l change row e at =
-    let it = change_there (now v).pieces (now w).pieces
-    (goes_on_grow v w (looked_goes_on v place word w l)) change row e in
-    looked_row v place word w l change (Change it.0) 4 it.0.from it.1 refl at
-    ∙ ap (λ r. r.from) it.2.others
+-- a load of that word gives the word with which the slot was passed
+pub from_frozen : {v : View} {place word : ℕ} {w : View} → Looked v place word w → (node i change : ℕ)
+    → (row : ChangeRow) × ((now v).pieces change ≡ Some (Change row)) × IsFrozen v.log node i row.from
+    → place ≡ change + 4 → IsFrozen w.log node i word
+from_frozen {v} {place} {word} {w} l node i change it at =
+    let g = looked_goes_on v place word w l in
+    let on = change_there (now v).pieces (now w).pieces (goes_on_grow v w g) change it.0 it.1 in
+    let is = looked_row v place word w l change (Change on.0) 4 on.0.from on.1 refl at
+    ∙ ap (λ r. r.from) on.2.others in
+    subst (IsFrozen w.log node i) (sym is) (frozen_on v w g node i it.0.from it.2)
 
 -- ---- what hangs below
 

@@ -1,13 +1,13 @@
 -- The events that were checked so far, and those that are left. Serves `judging.rt`.
-use Rattle.std.proofs.Common.{◌≡◌, ◌∙◌, ◌+◌, ◌<◌, ℕ, suc, List, [], ◌∷◌, ◌++◌, length, get_or}
-use Rattle.std.proofs.Common.{take, drop, reverse, Some, sym, ap, arith, drop-cons}
+use Rattle.std.proofs.Common.{◌≡◌, ◌≢◌, ◌∙◌, ◌+◌, ◌<◌, ℕ, suc, List, [], ◌∷◌, ◌++◌, length, get_or}
+use Rattle.std.proofs.Common.{take, drop, reverse, Option, Some, None, refl, sym, ap, subst, arith, drop-cons}
 use Rattle.std.proofs.lemmas.List.{take_more, take-append-drop, reverse-append, length-take-le}
 use Rattle.std.specs.BTreeMap.{BTreeMap}
 use Rattle.ist_core.specs.declared.pairs.Pair.{Pair}
 use Rattle.ist_core.specs.declared.events.Event.{Event}
 use Rattle.ist_core.specs.StartLayout.{start}
 use Rattle.ist_core.specs.Enabled.{Enabled}
-use Rattle.ist_core.specs.Lawful.{Lawful, state_of}
+use Rattle.ist_core.specs.Lawful.{CanOpen, Lawful, state_of}
 use Rattle.check_events.specs.declared.replicas.Replica.{Replica}
 use Rattle.check_events.specs.Mirroring.{Mirrors}
 use Rattle.check_events.specs.Remembering.{KnowsSlots, KnowsWays}
@@ -35,38 +35,36 @@ module _ (events : List Event) (at : ℕ) (event : Event) (below : at < length e
   rest = drop-cons events at event below ∙ ap (λ e. e ∷ drop (suc at) events) (sym is)
       ∙ (let next : suc at ≡ at + 1 = omega arith in ap (λ n. event ∷ drop n events) next)
 
-  -- an event that may not come after a lawful log of those before it is the first such event
-  pub first_unlawful : (pairs : List Pair) (words : ℕ) → Lawful pairs words
-      (reverse (take at events))
+  -- an event that may not come after a lawful log of those before it is the first such event, and fails in
+  -- the way of the first of its conditions that is false
+  pub refused_at : (pairs : List Pair) (words : ℕ) (condition : Condition)
+      → Lawful pairs words (reverse (take at events))
       → ¬ (Enabled (start pairs words) (reverse (take at events)) event)
-      → IsFirstUnlawful pairs words events at
-  first_unlawful pairs words lawful refused =
-      record {
-        before = take at events;
-        event = event;
-        after_it = drop (at + 1) events;
-        events_are = sym (take-append-drop at events) ∙ ap (λ es. take at events ++ es) rest;
-        at_is = sym (length-take-le at events (omega arith));
-        lawful = lawful;
-        refused = refused;
-      }
-
-  -- if a condition of it is the first that is false, it fails in this way
-  pub fails_at : (pairs : List Pair) (words : ℕ) (condition : Condition) → Lawful pairs words
-      (reverse (take at events))
-      → TellsCondition (says_of (start pairs words) (reverse (take at events)) event) (Some condition)
-      → FailsAt pairs words events at condition
-  fails_at pairs words condition lawful tells =
-      record {
-        before = take at events;
-        event = event;
-        after_it = drop (at + 1) events;
-        events_are = sym (take-append-drop at events) ∙ ap (λ es. take at events ++ es) rest;
-        at_is = sym (length-take-le at events (omega arith));
-        lawful = lawful;
-        fails = tells;
-        uncovered = not_covered pairs words (reverse (take at events)) lawful event condition tells;
-      }
+      × TellsCondition (says_of (start pairs words) (reverse (take at events)) event) (Some condition)
+      → IsFirstUnlawful pairs words events at × FailsAt pairs words events at condition
+  refused_at pairs words condition lawful why =
+      let events_are = sym (take-append-drop at events) ∙ ap (λ es. take at events ++ es) rest in
+      let at_is = sym (length-take-le at events (omega arith)) in (
+        record {
+          before = take at events;
+          event = event;
+          after_it = drop (at + 1) events;
+          events_are = events_are;
+          at_is = at_is;
+          lawful = lawful;
+          refused = why.0;
+        },
+        record {
+          before = take at events;
+          event = event;
+          after_it = drop (at + 1) events;
+          events_are = events_are;
+          at_is = at_is;
+          lawful = lawful;
+          fails = why.1;
+          uncovered = not_covered pairs words (reverse (take at events)) lawful event condition why.1;
+        },
+      )
 
 -- what the other tables hold doesn't depend on the slots and the ways
 slots_apart : (past : Past) (slots : BTreeMap ℕ Slot) (ways : BTreeMap ℕ RowWay) (pairs : List Pair) (words : ℕ) (log : Log)
@@ -93,20 +91,51 @@ module _ (replica : Replica) (past : Past) (pairs : List Pair) (words : ℕ) (lo
   pub lawful_more : Lawful pairs words (event ∷ log)
   lawful_more = record { opens = knows.lawful.opens; enabled = (knows.lawful.enabled, may) }
 
-  -- the checker knows what it should after the event, if the replica, the slots and the other
-  -- tables are brought forward
-  pub known_more : (following : Replica) (after_it : Past) (slots : BTreeMap ℕ Slot)
-      (ways : BTreeMap ℕ RowWay)
-      → Mirrors following (state_of pairs words (event ∷ log))
-      → KnowsSlots slots (start pairs words) (event ∷ log)
-      → KnowsWays ways (start pairs words) (event ∷ log)
-      → Remembers after_it pairs words (event ∷ log)
-      → Knows following (record after_it { slots = slots; ways = ways }) pairs words (event ∷ log)
-  known_more following after_it slots ways mirrors of_slots of_ways others =
-      record {
+  -- the checker knows what it should after the event, if the replica and the tables are brought forward
+  pub known_more : {following : Replica} {after_it : Past} {slots : BTreeMap ℕ Slot} {ways : BTreeMap ℕ RowWay}
+      {more : Log} → more ≡ event ∷ log
+      → (Mirrors replica (state_of pairs words log) → Mirrors following (state_of pairs words (event ∷ log)))
+      → (Lawful pairs words (event ∷ log) → Mirrors replica (state_of pairs words log)
+      → Remembers past pairs words log → Remembers after_it pairs words (event ∷ log))
+      → after_it.slots ≡ past.slots → after_it.ways ≡ past.ways
+      → (Lawful pairs words (event ∷ log) → Mirrors following (state_of pairs words (event ∷ log))
+      → KnowsSlots after_it.slots (start pairs words) log → KnowsSlots slots (start pairs words) (event ∷ log))
+      → (Lawful pairs words (event ∷ log) → Mirrors following (state_of pairs words (event ∷ log))
+      → KnowsSlots slots (start pairs words) (event ∷ log) → KnowsWays after_it.ways (start pairs words) log
+      → KnowsWays ways (start pairs words) (event ∷ log))
+      → Knows following (record after_it { slots = slots; ways = ways }) pairs words more
+  known_more {following = following} {after_it = after_it} {slots = slots} {ways = ways} is advanced remembered
+      same_slots same_ways linked led =
+      let mirrors = advanced knows.mirrors in
+      let now = linked lawful_more mirrors
+      (subst (λ m. KnowsSlots m (start pairs words) log) (sym same_slots) knows.slots) in
+      subst (Knows following (record after_it { slots = slots; ways = ways }) pairs words) (sym is) record {
         lawful = lawful_more;
         mirrors = mirrors;
-        slots = of_slots;
-        ways = of_ways;
-        remembers = slots_apart after_it slots ways pairs words (event ∷ log) others;
+        slots = now;
+        ways = led lawful_more mirrors now
+            (subst (λ m. KnowsWays m (start pairs words) log) (sym same_ways) knows.ways);
+        remembers = slots_apart after_it slots ways pairs words (event ∷ log)
+            (remembered lawful_more knows.mirrors knows.remembers);
       }
+
+-- what the checker knows of a new table
+pub first_known : {replica : Replica} {past : Past} {pairs : List Pair} {words : ℕ} → CanOpen pairs words
+    → Mirrors replica (start pairs words)
+    → (CanOpen pairs words → Mirrors replica (start pairs words) → KnowsSlots past.slots (start pairs words) [])
+    → (CanOpen pairs words → Mirrors replica (start pairs words) → KnowsWays past.ways (start pairs words) [])
+    → (CanOpen pairs words → Mirrors replica (start pairs words) → Remembers past pairs words [])
+    → Knows replica past pairs words []
+first_known opens mirrors slots ways exact =
+    record {
+      lawful = record { opens = opens; enabled = tt };
+      mirrors = mirrors;
+      slots = slots opens mirrors;
+      ways = ways opens mirrors;
+      remembers = exact opens mirrors;
+    }
+
+-- an option that is no `Some` is `None`
+pub is_none : {A : Type 0} (o : Option A) → ((x : A) → o ≢ Some x) → o ≡ None
+is_none None other = refl
+is_none (Some x) other = absurd (other x refl)

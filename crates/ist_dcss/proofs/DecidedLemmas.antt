@@ -12,12 +12,13 @@ use Rattle.ist_core.proofs.RowLemmas.{changed_at-same}
 use Rattle.ist_rule.specs.declared.view.View.{View}
 use Rattle.ist_core.specs.Shown.{IsShown, shown_row}
 use Rattle.ist_rule.specs.Rule.{IsSound}
+use Rattle.ist_rule.specs.Conditions.{CanExchange}
 use Rattle.ist_rule.specs.Learning.{now, Looked, Logged, Exchanged}
 use Rattle.ist_dcss.specs.Helping.{Serves, IsDecided, WasOpen, WasClosed}
 use Rattle.ist_dcss.specs.HelpEvents.{standing, deciding}
 use Rattle.ist_rule.specs.Going.{WentOn}
 use Rattle.ist_rule.proofs.WentOnLemmas.{looked_went, logged_went, went_now, went_more}
-use Rattle.ist_dcss.proofs.DecideLemmas.{MayDecide, deciding_is}
+use Rattle.ist_dcss.proofs.DecideLemmas.{MayDecide, can_decide, deciding_is}
 use Rattle.ist_dcss.proofs.HelperLemmas.{went_row}
 use Rattle.ist_dcss.proofs.OutcomeLemmas.{HasFate, fate, okay_seen}
 use Rattle.laws_links.proofs.ChangeLemmas.{yes_has_okay, said_something}
@@ -96,23 +97,37 @@ decided_as v s change row there set said is =
     at (inr (inl e)) = e ∙ ap (λ d. decision_word (d == decided_yes)) (sym e)
     at (inr (inr e)) = e.0 ∙ ap (λ d. decision_word (d == decided_yes)) (sym e.0)
 
--- a helper that loaded the status and exchanged the decision served the change, which is decided as
--- the test of the two words says
-pub helper_decided : (v : View) (change number : ℕ) (said : Bool) (u : View)
-    → MayDecide change number said v u → (place new stood : ℕ) (w : View) → place ≡ change
-    → new ≡ decision_word said → Exchanged u (deciding u place new) place undecided stood w
-    → (answer : Bool) → answer ≡ (standing new stood == decided_yes)
-    → WentOn (Serves change) v w × IsDecided w change answer
-helper_decided v change number said u m place new stood w at is x answer asked =
-    let tells = decide_tells u change number said place stood w m.row m.published (omega arith)
-    (subst (λ e. Exchanged u e place undecided stood w)
-    (deciding_is u number change place new said m.mine at is) x) in
-    let r = tells.1 in (
-      went_more (Serves change) v u w m.went tells.0,
-      decided_as w tells.0.sound change r.0 r.1 r.3 answer
-          (asked ∙ ap (λ n. standing n stood == decided_yes) is
-          ∙ ap (λ d. d == decided_yes) (sym r.2)),
-    )
+-- a helper that loaded the status of the change's node
+module _ (v : View) (change number : ℕ) (said : Bool) (u : View)
+    (m : MayDecide change number said v u) (base new : ℕ) (at : base ≡ change)
+    (is : new ≡ decision_word said) where
+  names : deciding u (base + change_decision_offset) new ≡ Decide number change said
+  names = deciding_is u number change (base + change_decision_offset) new said m.mine (omega arith) is
+
+  -- may exchange the decision
+  pub helper_can_decide : IsSound u → CanExchange u (base + change_decision_offset) undecided new
+      (deciding u (base + change_decision_offset) new)
+  helper_can_decide s =
+      subst (CanExchange u (base + change_decision_offset) undecided new) (sym names)
+      (can_decide u s change number m.mine m.row m.published said m.ready
+      (base + change_decision_offset) new (omega arith) is)
+
+  -- has then served the change, which is decided as the test of the two words says
+  pub helper_decided : (stood : ℕ) (w : View)
+      → Exchanged u (deciding u (base + change_decision_offset) new) (base + change_decision_offset)
+      undecided stood w
+      → (answer : Bool) → answer ≡ (standing new stood == decided_yes)
+      → WentOn (Serves change) v w × IsDecided w change answer
+  helper_decided stood w x answer asked =
+      let place = base + change_decision_offset in
+      let tells = decide_tells u change number said place stood w m.row m.published (omega arith)
+      (subst (λ e. Exchanged u e place undecided stood w) names x) in
+      let r = tells.1 in (
+        went_more (Serves change) v u w m.went tells.0,
+        decided_as w tells.0.sound change r.0 r.1 r.3 answer
+            (asked ∙ ap (λ n. standing n stood == decided_yes) is
+            ∙ ap (λ d. d == decided_yes) (sym r.2)),
+      )
 
 -- ---- what a help says
 

@@ -96,6 +96,7 @@ pub record HasPlace (v : View) (node i : ℕ) : Type 0 where
   pub published : (now v).pieces node ≡ Some (Inner row)
   pub index : i < row.degree
   pub degree : row.degree < place_limit
+  pub above : first_row ≤ node
   pub low : node + 2 < v.words
   pub small : v.words ≤ place_limit
 
@@ -121,6 +122,7 @@ has_place v s node i slot ne = at slot.word slot.holds
           published = e;
           index = omega arith;
           degree = omega arith;
+          above = row_above v s node (Inner r) e;
           low = omega arith;
           small = all;
         }

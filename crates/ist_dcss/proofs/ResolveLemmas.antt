@@ -212,9 +212,11 @@ side_by v change side false field row there is =
 -- a helper that loaded the slot's place and the word to leave may resolve
 pub may_resolve : (v : View) (change : ℕ) (m : MayHelp v change) (said : Bool)
     → IsDecided v change said → (u : View) → WentOn (Serves change) v u → (place : ℕ)
-    → IsSlotOf u change place → (w : View) → WentOn (Serves change) u w → IsSound u → (side : ℕ)
-    → IsField w change (outcome_offset_of said) side → MayResolve change m.number place side v w
-may_resolve v change m said d u h place slot w k s side field =
+    → IsSlotOf u change place → (w : View) → WentOn (Serves change) u w → (side offset : ℕ)
+    → IsField w change offset side → offset ≡ outcome_offset_of said
+    → MayResolve change m.number place side v w
+may_resolve v change m said d u h place slot w k side offset field offset_is =
+    let s = h.sound in
     let all = went_more (Serves change) v u w h k in
     let on = went_row (Serves change) change v w all d.row d.published in
     let more = went_row (Serves change) change u w k slot.row slot.published in
@@ -241,7 +243,7 @@ may_resolve v change m said d u h place slot w k s side field =
       at = slot.at ∙ sym moved
           ∙ sym (ap₂ (place_of_slot (now w)) (ap (λ x. x.node) one ∙ node)
           (ap (λ x. x.index) one ∙ index));
-      side_is = side_by w change side said field on.0 on.1 is;
+      side_is = side_by w change side said (subst (λ n. IsField w change n side) offset_is field) on.0 on.1 is;
     }
   where
     same_row : (a b : ChangeRow) → (now w).pieces change ≡ Some (Change a)
@@ -255,3 +257,25 @@ resolving_is v number change old who is =
     let number_is : old ≡ change * 8 + 3 = is in
     let base : old / 8 ≡ change = omega arith in
     ap₂ Resolve (ap number_of who) base
+
+-- a helper that may resolve
+module _ (v : View) (change number place side : ℕ) (u : View)
+    (m : MayResolve change number place side v u) (s : IsSound u) (word : ℕ)
+    (is : word ≡ word_of (ChangeAt change)) where
+  names : resolving u (word / tag_count) ≡ Resolve number change
+  names = resolving_is u number change word m.mine is
+
+  -- may exchange the word of the slot
+  pub helper_can_resolve : CanExchange u place word side (resolving u (word / tag_count))
+  helper_can_resolve =
+      subst (CanExchange u place word side) (sym names)
+      (can_resolve u s change number m.mine m.row m.published m.decided place word side m.at is m.side_is)
+
+  -- has then served the change, which is out of its slot
+  pub helper_resolved : (found : ℕ) (w : View)
+      → Exchanged u (resolving u (word / tag_count)) place word found w
+      → WentOn (Serves change) v w × IsOut w change
+  helper_resolved found w x =
+      let tells = resolve_tells u s change number place word found w m.row m.published m.at is
+      (subst (λ e. Exchanged u e place word found w) names x) in
+      (went_more (Serves change) v u w m.went tells.0, tells.1)

@@ -4,8 +4,9 @@ use Rattle.std.proofs.lemmas.Bool.Decides.{nat_tests}
 use Rattle.std.proofs.lemmas.List.Sums.{count_by_more_yes, count_by_more_no}
 use Rattle.ist_core.specs.Arithmetic.{child_count}
 use Rattle.ist_math.specs.declared.gallops.Gallop.{Gallop}
-use Rattle.ist_math.specs.Guess.{guess_in, distance}
+use Rattle.ist_math.specs.Guess.{guess_of, guess_in, distance}
 use Rattle.ist_math.specs.Gallops.{Gallops}
+use Rattle.ist_math.proofs.GuessLemmas.{guess_of-between}
 use Rattle.ist_math.proofs.GallopLemmas.{end-near, end-far}
 use Rattle.ist_math.proofs.ChildLemmas.{HasGalloped, galloped_on, galloped_to, looks_fit, child_is_first, child_is_last, child_most}
 use Rattle.ist_rule.specs.declared.view.View.{View}
@@ -190,8 +191,8 @@ run_ends v w s node from key count g looks r h end long less =
 
 -- ---- with the keys at both ends
 
-module _ (v u : View) (s : IsSound v) (g : GoesOnTo v u) (two : u.loaded ≡ v.loaded + 2) (node key count : ℕ)
-    (r : IsRow v node) (long : count ≡ length (keys_at v node)) where
+module _ {v u : View} (s : IsSound v) (g : GoesOnTo v u) (two : u.loaded ≡ v.loaded + 2) {node count : ℕ}
+    (r : IsRow v node) (long : count ≡ length (keys_at v node)) (key : ℕ) where
   -- a key below the first one has the first child
   pub child_at_start : key < get_or (keys_at v node) 0 0
       → FindsChild v u node key count (guess_in (keys_at v node) key) 2 0 2
@@ -220,11 +221,24 @@ module _ (v u : View) (s : IsSound v) (g : GoesOnTo v u) (two : u.loaded ≡ v.l
         within = omega arith;
       }
 
+  -- a gallop for any other key may begin at the guess
+  pub guess_between : {first last from : ℕ} → first ≡ get_or (keys_at v node) 0 0
+      → last ≡ get_or (keys_at v node) (length (keys_at v node) - 1) 0 → from ≡ guess_of first last count key
+      → 2 ≤ count → first ≤ key → key < last
+      → (1 ≤ from) × (from < count) × (get_or (keys_at u node) 0 0 ≤ key)
+      × (key < get_or (keys_at u node) (length (keys_at u node) - 1) 0)
+  guess_between {first = first} {last = last} one other is many low high =
+      let same = keys_on v u g node r in
+      let between = guess_of-between first last count key many low high in
+      let first_on = ap (λ ks. get_or ks 0 0) same in
+      let last_on = ap (λ ks. get_or ks (length ks - 1) 0) same in
+      (omega arith, omega arith, omega arith, omega arith)
+
   -- any other key has the one that was found from the guess
-  pub child_between : (w : View) (from child loads : ℕ) → from ≡ guess_in (keys_at v node) key
+  pub child_between : {w : View} {from child loads : ℕ} → from ≡ guess_in (keys_at v node) key
       → FindsChild u w node key count from 0 child loads
       → FindsChild v w node key count (guess_in (keys_at v node) key) 2 child (loads + 2)
-  child_between w from child loads is f =
+  child_between {w = w} {child = child} is f =
       let away = ap (λ n. distance n child) is in
       let near = f.few in
       let counted = f.counted in

@@ -7,35 +7,42 @@ use Rattle.ist_rule.specs.declared.view.View.{View}
 use Rattle.ist_rule.specs.Rule.{IsSound}
 use Rattle.ist_rule.specs.Learning.{GoesOnTo}
 use Rattle.ist_find.specs.Searches.{IsRow, keys_at}
-use Rattle.ist_find.proofs.RowLemmas.{keys_on, keys_rise}
+use Rattle.ist_find.proofs.RowLemmas.{row_on, keys_on, keys_rise}
 
-module _ (v : View) (s : IsSound v) (node key i : ℕ) (r : IsRow v node)
+-- the row later: it has the same keys, of which the one before the child isn't above the key, and the one
+-- after it is
+pub record HasChild (v w : View) (node key i : ℕ) : Type 0 where
+  pub row : IsRow w node
+  pub keys : keys_at w node ≡ keys_at v node
+  pub within : i ≤ length (keys_at w node)
+  pub above : 0 < i → get_or (keys_at w node) (i - 1) 0 ≤ key
+  pub below : i < length (keys_at w node) → key < get_or (keys_at w node) i 0
+
+module _ {v : View} (s : IsSound v) {node i : ℕ} (r : IsRow v node) (key : ℕ)
     (is : i ≡ child_count (keys_at v node) key) where
-  -- the child is one of the row's
-  pub child_within : (w : View) → GoesOnTo v w → i ≤ length (keys_at w node)
-  child_within w g =
-      let same = ap length (keys_on v w g node r) in
-      let most = child_most (keys_at v node) key in
-      omega arith
+  -- the child stays the key's
+  pub child_stays : {w : View} → GoesOnTo v w → HasChild v w node key i
+  child_stays {w = w} g =
+      let keys = keys_at v node in
+      let same = keys_on v w g node r in
+      let size = ap length same in
+      let most = child_most keys key in
+      record {
+        row = row_on v w g node r;
+        keys = same;
+        within = omega arith;
+        above = subst (λ ks. 0 < i → get_or ks (i - 1) 0 ≤ key) (sym same)
+            (key_before_child keys (keys_rise v s node r) key i is);
+        below = subst (λ ks. i < length ks → key < get_or ks i 0) (sym same)
+            (key_after_child keys (keys_rise v s node r) key i is);
+      }
 
-  -- the key after it is above this key
-  pub below_next : (w : View) → GoesOnTo v w → i < length (keys_at w node) → key < get_or (keys_at w node) i 0
-  below_next w g =
-      subst (λ ks. i < length ks → key < get_or ks i 0) (sym (keys_on v w g node r))
-      (key_after_child (keys_at v node) (keys_rise v s node r) key i is)
-
-  -- the key before it isn't
-  pub above_last : (w : View) → GoesOnTo v w → 0 < i → get_or (keys_at w node) (i - 1) 0 ≤ key
-  above_last w g =
-      subst (λ ks. 0 < i → get_or ks (i - 1) 0 ≤ key) (sym (keys_on v w g node r))
-      (key_before_child (keys_at v node) (keys_rise v s node r) key i is)
-
-  -- and all keys between these two have this child
-  pub between_share : (u w : View) → GoesOnTo v u → GoesOnTo v w → (low high : ℕ)
+  -- and all keys between those two keys have this child
+  pub between : {u w : View} → GoesOnTo v u → GoesOnTo v w → (low high : ℕ)
       → (0 < i → get_or (keys_at u node) (i - 1) 0 ≤ low)
       → (i < length (keys_at w node) → high < get_or (keys_at w node) i 0)
       → (k : ℕ) → low ≤ k → k ≤ high → child_count (keys_at v node) k ≡ i
-  between_share u w g h low high after before k least most =
+  between {u = u} {w = w} g h low high after before k least most =
       let above = subst (λ ks. 0 < i → get_or ks (i - 1) 0 ≤ low) (keys_on v u g node r) after in
       let below = subst (λ ks. i < length ks → high < get_or ks i 0) (keys_on v w h node r) before in
       let within = child_most (keys_at v node) key in

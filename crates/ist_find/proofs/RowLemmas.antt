@@ -3,9 +3,9 @@
 use Rattle.std.proofs.Common.{◌≡◌, ◌≢◌, ℕ, zero, suc, ◌+◌, ◌<◌, ◌≤◌, List, [], ◌∷◌, ◌++◌, length, slice_get, get_or, Some, refl, sym, ap, ◌∙◌, subst, arith, length-append}
 use Rattle.std.proofs.lemmas.Option.{slice_get-get_or}
 use Rattle.std.specs.List.Sorted.{IsStrictlyIncreasing}
-use Rattle.ist_core.specs.RowLayout.{anchor, first_row, place_limit, inner_degree_offset, key_place, slot_place}
+use Rattle.ist_core.specs.RowLayout.{anchor, anchor_slot_place, first_row, place_limit, inner_degree_offset, key_place, slot_place}
 use Rattle.ist_core.specs.Arithmetic.{child_count}
-use Rattle.ist_core.specs.Pieces.{Inner, size_of, as_inner}
+use Rattle.ist_core.specs.Pieces.{Piece, Inner, size_of, as_inner}
 use Rattle.ist_core.specs.Slots.{SlotHolds, in_row, IsChildFor, of_row}
 use Rattle.ist_core.proofs.GrowingLemmas.{inner_there}
 use Rattle.ist_core.proofs.ImageLemmas.{get-words_of_slot}
@@ -14,6 +14,7 @@ use Rattle.ist_core.proofs.LeafOrderLemmas.{next_from_rising}
 use Rattle.ist_core.proofs.PlaceLemmas.{anchor_free}
 use Rattle.ist_core.proofs.SlotLemmas.{no_row}
 use Rattle.ist_math.specs.Guess.{guess_in, distance}
+use Rattle.ist_rule.specs.declared.view.TableName.{TableName}
 use Rattle.ist_rule.specs.declared.view.View.{View}
 use Rattle.ist_rule.specs.Rule.{IsSound}
 use Rattle.ist_rule.specs.Learning.{now, GoesOnTo, Looked}
@@ -51,6 +52,16 @@ after_fields : (keys slots : List ℕ) (j : ℕ) → j < length keys
 after_fields [] slots j h = absurd (omega arith)
 after_fields (k ∷ keys) slots zero h = refl
 after_fields (k ∷ keys) slots (suc j) h = after_fields keys slots j (omega arith)
+
+-- a word of a published row lies within the table, and isn't the anchor's slot
+pub may_load : {v : View} {table : TableName} {p : Piece} → IsSound v → v.words ≡ v.table.words → v.table ≡ table
+    → (base : ℕ) → (now v).pieces base ≡ Some p → (k : ℕ) → k < size_of p → (place : ℕ) → place ≡ base + k
+    → (place < table.words) × (place ≢ anchor_slot_place)
+may_load {v = v} {p = p} sound words is base there k less place at =
+    let low = (row_low v sound base p there k less).0 in
+    let above = row_above v sound base p there in
+    let same = ap (λ x. x.words) is in
+    (omega arith, λ fixed. absurd (omega arith))
 
 -- what a caller knows of an inner row
 pub record KnowsRow (v : View) (node count : ℕ) : Type 0 where

@@ -1,5 +1,5 @@
 -- A search from its begin to its end, as it knows it. Serves `find_from_anchor`.
-use Rattle.std.proofs.Common.{◌≡◌, ℕ, ◌-◌, List, [], length, Option, sym, ap, ◌∙◌, subst, arith}
+use Rattle.std.proofs.Common.{◌≡◌, ℕ, List, [], length, Option, sym, ap, ◌∙◌, subst, arith}
 use Rattle.std.proofs.Math.Nat.{le_trans}
 use Rattle.ist_core.specs.declared.pairs.Pair.{Pair}
 use Rattle.ist_core.specs.RowLayout.{anchor}

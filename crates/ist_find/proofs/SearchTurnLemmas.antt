@@ -1,20 +1,24 @@
 -- A search for a key, look after look, and what it ends with. Serves `finding`.
-use Rattle.std.proofs.Common.{◌≡◌, ◌≢◌, ℕ, ◌+◌, ◌<◌, ◌≤◌, ◌^◌, [], ◌∷◌, ◌++◌, Option, ap, subst, refl, arith}
+use Rattle.std.proofs.Common.{◌≡◌, ◌≢◌, ℕ, ◌+◌, ◌-◌, ◌<◌, ◌≤◌, ◌^◌, [], ◌∷◌, ◌++◌, Option, ap, subst, refl, arith}
 use Rattle.ist_core.specs.Pieces.{Inner}
 use Rattle.ist_core.specs.References.{Ref, InnerAt}
 use Rattle.ist_core.specs.RowLayout.{anchor}
 use Rattle.ist_dcss.proofs.FieldLemmas.{row_low}
 use Rattle.ist_rule.specs.declared.view.View.{View}
 use Rattle.ist_rule.specs.Rule.{IsSound}
-use Rattle.ist_rule.specs.Learning.{GoesOnTo, Turned, searching}
+use Rattle.ist_rule.specs.Learning.{now, GoesOnTo, Turned, searching}
 use Rattle.ist_rule.proofs.GoingOnLemmas.{goes_on_more}
-use Rattle.ist_find.specs.Searches.{Came, HasFewLoads, HasFound}
+use Rattle.ist_core.specs.Links.{WasLinked}
+use Rattle.ist_core.specs.Slots.{IsChildFor}
+use Rattle.ist_core.specs.StartLayout.{start}
+use Rattle.laws_histories.specs.Searching.{HasPosition}
+use Rattle.ist_find.specs.Searches.{Came, HasSearched, HasFewLoads, HasFound}
 use Rattle.ist_find.specs.Reads.{IsReached, LooksFew, TellsValue}
 use Rattle.ist_find.specs.Looks.{LooksAtChild, SearchIsAt}
 use Rattle.ist_find.proofs.CostLemmas.{looks_first, looks_on, few_loads, spent_on}
 use Rattle.ist_find.proofs.LookLemmas.{look_comes}
 use Rattle.ist_find.proofs.RowLemmas.{not_anchor}
-use Rattle.ist_find.proofs.SearchLemmas.{begun_comes, has_found}
+use Rattle.ist_find.proofs.SearchLemmas.{begun_comes, has_searched, has_found, found_position, found_linked, found_child}
 
 -- a row that a search has reached lies above the node, and within the table, which is small. It isn't
 -- the anchor
@@ -56,6 +60,15 @@ search_begins v b w t key i n ref l =
       spent = record { count = omega arith; few = omega arith; low = omega arith };
     }
 
+-- fewer words lie after it than after the node
+pub fewer_left : {w x : View} {node base : ℕ} → LiesAbove w node base → GoesOnTo w x
+    → x.words - base < w.words - node
+fewer_left lies g =
+    let up = lies.up in
+    let inside = lies.inside in
+    let same = ap (λ v. v.words) g.same in
+    omega arith
+
 module _ (v w : View) (key node i loads : ℕ) (ref : Ref) (h : SearchIsAt v w key node i loads ref) where
   -- if it read an inner row, it has come there
   pub search_came : (base : ℕ) → ref ≡ InnerAt base → Came w key base
@@ -88,11 +101,18 @@ module _ (v w : View) (key node i loads : ℕ) (ref : Ref) (h : SearchIsAt v w k
         spent = spent_on v w x node base loads n h.spent lies.up lies.small count l.fits;
       }
 
-  -- the value that was loaded then is what it found, by few loads
-  pub search_found : (x : View) (value : Option ℕ) → TellsValue w x key ref value
-      → HasFound x key node i value
-  search_found x value t = has_found w x key node i h.looks.rows ref value h.looks.looked t
-
-  -- if at most two more words are loaded, the whole search has few loads
-  pub search_few : (x : View) → GoesOnTo w x → x.loaded ≤ w.loaded + 2 → HasFewLoads v x key node
-  search_few x g last = few_loads v h.first w x h.seen.sound g key node i ref h.few_first h.looks last
+  -- once a value was loaded, by at most two loads, the value is what it found, by few loads
+  pub search_ends : (x : View) (value : Option ℕ) → IsSound x → TellsValue w x key ref value
+      → x.loaded ≤ w.loaded + 2
+      → HasSearched v x × HasPosition x.start x.words v.log x.log key value × HasFound x key node i value
+      × WasLinked (start x.start x.words) x.log node × IsChildFor (now x) node key i × HasFewLoads v x key node
+  search_ends x value s t last =
+      let g = goes_on_more h.begun w x h.seen t.seen in
+      let found = has_found w x key node i h.looks.rows ref value h.looks.looked t in (
+        has_searched v h.begun x h.turned g,
+        found_position v h.begun x h.turned g key node i value found,
+        found,
+        found_linked x s key node i value found,
+        found_child x s key node i value found,
+        few_loads v h.first w x h.seen.sound t.seen key node i ref h.few_first h.looks last,
+      )

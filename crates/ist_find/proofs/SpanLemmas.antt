@@ -1,5 +1,5 @@
 -- One search for all keys that have the same children: what holds for each of them. Serves `spans`.
-use Rattle.std.proofs.Common.{◌≡◌, ◌≢◌, ℕ, ◌+◌, ◌<◌, ◌≤◌, ◌⊎◌, ◌==◌, if◌then◌else◌, true, false, List, [], ◌∷◌, ◌++◌, length, Option, Some, None, refl, sym, ap, ◌∙◌, subst, inl, inr, arith, length-append}
+use Rattle.std.proofs.Common.{◌≡◌, ◌≢◌, ℕ, ◌+◌, ◌≤◌, ◌⊎◌, ◌==◌, if◌then◌else◌, true, false, List, [], ◌∷◌, ◌++◌, length, Option, Some, None, refl, sym, ap, ◌∙◌, subst, inl, inr, arith, length-append}
 use Rattle.std.proofs.Math.Nat.{le_trans}
 use Rattle.std.proofs.lemmas.Bool.Decides.{eqb_tells}
 use Rattle.ist_core.specs.declared.pairs.Pair.{Pair}
@@ -16,7 +16,7 @@ use Rattle.ist_rule.specs.Learning.{now, GoesOnTo, Looked}
 use Rattle.ist_rule.specs.Watching.{IsNode, is_anchor, is_inner}
 use Rattle.ist_rule.proofs.GoingOnLemmas.{goes_on_more, looked_goes_on}
 use Rattle.laws_histories.specs.Searching.{LooksAt, HasPosition, of_other}
-use Rattle.ist_dcss.proofs.FieldLemmas.{looked_row, row_low}
+use Rattle.ist_dcss.proofs.FieldLemmas.{looked_row}
 use Rattle.ist_find.specs.Searches.{HasBegunSearch, IsRow, SeesLeaf, keys_at, row_cost}
 use Rattle.ist_find.specs.Reads.{HasLooked, IsFoundAs, TellsValue, loaded_in}
 use Rattle.ist_find.specs.Spans.{pair_value, IsPairOf, AllCome, AllLooked, LooksFewOver, HasFewSpanLoads}
@@ -93,10 +93,6 @@ pair_told v u w base key value p q first at second there k = choose (eqb_tells k
               (looked_load v p key u first (base + leaf_key_offset) at least
               (le_trans low (goes_length v u g)))) a.1;
         }
-
--- its words lie within the table
-pub leaf_low : (v : View) → IsSound v → (base k : ℕ) → SeesLeaf v base → k < 2 → base + k < v.words
-leaf_low v s base k r less = (row_low v s base (Leaf r.row) r.published k less).0
 
 -- its words are its pair
 pub leaf_pair_is : (v u w : View) (base key value p q : ℕ) → SeesLeaf v base → Looked v p key u

@@ -5,17 +5,23 @@ use Rattle.ist_core.specs.declared.pairs.Pair.{Pair}
 use Rattle.ist_core.specs.References.{Ref, InnerAt}
 use Rattle.ist_core.specs.RowLayout.{anchor}
 use Rattle.ist_rule.specs.declared.view.View.{View}
+use Rattle.ist_rule.specs.Learning.{now, GoesOnTo}
 use Rattle.ist_rule.specs.Rule.{IsSound}
 use Rattle.ist_rule.proofs.GoingOnLemmas.{goes_on_more}
 use Rattle.laws_histories.specs.Searching.{HasPosition}
 use Rattle.ist_find.specs.Searches.{HasBegunSearch}
 use Rattle.ist_find.specs.Reads.{IsReached, TellsValue}
-use Rattle.ist_find.specs.Spans.{pair_value, AllCome, AllLooked, HasFewSpanLoads, LooksFewOver}
+use Rattle.ist_find.specs.Spans.{EndAtEdges, pair_value, AllCome, AllLooked, HasFewSpanLoads, LooksFewOver}
 use Rattle.ist_find.specs.Looks.{LooksForAll, SpanIsAt}
+use Rattle.ist_find.proofs.EdgeLemmas.{edges_on}
 use Rattle.ist_find.proofs.LookLemmas.{look_comes}
 use Rattle.ist_find.proofs.SearchLemmas.{at_anchor}
 use Rattle.ist_find.proofs.SearchTurnLemmas.{LiesAbove, row_above}
 use Rattle.ist_find.proofs.SpanLemmas.{all_came, span_position, over_first, over_on, few_over}
+
+-- the search for each key comes to the anchor first
+pub all_at_anchor : (v : View) → IsSound v → (low high : ℕ) → AllCome v low high anchor
+all_at_anchor v s low high k least most = ([], at_anchor v k s)
 
 -- it begins with a look at the anchor's slot, for all keys
 pub span_begins : (v w : View) → IsSound v → (key first last i low high : ℕ) (ref : Ref)
@@ -65,18 +71,21 @@ module _ (v w : View) (key node i low high : ℕ) (ref : Ref) (h : SpanIsAt v w 
         reached = l.reached;
       }
 
-  module _ (x : View) (pair own : Option Pair) (tells : (k : ℕ) → TellsValue w x k ref (pair_value pair k))
-      (same : (k : ℕ) → low ≤ k → k ≤ high → pair_value own k ≡ pair_value pair k) where
-    -- each key of the slot has what the pair gives it at a position
-    pub span_values : HasBegunSearch v → (k : ℕ) → low ≤ k → k ≤ high
-        → HasPosition x.start x.words v.log x.log k (pair_value own k)
-    span_values begun k least most =
-        subst (HasPosition x.start x.words v.log x.log k) (sym (same k least most))
-        (span_position v w x begun h.seen low high node i ref pair h.looked tells k least most)
-
-    -- and few loads were made
-    pub span_few : x.loaded ≤ w.loaded + 2 → HasFewSpanLoads v x key (pair_value own key)
-    span_few last =
-        subst (HasFewSpanLoads v x key) (sym (same key h.below h.above))
+  -- once the pair at its end was loaded, by at most two loads, each key of the slot has what the pair gives it
+  pub span_ends : (x : View) (pair own : Option Pair) → ((k : ℕ) → TellsValue w x k ref (pair_value pair k))
+      → ((k : ℕ) → low ≤ k → k ≤ high → pair_value own k ≡ pair_value pair k)
+      → HasBegunSearch v → GoesOnTo w x → x.loaded ≤ w.loaded + 2
+      → GoesOnTo v x × (low ≤ key) × (key ≤ high)
+      × ((k : ℕ) → low ≤ k → k ≤ high → HasPosition x.start x.words v.log x.log k (pair_value own k))
+      × EndAtEdges (now x) low high × HasFewSpanLoads v x key (pair_value own key)
+  span_ends x pair own tells same begun g last = (
+    goes_on_more v w x h.seen g,
+    h.below,
+    h.above,
+    λ k least most. subst (HasPosition x.start x.words v.log x.log k) (sym (same k least most))
+        (span_position v w x begun h.seen low high node i ref pair h.looked tells k least most),
+    edges_on w x g low high h.edges,
+    subst (HasFewSpanLoads v x key) (sym (same key h.below h.above))
         (few_over v h.first w x h.seen.sound key node i ref (pair_value pair key) (tells key) h.few_first
-        h.looks last)
+        h.looks last),
+  )

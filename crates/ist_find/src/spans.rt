@@ -241,6 +241,7 @@ pub(crate) fn pair_within(pair: Option<Pair>, ends: KeyRange) -> Option<Pair>
 /// result gives it, at a position of its own since the search was begun. The range ends at keys of inner
 /// rows. Never blocks. With the load by which a search begins, its bound on loads is the bound of
 /// `find_from_anchor`, plus three for each row.
+#[tactic(auto, using(crate::proofs::EdgeLemmas::no_edges))]
 pub fn find_span(table: &TreeTable, token: &mut TreeToken, key: u64) -> Span
     requires same_table { token.old.view.table ≡ table.now.table }
     requires begun { HasBegunSearch token.old.view }

@@ -1,8 +1,8 @@
 -- The calls of passes that were given back in the order of their numbers, and which workers stopped by request. Serves
 -- `Map::run`.
-use Rattle.std.proofs.Common.{◌≡◌, ◌≢◌, ◌∙◌, ℕ, zero, suc, ◌<◌, List, [], ◌∷◌, ◌++◌, length, map, slice_index_or, refl, sym, ap, subst, arith}
+use Rattle.std.proofs.Common.{◌≡◌, ◌≢◌, ◌∙◌, ℕ, zero, suc, ◌+◌, ◌<◌, List, [], ◌∷◌, ◌++◌, length, map, slice_index_or, refl, sym, ap, subst, arith}
 use Rattle.std.proofs.Common.{Option, Some, None, All, Any, IsSome}
-use Rattle.std.proofs.lemmas.List.{length-map}
+use Rattle.std.proofs.lemmas.List.{append-nil, length-map}
 use Rattle.std.proofs.lemmas.List.Elements.{All-nil, All-cons, All-head, All-tail}
 use Rattle.std.proofs.lemmas.Option.{none-some}
 use Rattle.std.specs.List.{range_with_len}
@@ -25,6 +25,14 @@ taken_in_order m passes many taken numbers =
     ∙ calls_in_order 0 passes numbers
 
 -- ---- lists of workers
+
+-- what all have, all have afterwards if the first one has and the others have
+pub all_again : {H : Type 0} (P Q : H → Type 0) (hands rest now : List H) (first last : H)
+    → hands ≡ first ∷ rest → (P first → Q last) → (All P rest → All Q now) → All P hands
+    → All Q (last ∷ now)
+all_again P Q hands rest now first last is one others all =
+    let same = subst (All P) is all in
+    All-cons Q last now (one (All-head P first rest same)) (others (All-tail P first rest same))
 
 module _ {H : Type 0} where
   -- what f sees of what g sees
@@ -50,22 +58,27 @@ module _ {H : Type 0} where
   -- workers that were given passes in the order of their numbers, worked and gave them back have
   -- made the calls that their maker took
   pub all_worked : (told : H → List Answered) (passes : H → PassCalls)
-      (old hired worked done : List H) (m : MakerFace) → map told hired ≡ map told old
+      (old hired worked done : List H) (n many : ℕ) (ts taken : List PassCalls) (m : MakerFace) → map told hired ≡ map told old
       → map told done ≡ map told worked
       → HaveWorked (map told hired) (map (λ h. (passes h).calls) worked) (map told worked)
-      → m.made ≡ length worked → m.taken ≡ map passes worked
-      → map (λ h. (passes h).number) worked ≡ range_with_len 0 (length worked)
+      → length worked ≡ length old → n ≡ 0 → ts ≡ []
+      → many ≡ n + length old → taken ≡ ts → m.made ≡ many
+      → m.taken ≡ map passes worked ++ taken
+      → map (λ h. (passes h).number) hired ≡ range_with_len n (length old)
+      → map (λ h. (passes h).number) worked ≡ map (λ h. (passes h).number) hired
       → HaveWorked (map told old) (calls_taken m) (map told done)
-  all_worked told passes old hired worked done m first last each made taken numbers number =
+  all_worked told passes old hired worked done n many ts taken m before last each same none empty made still made_all all numbers kept number =
       let long = length-map worked passes in
       let in_order : calls_taken m ≡ map (λ h. (passes h).calls) worked =
-      taken_in_order m (map passes worked) (made ∙ sym long) taken
-      (map_map (λ p. p.number) passes worked ∙ numbers ∙ ap (range_with_len 0) (sym long))
+      taken_in_order m (map passes worked) (omega arith)
+      (all ∙ ap (λ xs. map passes worked ++ xs) (still ∙ empty) ∙ append-nil _)
+      (map_map (λ p. p.number) passes worked ∙ kept ∙ numbers
+      ∙ ap (λ n. range_with_len n (length old)) none ∙ ap (range_with_len 0) (sym (long ∙ same)))
       ∙ map_map (λ p. p.calls) passes worked in
       ap (λ ts. slice_index_or ts number []) last
       ∙ each number
       ∙ ap (λ ts. slice_index_or ts number []
-      ++ map told_by_call (slice_index_or (map (λ h. (passes h).calls) worked) number [])) first
+      ++ map told_by_call (slice_index_or (map (λ h. (passes h).calls) worked) number [])) before
       ∙ ap (λ cs. slice_index_or (map told old) number []
       ++ map told_by_call (slice_index_or cs number [])) (sym in_order)
 

@@ -1,6 +1,5 @@
 -- What hangs below a slot that was passed. Serves `pass_slot`.
 use Rattle.std.proofs.Common.{◌≡◌, ◌≢◌, ℕ, Option, Some, None, option_map, sym, ap, ◌∙◌, subst, arith}
-use Rattle.ist_core.specs.declared.events.Event.{Event}
 use Rattle.ist_core.specs.References.{Empty, Unset, LeafAt, InnerAt, ChangeAt, RebuildAt, ref_of}
 use Rattle.ist_core.specs.Logs.{Passes}
 use Rattle.ist_core.specs.Marking.{HasTarget, as_child, after_rebuild, IsFrozen, CountsFor, no_key, one_key}
@@ -8,8 +7,8 @@ use Rattle.ist_core.proofs.NamingLemmas.{SideNames, IsRebuildFor}
 use Rattle.ist_core.proofs.OptionLemmas.{same_rebuild}
 use Rattle.ist_rule.specs.declared.view.View.{View}
 use Rattle.ist_rule.specs.Rule.{IsSound}
-use Rattle.ist_rule.specs.Learning.{now}
-use Rattle.ist_rule.specs.Going.{WentOn}
+use Rattle.ist_rule.specs.Learning.{now, GoesOnTo}
+use Rattle.ist_rule.proofs.WentOnLemmas.{goes_on_went}
 use Rattle.ist_layout.specs.declared.references.Ref as layout
 use Rattle.ist_layout.specs.Meanings.{ref_meant}
 use Rattle.ist_mark.specs.declared.below.PassedChild.TheVariants.{Keys, Node}
@@ -71,11 +70,12 @@ passed_row v s node i word child p is =
     record { word = word; frozen = p; is = row_below v s node i word child p is }
 
 -- one that is read as a rebuild leads to its target
-pub passed_target : {P : Event → Type 0} (v w : View) → WentOn P v w → (node i word rebuild child : ℕ)
-    → IsFrozen v.log node i word → ref_of word ≡ Some (RebuildAt rebuild)
-    → HasTarget (now w) rebuild child → PassedWith w node i (Node child)
-passed_target {P = P} v w g node i word rebuild child p is t =
-    let frozen = happened_went P v w g (Passes node i word) p in
+pub passed_target : (v w : View) → GoesOnTo v w → (node i word rebuild child : ℕ) → IsFrozen v.log node i word
+    → HasTarget (now w) rebuild child → ref_of word ≡ Some (RebuildAt rebuild)
+    → PassedWith w node i (Node child)
+passed_target v w g node i word rebuild child p t is =
+    let P = Passes node i word in
+    let frozen = happened_went P v w (goes_on_went P v w g) P p in
     record {
       word = word;
       frozen = frozen;

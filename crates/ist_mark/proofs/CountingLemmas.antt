@@ -1,5 +1,5 @@
 -- What is put together of marking, passing and finishing. Serves `count_slot` and `mark_and_count`.
-use Rattle.std.proofs.Common.{ℕ, ◌+◌, ◌^◌, ◌<◌, sym, ◌∙◌, subst, arith}
+use Rattle.std.proofs.Common.{◌≡◌, ℕ, ◌+◌, ◌^◌, ◌<◌, sym, ◌∙◌, subst, arith}
 use Rattle.ist_core.specs.declared.events.Event.{Event}
 use Rattle.ist_core.specs.References.{ref_of}
 use Rattle.ist_core.specs.Logs.{Passes}
@@ -7,7 +7,6 @@ use Rattle.ist_core.specs.Marking.{CountsFor, of_child, of_target}
 use Rattle.ist_core.specs.Rebuilding.{IsFinishedWith}
 use Rattle.ist_core.specs.Snapshots.{Snapshot}
 use Rattle.ist_rule.specs.declared.view.View.{View}
-use Rattle.ist_rule.specs.Rule.{IsSound}
 use Rattle.ist_rule.specs.Learning.{now}
 use Rattle.ist_rule.specs.Going.{WentOn}
 use Rattle.ist_rule.proofs.WentOnLemmas.{went_who}
@@ -74,20 +73,22 @@ slot_counted {P = P} v w g node i k here a c =
     one_slot_more c.word (counted_went P v w g node i k a) c.frozen c.counts
 
 -- the sum of slots that were counted, with one more, is no great number
-pub sum_low : (v w : View) → IsSound v → IsSound w → (node degree i k here : ℕ)
-    → MayPass v node degree → i < degree → AreCounted (now v) v.log node i k
-    → IsSlotCounted w node i here → k + here < 2 ^ 64
-sum_low v w s r node degree i k here m less a c =
-    let low = degree_low v s node degree m in
-    let few = counted_few v.start v.words s.lawful.opens v.log s.lawful.enabled node i k a in
+pub sum_low : (v u w : View) (node degree i k here : ℕ) → AreCounted (now u) u.log node i k
+    → IsSlotCounted w node i here → i < degree → MayPass v node degree → WentOn (Marks u node) v u
+    → WentOn (Marks w node) u w → k + here < 2 ^ 64
+sum_low v u w node degree i k here a c less m g h =
+    let s = g.sound in
+    let r = h.sound in
+    let low = degree_low u s node degree (may_pass_went (Marks u node) v u g node degree m) in
+    let few = counted_few u.start u.words s.lawful.opens u.log s.lawful.enabled node i k a in
     let more = count_few w.start w.words r.lawful.opens w.log r.lawful.enabled (ref_of c.word) here
     c.counts in
     omega arith
 
 -- a node whose slots were all counted may be finished
-pub all_counted : {P : Event → Type 0} (v w : View) → WentOn P v w → (node degree k : ℕ) → MayPass v node degree
-    → AreCounted (now w) w.log node degree k → MayFinish w node k
-all_counted {P = P} v w g node degree k m a =
+pub all_counted : {P : Event → Type 0} (v w : View) (node degree i k : ℕ) → MayPass v node degree
+    → AreCounted (now w) w.log node i k → i ≡ degree → WentOn P v w → MayFinish w node k
+all_counted {P = P} v w node degree i k m a last g =
     let here = may_pass_went P v w g node degree m in
     record {
       number = here.number;
@@ -95,5 +96,5 @@ all_counted {P = P} v w g node degree k m a =
       row = here.row;
       published = here.published;
       closed = here.closed;
-      counted = subst (λ n. AreCounted (now w) w.log node n k) (sym here.degree_is) a;
+      counted = subst (λ n. AreCounted (now w) w.log node n k) (last ∙ sym here.degree_is) a;
     }

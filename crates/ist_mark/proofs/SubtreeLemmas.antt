@@ -5,6 +5,7 @@ use Rattle.ist_core.specs.declared.events.Event.TheVariants.{Reserve, Install, O
 use Rattle.ist_core.specs.Logs.{Log, Passes}
 use Rattle.ist_core.specs.Snapshots.{Snapshot}
 use Rattle.laws_links.proofs.FinishedLemmas.{target_grows}
+use Rattle.ist_rule.specs.declared.view.TableName.{TableName}
 use Rattle.ist_rule.specs.declared.view.View.{View}
 use Rattle.ist_rule.specs.Faces.{TokenFace}
 use Rattle.ist_rule.specs.Rule.{IsSound}
@@ -185,8 +186,9 @@ mark_help node base a b c first met went search =
     }
 
 -- the token of a caller that only marked is of its table still
-pub mark_table : (node : ℕ) (a b : TokenFace) → HasMarked node a b → b.view.table ≡ a.view.table
-mark_table node a b h = ap (λ (v : View). v.table) h.went.same
+pub table_on : (node : ℕ) (a b : TokenFace) (t : TableName) → HasMarked node a b → a.view.table ≡ t
+    → b.view.table ≡ t
+table_on node a b t h is = ap (λ (v : View). v.table) h.went.same ∙ is
 
 -- a node that may be marked may be marked still
 pub may_mark_on : (node : ℕ) (a b : TokenFace) → HasMarked node a b → MayMark a.view node

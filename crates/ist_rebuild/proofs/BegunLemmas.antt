@@ -14,6 +14,7 @@ use Rattle.ist_rule.proofs.WentOnLemmas.{went_all, went_more}
 use Rattle.ist_rows.specs.declared.callers.Caller.{Caller}
 use Rattle.ist_rows.specs.Going.{IsQuiet}
 use Rattle.ist_rows.specs.Rows.{IsCaller}
+use Rattle.ist_rows.specs.Taken.{TakesNoWords}
 use Rattle.ist_dcss.specs.Helping.{Serves, IsDecided, IsOut}
 use Rattle.ist_dcss.specs.Installing.{Filling, IsInstalled, IsOther}
 use Rattle.ist_rebuild.specs.declared.answers.Started.{Started}
@@ -21,6 +22,7 @@ use Rattle.ist_rebuild.specs.declared.answers.Started.TheVariants.{Yes, Other, M
 use Rattle.ist_rebuild.specs.Going.{Begins, StartsAt}
 use Rattle.ist_rebuild.specs.Starting.{ReservesNeeded, StartsDoneSince, StartsNone, StoodInstead}
 use Rattle.ist_rebuild.specs.StartSteps.{HasBegun, HasReserved, IsStartReady, TellsStart, start_filling}
+use Rattle.ist_rebuild.proofs.FewLemmas.{none_installed}
 use Rattle.ist_rebuild.proofs.StartAnswerLemmas.{after_done, after_uninstalled, after_unstarted, has_put, no_closed, no_done, no_start, put_aims, put_begins, same_answer, same_word, yes_done, yes_started}
 use Rattle.ist_rebuild.proofs.StartGoingLemmas.{HasPutIn, aims_reserving, begins_reserving}
 use Rattle.ist_rebuild.proofs.StartOwnLemmas.{starts_none_reserving, starts_reserving}
@@ -166,49 +168,61 @@ module _ (who : Caller) (parent index target rebuild change : ℕ) (f : Filling)
         token.view last.view is i helped d
 
     -- it was installed and is out of its slot
-    pub put_begun : (said : Bool) → IsDecided last.view change said → IsOut last.view change
-        → HasBegun target who bare
+    put_begun : (said : Bool) → IsDecided last.view change said → IsOut last.view change
+        → HasBegun target who bare × TakesNoWords who bare
     put_begun said d out =
-        let bases = start_bases who.number parent index target rebuild change f is in
-        record {
-          caller = put_caller who rebuild change ready.rows ready.caller f bases token i last helped;
-          number = refl;
-          fresh = (refl, refl);
-          went = put_begins who parent index target rebuild change f ready s last.view said
-              (put said d);
-          aims = put_aims who parent index target rebuild change f ready s last.view said
-              (put said d);
-          quiet = put_quiet who rebuild change ready.rows ready.caller f bases token i last helped
-              ready.quiet out;
-          refused = put_refused who rebuild change ready.rows ready.caller f bases token i last
-              helped;
-        }
+        let bases = start_bases who.number parent index target rebuild change f is in (
+          record {
+            caller = put_caller who rebuild change ready.rows ready.caller f bases token i last helped;
+            number = refl;
+            fresh = (refl, refl);
+            went = put_begins who parent index target rebuild change f ready s last.view said
+                (put said d);
+            aims = put_aims who parent index target rebuild change f ready s last.view said
+                (put said d);
+            quiet = put_quiet who rebuild change ready.rows ready.caller f bases token i last helped
+                ready.quiet out;
+            refused = put_refused who rebuild change ready.rows ready.caller f bases token i last
+                helped;
+          },
+          none_installed who f change token bare ready.caller.mine i helped refl,
+        )
 
     -- it was decided yes
-    pub yes_told : IsDecided last.view change true
-        → TellsStart who bare parent index target (Ok (Yes rebuild))
-    yes_told d =
-        record {
-          yes = λ other e. yes_started who parent index target rebuild change f ready s last.view
-              (put true d) other (same_answer (Yes rebuild) (Yes other) e);
-          other = λ word e. absurd (cc e);
-          marked = λ e. absurd (cc e);
-          done = yes_done who parent index target rebuild change f ready s last.view (put true d);
-          unstarted = tt;
-          uninstalled = tt;
-        }
+    pub put_yes : IsDecided last.view change true → IsOut last.view change
+        → HasBegun target who bare × TakesNoWords who bare
+        × TellsStart who bare parent index target (Ok (Yes rebuild))
+    put_yes d out =
+        let begun = put_begun true d out in (
+          begun.0,
+          begun.1,
+          record {
+            yes = λ other e. yes_started who parent index target rebuild change f ready s last.view
+                (put true d) other (same_answer (Yes rebuild) (Yes other) e);
+            other = λ word e. absurd (cc e);
+            marked = λ e. absurd (cc e);
+            done = yes_done who parent index target rebuild change f ready s last.view (put true d);
+            unstarted = tt;
+            uninstalled = tt;
+          },
+        )
 
     -- it was decided no
-    pub no_told : IsDecided last.view change false
-        → TellsStart who bare parent index target (Ok Marked)
-    no_told d =
-        record {
-          yes = λ other e. absurd (cc e);
-          other = λ word e. absurd (cc e);
-          marked = λ e. no_closed who parent index target rebuild change f ready s last.view
-              (put false d);
-          done = no_done who parent index target rebuild change f ready s last.view (put false d);
-          unstarted = no_start who parent index target rebuild change f ready s last.view
-              (put false d);
-          uninstalled = tt;
-        }
+    pub put_no : IsDecided last.view change false → IsOut last.view change
+        → HasBegun target who bare × TakesNoWords who bare
+        × TellsStart who bare parent index target (Ok Marked)
+    put_no d out =
+        let begun = put_begun false d out in (
+          begun.0,
+          begun.1,
+          record {
+            yes = λ other e. absurd (cc e);
+            other = λ word e. absurd (cc e);
+            marked = λ e. no_closed who parent index target rebuild change f ready s last.view
+                (put false d);
+            done = no_done who parent index target rebuild change f ready s last.view (put false d);
+            unstarted = no_start who parent index target rebuild change f ready s last.view
+                (put false d);
+            uninstalled = tt;
+          },
+        )

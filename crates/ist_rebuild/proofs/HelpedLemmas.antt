@@ -208,3 +208,8 @@ pub helped_loads : (old mid : Caller) (token : TokenFace) → HasHelped old mid
 helped_loads old mid token h g =
     helped_more old mid (record mid { token = token }) h
     (loads_helped mid token (still_ready h.on) g)
+
+-- a caller that is ready after steps of help is ready after loads too
+pub ready_loads : (old mid : Caller) (token : TokenFace) → HasHelped old mid
+    → GoesOnTo mid.token.view token.view → IsReady (record mid { token = token })
+ready_loads old mid token h g = still_ready (helped_loads old mid token h g).on

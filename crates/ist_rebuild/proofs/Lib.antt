@@ -17,7 +17,9 @@ pub mod FewLemmas
 pub mod StoredLemmas
 pub mod SiteLemmas
 pub mod SlotLemmas
+pub mod SettleLemmas
 pub mod RefusalLemmas
+pub mod TryLemmas
 pub mod BuiltOutLemmas
 pub mod PreparedLemmas
 pub mod HelpedFinishLemmas

@@ -4,6 +4,7 @@ use Rattle.ist_core.specs.declared.states.ChangeRow.{ChangeRow}
 use Rattle.ist_core.specs.Installing.{IsUnrefused}
 use Rattle.ist_core.specs.Pieces.{Change, words_of}
 use Rattle.ist_core.specs.Rebuilding.{IsUpdate}
+use Rattle.ist_core.specs.RowLayout.{change_words}
 use Rattle.ist_core.specs.Statuses.{finish_kind}
 use Rattle.ist_rule.specs.declared.view.View.{View}
 use Rattle.ist_rule.specs.Learning.{now}
@@ -13,6 +14,7 @@ use Rattle.ist_rows.specs.declared.callers.Caller.{Caller}
 use Rattle.ist_rows.specs.declared.kinds.Kind.TheVariants.{Change as ChangeKind}
 use Rattle.ist_rows.specs.CallerLaws.{InstallsNone}
 use Rattle.ist_rows.specs.Filling.{filled_with}
+use Rattle.ist_rows.specs.Taken.{HasTakenFew}
 use Rattle.ist_rows.proofs.FillingLemmas.{stored_at}
 use Rattle.ist_dcss.specs.Installing.{IsInstallable}
 use Rattle.ist_build.specs.Calls.{Builds}
@@ -21,6 +23,8 @@ use Rattle.ist_rebuild.specs.Finishing.{IsPlan, IsPrepared, filling_at, finish_r
 use Rattle.ist_rebuild.specs.Helping.{HasHelped}
 use Rattle.ist_rows.specs.Going.{IsReady}
 use Rattle.ist_rebuild.specs.Going.{ServesRebuild}
+use Rattle.ist_rebuild.specs.Needs.{wanting}
+use Rattle.ist_rebuild.proofs.FewLemmas.{few_row}
 use Rattle.ist_rebuild.proofs.HelpedLemmas.{HasRow, own_helped, helped_more, took_row}
 use Rattle.ist_rebuild.proofs.EventLemmas.{builds_install_none}
 use Rattle.ist_rebuild.proofs.OwnChangeLemmas.{unrefused_went}
@@ -99,10 +103,11 @@ module _ (mid : Caller) (plan : PlannedFinish) (change : ℕ) (row : mid.change 
 
 -- ---- from the reserving on
 
--- the caller has helped, and its change row is prepared
+-- the caller has helped, its change row is prepared, and it took few words for it
 pub record HasPreparedFinish (old who : Caller) (plan : PlannedFinish) (change : ℕ) : Type 0 where
   pub helped : HasHelped old who
   pub prepared : IsPrepared who plan change
+  pub few : HasTakenFew (wanting old.change change_words) 0 old who
 
 -- a caller that reserved and filled its change row has helped and prepared it
 pub has_prepared : (old mid who : Caller) (plan : PlannedFinish) (change : ℕ) (words : List ℕ) → IsReady old
@@ -126,4 +131,5 @@ has_prepared old mid who plan change words ready s p unrefused row words_are sto
       prepared = filled_prepared mid plan change t.row words words_are (still_ready filled.on) here
           (plan_went ServesRebuild old.token.view w all.on.gone.went plan p)
           (subst (λ n. IsUnrefused (now mid.token.view) n plan.parent) (sym row.number) none);
+      few = few_row old mid old.token.view.words (Ok change) ready.caller refl row.held row.fresh tt;
     }

@@ -62,6 +62,22 @@ refused_more u v w rebuild words full g h =
     short_from (WentOn ServesRebuild) (WentOn ServesRebuild) u v
     (λ x. went_more ServesRebuild u v x g) words full w h (λ asked. asked)
 
+-- so does that of an answer
+pub answer_refused : {A : Type 0} (r : Result A Full) (u v w : View) (was rebuild words : ℕ) → was ≡ rebuild
+    → WentOn ServesRebuild u v → IfErr r (λ full. IsHelpRefused v was words full w)
+    → IfErr r (λ full. IsHelpRefused u rebuild words full w)
+answer_refused (Ok a) u v w was rebuild words is g h = tt
+answer_refused (Err full) u v w was rebuild words is g h =
+    refused_more u v w rebuild words full g (subst (λ n. IsHelpRefused v n words full w) is h)
+
+-- and that of an answer of a build
+pub answer_short : {A : Type 0} (r : Result A Full) (u v w : View) (rebuild words : ℕ)
+    → WentOn ServesRebuild u v → IfErr r (λ full. RebuildIsShort v rebuild words full w)
+    → IfErr r (λ full. IsHelpRefused u rebuild words full w)
+answer_short (Ok a) u v w rebuild words g h = tt
+answer_short (Err full) u v w rebuild words g h =
+    refused_more u v w rebuild words full g (short_refused v w rebuild words full h)
+
 -- ---- answers
 
 -- what is true of the refusal that is passed on is true of the answer
@@ -69,3 +85,12 @@ pub passed_on : {A : Type 0} (answer : Result A Full) (full : Full) (P : Full �
     → IsErrAnd answer (λ x. x ≡ full) → P full → IfErr answer P
 passed_on (Ok a) full P same p = tt
 passed_on (Err e) full P same p = subst P (sym same) p
+
+-- such a refusal from an earlier view
+pub passed_more : {A : Type 0} (answer : Result A Full) (full : Full) (u v w : View) (rebuild words : ℕ)
+    → IsErrAnd answer (λ x. x ≡ full) → WentOn ServesRebuild u v
+    → IsHelpRefused v rebuild words full w
+    → IfErr answer (λ x. IsHelpRefused u rebuild words x w)
+passed_more answer full u v w rebuild words same g h =
+    passed_on answer full (λ x. IsHelpRefused u rebuild words x w) same
+    (refused_more u v w rebuild words full g h)

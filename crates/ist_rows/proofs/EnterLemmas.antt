@@ -1,5 +1,5 @@
 -- Entering: when it may be made, and what the new caller is. Serves `enter`.
-use Rattle.std.proofs.Common.{◌≡◌, ◌≢◌, ℕ, ◌+◌, ◌<◌, ◌≤◌, ◌⊎◌, ◌&&◌, ◌==◌, nat_lt, not, true, false, if◌then◌else◌, List, [], ◌∷◌, map, filter, Some, None, refl, sym, ap, ap₂, ◌∙◌, subst, le_refl, inl, inr, arith}
+use Rattle.std.proofs.Common.{◌≡◌, ◌≢◌, ℕ, ◌+◌, ◌<◌, ◌≤◌, ◌⊎◌, ◌&&◌, ◌==◌, nat_lt, not, true, false, if◌then◌else◌, List, [], ◌∷◌, map, filter, Some, None, refl, sym, ap, ap₂, ◌∙◌, subst, inl, inr, arith}
 use Rattle.std.proofs.lemmas.Bool.Decides.{eqb_tells, nat_tests}
 use Rattle.ist_core.specs.declared.lists.HeldRow.{HeldRow}
 use Rattle.ist_core.specs.declared.events.Event.TheVariants.{Enter}
@@ -127,27 +127,6 @@ pub record Parts (v : View) (number : ℕ) (left right : View) : Type 0 where
   pub idle : IsIdleIn (CallerOf number) right.log
   pub held : held_by (now right) number ≡ []
 
--- the two parts of a maker that has entered a caller
-pub parts : (v w : View) (number : ℕ) → v.who ≡ Maker → Logged v (Enter number) w → IsSound w
-    → w.given ≡ number → w.given < w.made → Parts v number (split_left w) (split_right w)
-parts v w number who l s given less =
-    let maker : w.who ≡ Maker = ap (λ x. x.who) l.view ∙ who in
-    let g = gives_seat w maker less in
-    let right : split_right w ≡ plain w (CallerOf number) [] =
-    g.1 ∙ ap (λ n. plain w (CallerOf n) []) given in
-    record {
-      entered = record {
-        before = l.before;
-        later = l.later;
-        view = g.0 ∙ ap (λ (x : View). record x { given = x.given + 1 }) l.view;
-      };
-      token = right ∙ ap (λ x. plain x (CallerOf number) []) (sym g.0);
-      idle = subst (λ x. IsIdleIn (CallerOf number) x.log) (sym right)
-          (s.is_true.idle maker number (omega arith));
-      held = subst (λ x. held_by (now x) number ≡ []) (sym right)
-          (new_holds_none w number s maker (omega arith));
-    }
-
 no_rows : (kind : Kind) (base : ℕ)
     → row_of kind record { leaf = None; pair = None; change = None; rebuild = None } ≡ Some base → ⊥
 no_rows Leaf base e = cc
@@ -155,20 +134,56 @@ no_rows Pair base e = cc
 no_rows Change base e = cc
 no_rows Rebuild base e = cc
 
--- the caller that is given its token holds no row
-pub new_caller : (w : View) (who : Caller) → IsSound w → w.who ≡ Maker → w.given < w.made
-    → who.token.view ≡ split_right w → who.number ≡ w.given
-    → spares_of who ≡ record { leaf = None; pair = None; change = None; rebuild = None }
-    → IsCaller who
-new_caller w who s maker less view number none =
-    let g = gives_seat w maker less in
-    let now_is : now who.token.view ≡ now w = ap now (view ∙ g.1) in
-    let held : held_by (now who.token.view) who.number ≡ [] =
-    ap₂ held_by now_is number ∙ new_holds_none w w.given s maker (le_refl w.given) in
-    record {
-      mine = ap (λ x. x.who) (view ∙ g.1) ∙ ap CallerOf (sym number);
-      rows = λ kind base e. absurd (no_rows kind base (sym (ap (row_of kind) none) ∙ e));
-      builds = subst (λ xs. AreBuilds (now who.token.view)
-          (map (λ h. h.size) (filter (λ h. not (is_spare (spares_of who) h.base)) xs))) (sym held)
-          no_build;
-    }
+module _ (v w : View) (number : ℕ) (s : IsSound v) (who : v.who ≡ Maker) (all : v.given ≡ v.made)
+    (l : Logged v (Enter number) w) (sound : IsSound w) where
+  maker : w.who ≡ Maker
+  maker = ap (λ x. x.who) l.view ∙ who
+
+  -- the token that the maker gives next is the caller's
+  given : w.given ≡ number
+  given =
+      let e = entered v w number s who l in
+      omega arith
+
+  gives : (split_left w ≡ record w { given = w.given + 1 }) × (split_right w ≡ plain w (CallerOf number) [])
+  gives =
+      let e = entered v w number s who l in
+      let g = gives_seat w maker (omega arith) in
+      (g.0, g.1 ∙ ap (λ n. plain w (CallerOf n) []) given)
+
+  none_held_yet : held_by (now w) number ≡ []
+  none_held_yet =
+      let same = given in
+      new_holds_none w number sound maker (omega arith)
+
+  -- the two parts of a maker that has entered a caller
+  pub parts : (left right : View) → left ≡ split_left w → right ≡ split_right w
+      → Parts v number left right
+  parts left right left_is right_is =
+      let same = given in
+      let right : right ≡ plain w (CallerOf number) [] = right_is ∙ gives.1 in
+      record {
+        entered = record {
+          before = l.before;
+          later = l.later;
+          view = left_is ∙ gives.0 ∙ ap (λ (x : View). record x { given = x.given + 1 }) l.view;
+        };
+        token = right ∙ ap (λ x. plain x (CallerOf number) []) (sym (left_is ∙ gives.0));
+        idle = subst (λ x. IsIdleIn (CallerOf number) x.log) (sym right)
+            (sound.is_true.idle maker number (omega arith));
+        held = subst (λ x. held_by (now x) number ≡ []) (sym right) none_held_yet;
+      }
+
+  -- the caller that is given its token holds no row
+  pub new_caller : (c : Caller) → c.token.view ≡ split_right w → c.number ≡ number
+      → spares_of c ≡ record { leaf = None; pair = None; change = None; rebuild = None } → IsCaller c
+  new_caller c view is none =
+      let same : c.token.view ≡ plain w (CallerOf number) [] = view ∙ gives.1 in
+      let held : held_by (now c.token.view) c.number ≡ [] = ap₂ held_by (ap now same) is ∙ none_held_yet in
+      record {
+        mine = ap (λ x. x.who) same ∙ ap CallerOf (sym is);
+        rows = λ kind base e. absurd (no_rows kind base (sym (ap (row_of kind) none) ∙ e));
+        builds = subst (λ xs. AreBuilds (now c.token.view)
+            (map (λ h. h.size) (filter (λ h. not (is_spare (spares_of c) h.base)) xs))) (sym held)
+            no_build;
+      }

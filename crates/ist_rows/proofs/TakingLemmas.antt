@@ -1,5 +1,5 @@
 -- An exchange of the first free word, once that word was read. Serves `take` and `take_all`.
-use Rattle.std.proofs.Common.{◌≡◌, ◌≢◌, ◌∙◌, ℕ, ◌+◌, ◌-◌, ◌<◌, ◌≤◌, ◌^◌, List, length, sym, ap, subst, arith}
+use Rattle.std.proofs.Common.{◌≡◌, ◌≢◌, ◌∙◌, ℕ, ◌+◌, ◌-◌, ◌<◌, ◌≤◌, ◌^◌, List, length, refl, sym, ap, subst, arith}
 use Rattle.std.specs.List.{sum}
 use Rattle.ist_core.specs.declared.events.Who.TheVariants.{Caller}
 use Rattle.ist_core.specs.RowLayout.{next_place, place_limit}
@@ -11,7 +11,7 @@ use Rattle.ist_rule.specs.Watching.{number_of}
 use Rattle.ist_rule.proofs.GoingOnLemmas.{goes_on_who}
 use Rattle.ist_rows.specs.Block.{MayTakeAll, ReservedAll, reservings}
 use Rattle.ist_rows.specs.Fairly.{MayTake, reserving}
-use Rattle.ist_rows.specs.Rows.{HasReadNext, Reserved}
+use Rattle.ist_rows.specs.Rows.{HasReadNext, IsFull, Reserved}
 use Rattle.ist_rows.proofs.BlockLemmas.{can_reserve_all, may_take_all_on}
 use Rattle.ist_rows.proofs.ReserveLemmas.{can_reserve, looked_next, may_take_on, next_low, next_risen, read_on, reserving_is}
 
@@ -35,6 +35,17 @@ module _ (v u : View) (next : ℕ) (r : HasReadNext v next u) where
       let most = low.0 in
       let all = low.1 in
       omega arith
+
+  -- if too few words are left after it, nothing is reserved
+  pub is_full : (words left size : ℕ) → left ≡ words → left < next + size
+      → IsFull v words size record { next = next; asked = size; words = left } u
+  is_full words left size is small =
+      record {
+        before = r.before;
+        seen = r.seen;
+        looked = r.looked;
+        few = record { words_is = is; small = omega arith; asked = refl };
+      }
 
   module _ (number : ℕ) (who : v.who ≡ Caller number) where
     mine : u.who ≡ Caller number

@@ -8,7 +8,6 @@ use Rattle.ist_core.specs.declared.events.Event.TheVariants.{Reserve, Install, R
 use Rattle.ist_core.specs.Elements.{Among, Each}
 use Rattle.ist_core.specs.Pieces.{Change}
 use Rattle.ist_core.specs.Snapshots.{Snapshot, bases_of}
-use Rattle.ist_core.specs.After.{resolved}
 use Rattle.ist_core.specs.StartLayout.{start, rows_within, rows_from, placed_parts}
 use Rattle.ist_core.specs.Logs.{Log, state}
 use Rattle.ist_core.specs.Enabled.{Enabled}

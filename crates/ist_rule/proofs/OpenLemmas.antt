@@ -3,6 +3,7 @@ use Rattle.std.proofs.Common.{◌≡◌, ◌≢◌, ℕ, zero, suc, List, [], �
 use mathlib.Core.Option.{some, some-injective, some-ne-none}
 use lib.ListN.{get_elem?}
 use mathlib.Core.Option as maybe
+use Rattle.atomic_table.specs.Seated.{TableId}
 use Rattle.atomic_table.specs.Table.{opening, step, keeps, Allows, Final, Seen}
 use Rattle.ist_core.specs.declared.pairs.Pair.{Pair}
 use Rattle.ist_core.specs.StartLayout.{start}
@@ -26,6 +27,7 @@ use Rattle.ist_rule.proofs.HeldLemmas.{idle_between}
 use Rattle.ist_rule.proofs.SpeakLemmas.{none_linear, working_linear}
 use Rattle.ist_rule.specs.Rule.{IsHeard, KeepsCalls, its_own, noted, IsWellMade, IsTrueIn, IsRetired, IsSound, Fits, Kept, no_table, opened_view, first_view}
 use Rattle.ist_rule.specs.Seating.{HasImage, IsLast, IsNewMaker}
+use Rattle.ist_rule.specs.Faces.{name_of}
 use Rattle.ist_rule.specs.Playing.{Seated, names}
 use Rattle.ist_rule.proofs.LookLemmas.{quiet}
 use Rattle.ist_rule.proofs.TimedLemmas.{timed_view}
@@ -67,10 +69,13 @@ only v zero u e = (some-injective v u e, refl)
 only v (suc i) u e = absurd (some-ne-none u (sym e))
 
 -- a new table is under the rule
-pub opens : (k : About) (words : List ℕ) → CanOpen k.start.value.items k.words
-    → IsImage (start k.start.value.items k.words) words → Kept k (opening words [] (first_view k))
-opens k words can image =
+pub opens : (k : About) (words : List ℕ) {pairs : List Pair} → k.start.value.items ≡ pairs
+    → CanOpen pairs k.words → IsImage (start pairs k.words) words
+    → Kept k (opening words [] (first_view k))
+opens k words same opened of_pairs =
     let v = first_view k in
+    let can = subst (λ p. CanOpen p k.words) (sym same) opened in
+    let image = subst (λ p. IsImage (start p k.words) words) (sym same) of_pairs in
     record {
       log = [];
       lawful = record { opens = can; enabled = tt };
@@ -160,12 +165,12 @@ names_moves k slots id me table live s r _ mine fits =
     )
 
 -- a new table's token knows its table, and else what the first view knows
-pub named_view : (table : TableName) (k : About) (pairs : List Pair) (v w : View)
-    → w ≡ record v { table = table } → v ≡ first_view k → k.start.value.items ≡ pairs
-    → w ≡ opened_view table pairs k.words
-named_view table k pairs v w named first same =
-    named ∙ ap (λ (x : View). record x { table = table }) first
-    ∙ ap (λ p. opened_view table p k.words) same
+pub named_view : (k : About) {x y : TableId} {pairs : List Pair} {v w : View}
+    → w ≡ record v { table = name_of x } → v ≡ first_view k → k.start.value.items ≡ pairs → x ≡ y
+    → w ≡ opened_view (name_of y) pairs k.words
+named_view k {x = x} {pairs = pairs} named first same table =
+    named ∙ ap (λ (v : View). record v { table = name_of x }) first
+    ∙ ap (λ p. opened_view (name_of x) p k.words) same ∙ ap (λ t. opened_view (name_of t) pairs k.words) table
 
 -- the first view with its table's name is sound
 pub opened_sound : (table : TableName) (pairs : List Pair) (words : ℕ) → CanOpen pairs words

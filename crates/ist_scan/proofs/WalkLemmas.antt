@@ -149,12 +149,6 @@ module _ (pairs : List Pair) (rising : IsStrictlyIncreasing (map (λ p. p.key) p
 
 -- ---- walks
 
--- the pairs of a shot, for a pass that has looked and a walk that goes on
-pub pairs_now : (p q : PassFace) (shot : Frozen) (v w : WalkFace) → HasOnlyLooked p q → AreOneWalk v w
-    → v.shot ≡ shot → (pairs : List Pair) → ArePairsOf p shot pairs → ArePairsOf q w.shot pairs
-pairs_now p q shot v w looked one its pairs h =
-    subst (λ s. ArePairsOf q s pairs) (sym (one.shot ∙ its)) (looked.pairs shot pairs h)
-
 -- the pairs cut a walk that has begun
 record HasBegunBy (pairs : List Pair) (w : WalkFace) : Type 0 where
   start : ℕ
@@ -162,13 +156,18 @@ record HasBegunBy (pairs : List Pair) (w : WalkFace) : Type 0 where
   next_is : w.next ≡ start + w.given
 
 -- what comes next in a walk that has begun, by the pair whose number it has reached; stated of the
--- walk as it was
-module _ (p : PassFace) (v w : WalkFace) (b : WalkHasBegun p w) (one : AreOneWalk v w)
-    (given : w.given ≡ v.given) (pairs : List Pair) (h : ArePairsOf p w.shot pairs) where
+-- walk as it was, and of the pass before it looked
+module _ (p q : PassFace) (shot : Frozen) (v w : WalkFace) (looked : HasOnlyLooked p q)
+    (b : WalkHasBegun q w) (one : AreOneWalk v w) (given : w.given ≡ v.given) (its : v.shot ≡ shot)
+    (pairs : List Pair) (before : ArePairsOf p shot pairs) where
+  -- they are the pairs of the shot of the walk too
+  its_pairs : ArePairsOf q w.shot pairs
+  its_pairs = subst (λ s. ArePairsOf q s pairs) (sym (one.shot ∙ its)) (looked.pairs shot pairs before)
+
   -- the pairs that the walk was cut by
   these : HasBegunBy pairs w
   these =
-      let same = one_pairs p w.shot b.pairs pairs b.has h in
+      let same = one_pairs q w.shot b.pairs pairs b.has its_pairs in
       record { start = b.start; cut = subst (λ l. CutsAt l w.first b.start) same b.cut; next_is = b.next_is }
 
   as_it_was : slice_get (pairs_between w.first w.last pairs) w.given
@@ -178,25 +177,36 @@ module _ (p : PassFace) (v w : WalkFace) (b : WalkHasBegun p w) (one : AreOneWal
       ∙ ap (λ n. slice_get (pairs_between v.first n pairs) w.given) one.last
       ∙ ap (slice_get (pairs_between v.first v.last pairs)) given
 
+  -- the pair that was looked at is the one that the walk has reached
+  reached : (u : WalkFace) (now : Frozen) (x : Pair) → u ≡ w → now ≡ shot
+      → ((found : List Pair) → ArePairsOf q now found → slice_get found u.next ≡ Some x)
+      → slice_get pairs (these.start + w.given) ≡ Some x
+  reached u now x is same at =
+      ap (slice_get pairs) (sym (ap (λ v. v.next) is ∙ these.next_is))
+      ∙ at pairs (subst (λ s. ArePairsOf q s pairs) (sym same) (looked.pairs shot pairs before))
+
   -- if the pair is in the interval, it is the next one
-  pub comes : (x : Pair) → slice_get pairs w.next ≡ Some x → x.key ≤ w.last
-      → Some x ≡ slice_get (pairs_between v.first v.last pairs) v.given
-  comes x at low =
-      sym (next_is pairs h.rising w.first w.last these.start w.given these.cut x
-      (ap (slice_get pairs) (sym these.next_is) ∙ at) low) ∙ as_it_was
+  pub comes : (u : WalkFace) (now : Frozen) (x : Pair) → u ≡ w → now ≡ shot
+      → ((found : List Pair) → ArePairsOf q now found → slice_get found u.next ≡ Some x)
+      → x.key ≤ u.last → Some x ≡ slice_get (pairs_between v.first v.last pairs) v.given
+  comes u now x is same at low =
+      sym (next_is pairs its_pairs.rising w.first w.last these.start w.given these.cut x
+      (reached u now x is same at) (subst (λ v. x.key ≤ v.last) is low)) ∙ as_it_was
 
   -- if the pair is above the interval, no pair comes next
-  pub ends_above : (x : Pair) → slice_get pairs w.next ≡ Some x → w.last < x.key
-      → None ≡ slice_get (pairs_between v.first v.last pairs) v.given
-  ends_above x at over =
-      sym (none_above pairs h.rising w.first w.last these.start w.given these.cut x
-      (ap (slice_get pairs) (sym these.next_is) ∙ at) over) ∙ as_it_was
+  pub ends_above : (u : WalkFace) (now : Frozen) (x : Pair) → u ≡ w → now ≡ shot
+      → ((found : List Pair) → ArePairsOf q now found → slice_get found u.next ≡ Some x)
+      → u.last < x.key → None ≡ slice_get (pairs_between v.first v.last pairs) v.given
+  ends_above u now x is same at over =
+      sym (none_above pairs its_pairs.rising w.first w.last these.start w.given these.cut x
+      (reached u now x is same at) (subst (λ v. v.last < x.key) is over)) ∙ as_it_was
 
   -- if all pairs were given, no pair comes next
-  pub ends_with_all : w.shot.keys ≤ w.next
+  pub ends_with_all : (u : WalkFace) (now : Frozen) → u ≡ w → now ≡ shot → now.keys ≤ u.next
       → None ≡ slice_get (pairs_between v.first v.last pairs) v.given
-  ends_with_all all =
-      let long = h.number in
-      let next = these.next_is in
-      sym (none_left pairs h.rising w.first w.last these.start w.given these.cut (omega arith))
+  ends_with_all u now is same all =
+      let long = before.number in
+      let keys : now.keys ≡ shot.keys = ap (λ s. s.keys) same in
+      let next : u.next ≡ these.start + w.given = ap (λ v. v.next) is ∙ these.next_is in
+      sym (none_left pairs its_pairs.rising w.first w.last these.start w.given these.cut (omega arith))
       ∙ as_it_was

@@ -1,6 +1,6 @@
 -- Attempts to rebuild a row, and what several come to. Serves `help_own`, `help_other`, `try_due` and
 -- `rebuild_due`.
-use Rattle.std.proofs.Common.{◌≡◌, ◌⊎◌, ◌↔◌, ℕ, Bool, true, not, IsTrue, Some, Result, Ok, Err, IsErrAnd, inl, inr, sym, subst}
+use Rattle.std.proofs.Common.{◌≡◌, ◌⊎◌, ◌↔◌, ℕ, Bool, true, not, IsTrue, Some, Result, Ok, Err, IsErrAnd, inl, inr, sym, ap, subst}
 use Rattle.ist_core.specs.declared.ports.Full.{Full}
 use Rattle.ist_core.specs.Logs.{Happened, Resolves}
 use Rattle.ist_core.specs.Rebuilding.{IsReplaced}
@@ -11,6 +11,7 @@ use Rattle.ist_rule.specs.Faces.{TokenFace}
 use Rattle.ist_rule.specs.Going.{WentOn}
 use Rattle.ist_rule.specs.Learning.{GoesOnTo, now}
 use Rattle.ist_rule.specs.Rule.{IsSound}
+use Rattle.ist_rule.specs.Watching.{IsNode, is_inner}
 use Rattle.ist_rule.proofs.WentOnLemmas.{goes_on_went, went_grow}
 use Rattle.ist_rows.specs.declared.callers.Caller.{Caller}
 use Rattle.ist_rows.specs.Going.{IsReady}
@@ -19,16 +20,18 @@ use Rattle.ist_dcss.specs.Helping as dcss
 use Rattle.ist_build.specs.Calls.{IsBuildable}
 use Rattle.ist_rebuild.specs.Going.{ServesRebuild}
 use Rattle.ist_rebuild.specs.Helping.{HasHelped, IsHelpRefused, IsLeftToParent}
-use Rattle.ist_rebuild.specs.Starting.{IsStartedAt, MayStart, StartsDoneBut, StartsDoneSince, StoodInstead}
+use Rattle.ist_rebuild.specs.declared.answers.Started.{Started}
+use Rattle.ist_rebuild.specs.declared.answers.Started.TheVariants as start
+use Rattle.ist_rebuild.specs.Starting.{IsStartedAt, LeavesDone, MayStart, StartsDoneBut, StartsDoneSince, StoodInstead}
 use Rattle.ist_updates.specs.declared.updates.Due.{Due}
 use Rattle.ist_tree.specs.declared.rebuilding.Instead.TheVariants.{Other}
 use Rattle.ist_tree.specs.Attempts.{GoesFor, HelpsOther, HelpsOwn, RebuildsRow, TriesOnce}
 use Rattle.ist_tree.specs.Working.{IsDueRefused, KeepsDone, Rebuilds, instead_of}
 use Rattle.ist_tree.proofs.DueFurtherLemmas.{due_further}
-use Rattle.ist_tree.proofs.DueLemmas.{done_more, goes_more, goes_none, helped_for, helped_shut, loaded_for, plain_for}
+use Rattle.ist_tree.proofs.DueLemmas.{done_more, goes_more, goes_none, helped_for, helped_shut, loaded_for, marked_leaves, other_leaves, plain_for, started, yes_leaves}
 use Rattle.ist_tree.proofs.EventLemmas.{help_aims, help_plain, serves_start_none}
 use Rattle.ist_tree.proofs.InsteadLemmas.{change_helped, none_helped, rebuild_helped}
-use Rattle.ist_tree.proofs.RebuildLemmas.{load_plain, plain_done, starts_went}
+use Rattle.ist_tree.proofs.RebuildLemmas.{load_plain, may_start_went, plain_done, starts_went}
 use Rattle.ist_tree.proofs.ShortLemmas.{due_refused_more, other_refused, own_refused}
 use Rattle.ist_tree.proofs.HelpedRebuildLemmas.{all_done, not_open_shut, not_shut_open, same_ok}
 
@@ -120,12 +123,12 @@ other_none who due words word s r is =
 -- ---- one attempt
 
 -- an attempt that was refused, which is handed on
-pub tried_short : (old new : Caller) (due : Due) (words : ℕ) (answer : Result Bool Full)
-    (full : Full) → IsErrAnd answer (λ x. x ≡ full) → GoesFor old new due.target
+pub tried_short : {old new : Caller} {due : Due} {words : ℕ} {full : Full} (answer : Result Bool Full)
+    → IsErrAnd answer (λ x. x ≡ full) → GoesFor old new due.target
     → IsDueRefused (now old.token.view) new.token.view due words full
     → TriesOnce old new due words answer
-tried_short old new due words (Ok a) full same on refused = absurd same
-tried_short old new due words (Err e) full same on refused =
+tried_short (Ok a) same on refused = absurd same
+tried_short {old} {new} {due} {words} {full} (Err e) same on refused =
     record {
       on = on;
       last = tt;
@@ -135,60 +138,79 @@ tried_short old new due words (Err e) full same on refused =
     }
 
 -- the same, after a start that wasn't refused
-pub later_short : (a b c : Caller) (due : Due) (words : ℕ) (answer : Result Bool Full)
-    (full : Full) → IsErrAnd answer (λ x. x ≡ full) → GoesFor a b due.target
-    → GoesFor b c due.target → IsDueRefused (now b.token.view) c.token.view due words full
-    → TriesOnce a c due words answer
-later_short a b c due words answer full same one two refused =
-    tried_short a c due words answer full same (goes_more a b c due.target one two)
+pub later_short : {a b c : Caller} {due : Due} {words : ℕ} {full : Full} (answer : Result Bool Full)
+    → IsErrAnd answer (λ x. x ≡ full) → GoesFor a b due.target → GoesFor b c due.target
+    → IsDueRefused (now b.token.view) c.token.view due words full → TriesOnce a c due words answer
+later_short {a} {b} {c} {due} {words} {full} answer same one two refused =
+    tried_short answer same (goes_more a b c due.target one two)
     (due_refused_more (now a.token.view) (now b.token.view)
     (went_grow Rebuilds a.token.view b.token.view one.on.gone.went) c.token.view due words full
     refused)
 
+-- what a start with this answer leaves done
+abbrev StartLeaves : Caller → Caller → Started → Type 0
+StartLeaves old new answer =
+    (first : Snapshot) → StartsDoneSince first (now old.token.view) old.number
+    → LeavesDone first (now new.token.view) old.number (Ok answer)
+
 -- the rebuild that was started was helped to its end
-pub own_tried : (a b c : Caller) (due : Due) (words rebuild : ℕ) → GoesFor a b due.target
-    → ((first : Snapshot) → StartsDoneSince first (now a.token.view) a.number
-    → StartsDoneBut first (now b.token.view) a.number rebuild)
+pub own_tried : {a b c : Caller} {due : Due} {words rebuild : ℕ} {answer : Started}
+    → GoesFor a b due.target → answer ≡ start.Yes rebuild → StartLeaves a b answer
     → HelpsOwn b c due words rebuild (Ok tt) → TriesOnce a c due words (Ok true)
-own_tried a b c due words rebuild one but h =
+own_tried {a} {b} {c} {due} {words} {rebuild} {answer} one is leaves h =
     record {
       on = goes_more a b c due.target one h.on;
       last = λ is. h.shut;
       further = λ is. absurd (cc);
       done = λ first done. subst (StartsDoneSince first (now c.token.view)) one.on.gone.number
           (h.done first (subst (λ n. StartsDoneBut first (now b.token.view) n rebuild)
-          (sym one.on.gone.number) (but first done)));
+          (sym one.on.gone.number)
+          (yes_leaves first (now b.token.view) a.number answer rebuild is (leaves first done))));
       full = tt;
     }
 
 -- the parent was marked
-pub marked_tried : (old new : Caller) (due : Due) (words : ℕ) → GoesFor old new due.target
-    → ¬ (IsOpen (now new.token.view) due.parent) → KeepsDone old new → TriesOnce old new due words (Ok true)
-marked_tried old new due words on closed done =
+pub marked_tried : {old new : Caller} {due : Due} {words : ℕ} {answer : Started}
+    → GoesFor old new due.target → answer ≡ start.Marked
+    → (started answer ≡ started start.Marked → ¬ (IsOpen (now new.token.view) due.parent))
+    → StartLeaves old new answer → TriesOnce old new due words (Ok true)
+marked_tried {old} {new} {due} {words} {answer} on is closed leaves =
     record {
       on = on;
-      last = λ is. inr closed;
+      last = λ last. inr (closed (ap started is));
       further = λ is. absurd (cc);
-      done = done;
+      done = λ first done.
+          marked_leaves first (now new.token.view) old.number answer is (leaves first done);
       full = tt;
     }
 
+-- the row is a node after both
+pub due_node : {a b c : Caller} {parent index target : ℕ} → GoesFor a b target → GoesFor b c target
+    → MayStart a.token.view parent index target → IsNode (now c.token.view) target
+due_node {a} {b} {c} {parent} {index} {target} one two may =
+    let on = goes_more a b c target one two in
+    let m = may_start_went Rebuilds a.token.view c.token.view on.on.gone.went parent index target may in
+    is_inner m.row m.published
+
 -- what the slot held instead was helped, and then it was looked if the row is open
-pub other_tried : (a b c : Caller) (token : TokenFace) (due : Due) (words word : ℕ) (opened : Bool)
-    → MayStart a.token.view due.parent due.index due.target → GoesFor a b due.target
-    → StoodInstead b.token.view due.parent due.index due.target word → KeepsDone a b
+pub other_tried : {a b c : Caller} {token : TokenFace} {due : Due} {words word : ℕ} {opened : Bool}
+    {answer : Started} → MayStart a.token.view due.parent due.index due.target
+    → GoesFor a b due.target → answer ≡ start.Other word
+    → ((word : ℕ) → started answer ≡ started (start.Other word)
+    → StoodInstead b.token.view due.parent due.index due.target word) → StartLeaves a b answer
     → HelpsOther b c due words word (Ok tt) → GoesOnTo c.token.view token.view
     → IsTrue opened ↔ IsOpen (now token.view) due.target
     → TriesOnce a (record c { token = token }) due words (Ok (not opened))
-other_tried a b c token due words word opened may one stood kept h seen iff =
+other_tried {a} {b} {c} {token} {due} {words} {word} {opened} {answer} may one is other leaves h seen iff =
     record {
       on = goes_more a b last due.target one
           (goes_more b c last due.target h.on (loaded_for c token due.target (still_ready h.on.on) seen));
       last = λ is. inl (not_open_shut opened (IsOpen (now token.view) due.target) iff is);
-      further = λ is.
+      further = λ shut.
           due_further Rebuilds Rebuilds a.token.view b.token.view c.token.view token.view due.parent
-          due.index due.target word may one.on.gone.went stood h.on.on.gone.went h.settled seen
-          (not_shut_open opened (IsOpen (now token.view) due.target) iff (same_ok _ _ is));
+          due.index due.target word may one.on.gone.went (other word (ap started is)) h.on.on.gone.went
+          h.settled seen
+          (not_shut_open opened (IsOpen (now token.view) due.target) iff (same_ok _ _ shut));
       done = done_more a b last one.on.gone.number kept
           (done_more b c last h.on.on.gone.number h.done
           (plain_done (λ event. ⊥) load_plain c token (still_ready h.on.on)
@@ -198,6 +220,10 @@ other_tried a b c token due words word opened may one stood kept h seen iff =
   where
     last : Caller
     last = record c { token = token }
+
+    kept : KeepsDone a b
+    kept first done =
+        other_leaves first (now b.token.view) a.number answer word is (leaves first done)
 
 -- ---- attempt after attempt
 

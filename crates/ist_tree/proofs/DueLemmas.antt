@@ -99,6 +99,10 @@ goes_more a b c target one two =
 
 -- ---- what starting left done
 
+-- what starting returns
+abbrev pub started : Started → Result Started Full
+started answer = Ok answer
+
 -- if a rebuild was started, all starts are done except its own
 pub yes_leaves : (first t : Snapshot) (number : ℕ) (answer : Started) (rebuild : ℕ)
     → answer ≡ Yes rebuild → LeavesDone first t number (Ok answer)

@@ -9,11 +9,10 @@ use Rattle.ist_core.specs.Shapes.{shape}
 use Rattle.ist_core.specs.Snapshots.{Snapshot}
 use Rattle.ist_rows.specs.declared.callers.Caller.{Caller}
 use Rattle.ist_rows.specs.Going.{StaysReady}
-use Rattle.ist_rows.specs.Taken.{HasTakenFew, HasTakenFewIn, IsLaterCaller}
+use Rattle.ist_rows.specs.Taken.{HasTakenFew, HasTakenFewIn, IsLaterCaller, took_few}
 use Rattle.ist_rows.proofs.FewLemmas.{later_went, few_low, few_more, few_out_more, few_wider}
 use Rattle.ist_build.specs.Calls.{IsTold}
 use Rattle.ist_rebuild.specs.Needs.{TakesNeeded, needed}
-use Rattle.ist_rebuild.proofs.FewLemmas.{few_left}
 use Rattle.ist_rebuild.proofs.NeedLemmas.{needed_most}
 use Rattle.ist_tree.specs.Freezing.{words_of_freeze}
 use Rattle.ist_tree.specs.FreezeSteps.{HasTakenFewUnless, IsRebuildOf}
@@ -30,7 +29,7 @@ pub few_met : (a b c : Caller) → StaysReady Rebuilds a b → StaysReady Rebuil
     → HasTakenFew (needed b) 0 b c → HasTakenFew (needed a) 0 a c
 few_met a b c on next few f =
     few_more a b c (after_ready a b on) (after_ready b c next) (needed a) (needed b) 0
-    (few_left a b few) f
+    (took_few few) f
 
 -- a call with an error is one with a refusal
 pub few_unless : {A : Type 0} (r : Result A Full) (n : ℕ) (old new : Caller)

@@ -97,24 +97,6 @@ pub record IsFreezeCall (who began new : Caller) (token : TokenFace) : Type 0 wh
   pub on : StaysReady Rebuilds began new
   pub given : TurnedAt new.token.view (giving_up new.token.view) token.view
 
--- so it goes
-pub way_of : (who began new : Caller) (token : TokenFace) → IsSound who.token.view → IsPass who
-    → began.number ≡ who.number → (n : ℕ)
-    → TurnedAt who.token.view (beginning_as who.token.view n) began.token.view → IsReady began
-    → StaysReady Rebuilds began new → TurnedAt new.token.view (giving_up new.token.view) token.view
-    → IsFreezeCall who began new token
-way_of who began new token s p number n begun ready on given =
-    record {
-      sound = s;
-      pass = p;
-      began_number = number;
-      n = n;
-      begun = begun;
-      ready = ready;
-      on = on;
-      given = given;
-    }
-
 -- its call may be given up: nothing of it is an entry
 pub may_give_up : (who began new : Caller) → IsSound who.token.view → IsPass who
     → began.number ≡ who.number → (n : ℕ)

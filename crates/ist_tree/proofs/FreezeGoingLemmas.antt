@@ -1,6 +1,6 @@
 -- A caller that looks below the anchor, and what it has met there over further steps. Serves the
 -- functions that freeze a tree.
-use Rattle.std.proofs.Common.{◌≡◌, ◌≢◌, ℕ, List, Option, Some, None, Result, Ok, Err, IfOk, IfErr, refl, sym, ap, ◌∙◌, subst, inr}
+use Rattle.std.proofs.Common.{◌≡◌, ℕ, List, Option, Some, None, Result, Ok, Err, IfOk, IfErr, refl, sym, ap, ◌∙◌, subst, inr}
 use Rattle.ist_core.specs.declared.events.Event.{Event}
 use Rattle.ist_core.specs.Authors.{LaterBy}
 use Rattle.ist_core.specs.declared.pairs.Pair.{Pair}
@@ -241,9 +241,9 @@ rebuild_on P v w g rebuild target r =
     }
 
 -- the one that was started
-pub begun_of : (t : View) (rebuild index target : ℕ)
-    → IsStartedAt (now t) rebuild anchor index target → IsRebuildOf (now t) rebuild target
-begun_of t rebuild index target s =
+pub begun_of : {t : Snapshot} {rebuild index target : ℕ}
+    → IsStartedAt t rebuild anchor index target → IsRebuildOf t rebuild target
+begun_of s =
     record {
       started = s.started;
       target_is = record { row = s.row; published = s.published; target_is = s.target_is };
@@ -269,9 +269,3 @@ pub err_both : {A : Type 0} (P R Q : Full → Type 0) (answer : Result A Full)
     → ((full : Full) → P full → R full → Q full) → IfErr answer P → IfErr answer R → IfErr answer Q
 err_both P R Q (Ok a) all h k = tt
 err_both P R Q (Err full) all h k = all full h k
-
--- if no site was met, the caller has only gone on
-pub none_met : (old new : Caller) (o : Option Site) → ((site : Site) → o ≢ Some site)
-    → MayHaveMet old new o → GoesIdle old new
-none_met old new (Some site) other m = absurd (other site refl)
-none_met old new None other m = m

@@ -1,5 +1,6 @@
 -- What is below the anchor, by the word in its slot. Serves `look` and what it calls.
-use Rattle.std.proofs.Common.{◌≡◌, ◌≢◌, ℕ, Some, refl, sym, ap, ◌∙◌, subst, inr}
+use Rattle.std.proofs.Common.{◌≡◌, ◌≢◌, ℕ, Some, refl, sym, ap, ◌∙◌, subst, inr, arith}
+use Rattle.ist_rows.specs.Taken.{took_few}
 use Rattle.ist_core.specs.declared.states.RebuildRow.{RebuildRow}
 use Rattle.ist_core.specs.Links.{Linked, at_anchor}
 use Rattle.ist_core.specs.Logs.{same_log}
@@ -31,7 +32,6 @@ use Rattle.ist_rule.specs.Rule.{IsSound}
 use Rattle.ist_rule.proofs.LaterLemmas.{goes_on_more, later-goes_on}
 use Rattle.ist_rule.proofs.WentOnLemmas.{goes_on_grow, goes_on_went, later_by-goes_on}
 use Rattle.ist_rows.specs.declared.callers.Caller.{Caller}
-use Rattle.ist_rebuild.proofs.FewLemmas.{few_needed}
 use Rattle.ist_tree.specs.declared.freezing.Frozen.{Frozen}
 use Rattle.ist_tree.specs.declared.freezing.Site.TheVariants.{Rebuilt, Still}
 use Rattle.ist_tree.specs.Freezing.{HeldInnerRow, IsStill, WasFrozen, all_keys, no_key, one_key}
@@ -189,7 +189,7 @@ module _ (who : Caller) (token : TokenFace) (ready : IsReady who)
           none,
         );
         done = looked_idle.done;
-        few = few_needed who (record who { token = token }) looked_idle.few;
+        few = let few = looked_idle.few in took_few (omega arith);
       }
 
 -- a leaf is no inner row
@@ -261,5 +261,5 @@ stood_met who token rebuild target s ready seen started h below top =
       );
       done = all_but who (record who { token = token }) rebuild
           (plain_done (λ event. ⊥) load_plain who token ready went);
-      few = few_needed who (record who { token = token }) (looked_idle who token ready seen).few;
+      few = let few = (looked_idle who token ready seen).few in took_few (omega arith);
     }

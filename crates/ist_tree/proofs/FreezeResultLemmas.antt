@@ -1,5 +1,5 @@
 -- What a freeze returns, put together: if it returns a tree, and if it is refused. Serves `freeze`.
-use Rattle.std.proofs.Common.{◌≡◌, ℕ, ◌⊎◌, Option, Some, None, IfSome, refl, sym, subst, inl, inr}
+use Rattle.std.proofs.Common.{◌≡◌, ℕ, ◌⊎◌, Option, Some, None, IfSome, refl, sym, ap, subst, inl, inr}
 use Rattle.std.specs.Option.{option_or}
 use Rattle.ist_core.specs.declared.ports.Full.{Full}
 use Rattle.ist_core.specs.Marking.{HasTarget}
@@ -8,23 +8,32 @@ use Rattle.laws_links.proofs.FinishedLemmas.{target_grows}
 use Rattle.laws_links.proofs.FormLemmas.{replaced_grows, started_grows}
 use Rattle.ist_core.specs.Lawful.{state_of}
 use Rattle.ist_rule.specs.Faces.{TokenFace}
-use Rattle.ist_rule.specs.Learning.{now}
+use Rattle.ist_rule.specs.declared.view.View.{View}
+use Rattle.ist_rule.specs.Conditions.{CanGiveUp}
+use Rattle.ist_rule.specs.Learning.{TurnedAt, beginning, giving_up, now}
+use Rattle.ist_rule.specs.Rule.{IsSound}
 use Rattle.ist_rows.specs.declared.callers.Caller.{Caller}
+use Rattle.ist_rows.specs.Going.{IsReady, StaysReady}
+use Rattle.ist_updates.specs.Further.{HasWalkedFew}
 use Rattle.ist_tree.specs.declared.freezing.Frozen.{Frozen}
 use Rattle.ist_tree.specs.declared.freezing.FreezeOutcome.{FreezeOutcome}
 use Rattle.ist_tree.specs.DueRows.{FinishesFreeze, all_done}
-use Rattle.ist_tree.specs.FreezeSteps.{Freezes, HasTakenFewUnless, IsFreezeStopped, IsTargetShort, IsTopShort}
-use Rattle.ist_tree.specs.Calls.{HasSeenMore}
-use Rattle.ist_tree.specs.Faces.{PassFace}
+use Rattle.ist_tree.specs.FreezeSteps.{Freezes, HasTakenFewUnless, counted_as, IsFreezeStopped, IsTargetShort, IsTopShort}
+use Rattle.ist_tree.specs.Calls.{BeginsFewWalks, HasSeenMore}
+use Rattle.ist_tree.specs.Faces.{PassFace, TreeFace}
 use Rattle.ist_tree.specs.Freezing.{FreezesInFew, words_of_freeze, HasFrozen, HasStartedNone, IsFreezeRefused, IsFrozenFor, IsLeftShort, LeavesRebuilt}
 use Rattle.ist_tree.specs.Insides.{IsPassWith, face_as, pass_face}
 use Rattle.ist_tree.specs.Refusals.{HasStartsDone, IsTopRefused, KeepsRefusal}
+use Rattle.ist_tree.specs.Working.{Rebuilds}
 use Rattle.ist_tree.proofs.FinishLemmas.{finishes, first_kept}
 use Rattle.ist_tree.proofs.FreezeCallLemmas.{IsFreezeCall}
 use Rattle.ist_tree.proofs.FreezeCallLemmas as way
 use Rattle.ist_tree.proofs.FewFreezeCallLemmas.{few_in_call, out_in_call}
 use Rattle.ist_tree.proofs.FreezeEndLemmas.{freeze_refused, frozen_for, has_frozen, has_started_none, in_last, keeps_refusal, started_since, top_refused}
+use Rattle.ist_tree.proofs.GoingLemmas.{words_are}
+use Rattle.ist_tree.proofs.SearchCountLemmas.{ready_counted, turned_counted}
 use Rattle.ist_tree.proofs.ShortLemmas.{some_is}
+use Rattle.ist_tree.proofs.WalkCountLemmas.{walks_end}
 
 -- the tree was frozen in the call, with the map's pairs of that moment, and stays so; its rebuild
 -- was replaced, or refused in the call
@@ -57,7 +66,7 @@ pub record FreezeEnds (old : PassFace) (new : Caller) (token : TokenFace) (q : O
   pub froze : FreezesAll old (face_as token new.number q) frozen
 
 -- a freeze that succeeds ends so
-pub freeze_ends : (who began new : Caller) (token : TokenFace) (it : IsFreezeCall who began new token)
+freeze_ends : (who began new : Caller) (token : TokenFace) (it : IsFreezeCall who began new token)
     (r q : Option Full) → IsPassWith who r → (words : ℕ) → words ≡ who.token.view.words
     → (outcome : FreezeOutcome) → Freezes began new words outcome
     → q ≡ option_or r outcome.refused → (old : PassFace) → pass_face who r ≡ old
@@ -151,7 +160,7 @@ pub record StopEnds (old : PassFace) (new : Caller) (token : TokenFace) (r : Opt
   pub stopped : StopsFreeze old (face_as token new.number r) full
 
 -- a freeze that is refused ends so
-pub stop_ends : (who began new : Caller) (token : TokenFace) (it : IsFreezeCall who began new token)
+stop_ends : (who began new : Caller) (token : TokenFace) (it : IsFreezeCall who began new token)
     (r : Option Full) → IsPassWith who r → (words : ℕ) → words ≡ who.token.view.words
     → (full : Full) → IsFreezeStopped began new words full
     → (old : PassFace) → pass_face who r ≡ old → StopEnds old new token r full
@@ -171,3 +180,75 @@ stop_ends who began new token it r all words same full s old view =
         done = λ none. (all_now.settled none).starts;
       };
     }
+
+-- ---- from the beginning of its call
+
+-- a pass began the call
+pub record BeginsFreeze (who began : Caller) (r : Option Full) : Type 0 where
+  pub sound : IsSound who.token.view
+  pub pass : IsPassWith who r
+  pub begun : TurnedAt who.token.view (beginning who.token.view None) began.token.view
+  pub number : began.number ≡ who.number
+  pub ready : IsReady began
+
+-- so it begins it
+pub begins_freeze : {who began : Caller} {r : Option Full} → IsSound who.token.view
+    → IsPassWith who r → TurnedAt who.token.view (beginning who.token.view None) began.token.view
+    → began.number ≡ who.number → IsReady began → BeginsFreeze who began r
+begins_freeze s pass begun number ready =
+    record { sound = s; pass = pass; begun = begun; number = number; ready = ready }
+
+module _ {who began : Caller} {r : Option Full} (b : BeginsFreeze who began r) (new : Caller) where
+  -- the caller that began, as if it had begun all the searches then
+  abbrev was : Caller
+  was = counted_as began new.token.view.searches
+
+  -- the call may be given up
+  pub freeze_may_stop : StaysReady Rebuilds was new → CanGiveUp new.token.view
+  freeze_may_stop on =
+      way.may_give_up who was new b.sound b.pass.pass b.number new.token.view.searches
+      (turned_counted who.token.view began.token.view new.token.view.searches b.begun)
+      (ready_counted began new.token.view.searches b.ready) on
+
+  module _ (token : TokenFace)
+      (given : TurnedAt new.token.view (giving_up new.token.view) token.view)
+      (few : HasWalkedFew began.token.view new.token.view) where
+    its_way : StaysReady Rebuilds was new → IsFreezeCall who was new token
+    its_way on =
+        record {
+          sound = b.sound;
+          pass = b.pass.pass;
+          began_number = b.number;
+          n = new.token.view.searches;
+          begun = turned_counted who.token.view began.token.view new.token.view.searches b.begun;
+          ready = ready_counted began new.token.view.searches b.ready;
+          on = on;
+          given = given;
+        }
+
+    few_walks : (q : Option Full) (old : PassFace) → pass_face who r ≡ old
+        → BeginsFewWalks old (face_as token new.number q)
+    few_walks q old view =
+        walks_end who began new token None (giving_up new.token.view) r q old b.begun few given
+        (ap (λ (y : View). y.searches) given.view) view
+
+    -- what it leaves if it succeeds, on the tree whose pass it is
+    pub freeze_ended : {outcome : FreezeOutcome} {q : Option Full} {old : PassFace} {t u : TreeFace}
+        → Freezes was new u.words outcome → q ≡ option_or r outcome.refused
+        → pass_face who r ≡ old → old.tree ≡ t → u ≡ t
+        → FreezeEnds old new token q outcome.frozen × BeginsFewWalks old (face_as token new.number q)
+    freeze_ended {outcome} {q} {old} {t} {u} f is view same tree = (
+      freeze_ends who was new token (its_way f.on) r q b.pass u.words
+          (words_are who r old t u view same tree) outcome f is old view,
+      few_walks q old view,
+    )
+
+    -- and if it is refused
+    pub freeze_stopped : {full : Full} {old : PassFace} {t u : TreeFace}
+        → IsFreezeStopped was new u.words full → pass_face who r ≡ old → old.tree ≡ t → u ≡ t
+        → StopEnds old new token r full × BeginsFewWalks old (face_as token new.number r)
+    freeze_stopped {full} {old} {t} {u} s view same tree = (
+      stop_ends who was new token (its_way s.idle.on) r b.pass u.words
+          (words_are who r old t u view same tree) full s old view,
+      few_walks r old view,
+    )

@@ -5,7 +5,6 @@ use Rattle.ist_core.specs.Changes.{changes_of}
 use Rattle.ist_core.specs.Elements.{Each}
 use Rattle.ist_core.specs.Logs.{Log, same_log}
 use Rattle.ist_core.specs.Standing.{position_after}
-use Rattle.ist_core.specs.StartLayout.{start}
 use Rattle.laws_real_time.specs.declared.moments.Moment.{Moment}
 use Rattle.laws_real_time.specs.Moments.{Moments, ended}
 use Rattle.laws_real_time.specs.Making.{calls_returned}

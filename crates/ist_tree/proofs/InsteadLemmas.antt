@@ -5,30 +5,31 @@ use Rattle.ist_core.specs.References.{ChangeAt, Empty, InnerAt, LeafAt, RebuildA
 use Rattle.ist_rule.specs.declared.view.View.{View}
 use Rattle.ist_rule.specs.Learning.{now}
 use Rattle.ist_build.specs.Calls.{IsBuildable}
+use Rattle.ist_tree.specs.declared.rebuilding.Instead.{Instead}
 use Rattle.ist_tree.specs.declared.rebuilding.Instead.TheVariants.{Rebuild, Change, Other}
 use Rattle.ist_tree.specs.Working.{IsHelpedWord, instead_of}
 
 -- a rebuild's word
-pub names_rebuild : (ref : Option Ref) (base : ℕ) → instead_of ref ≡ Rebuild base
-    → ref ≡ Some (RebuildAt base)
-names_rebuild (Some (RebuildAt other)) base e = cc
-names_rebuild (Some (ChangeAt other)) base e = absurd (cc)
-names_rebuild (Some (LeafAt other)) base e = absurd (cc)
-names_rebuild (Some (InnerAt other)) base e = absurd (cc)
-names_rebuild (Some Empty) base e = absurd (cc)
-names_rebuild (Some Unset) base e = absurd (cc)
-names_rebuild None base e = absurd (cc)
+pub names_rebuild : {said : Instead} (ref : Option Ref) {base : ℕ} → said ≡ instead_of ref
+    → said ≡ Rebuild base → ref ≡ Some (RebuildAt base)
+names_rebuild (Some (RebuildAt other)) is e = cc
+names_rebuild (Some (ChangeAt other)) is e = absurd (cc)
+names_rebuild (Some (LeafAt other)) is e = absurd (cc)
+names_rebuild (Some (InnerAt other)) is e = absurd (cc)
+names_rebuild (Some Empty) is e = absurd (cc)
+names_rebuild (Some Unset) is e = absurd (cc)
+names_rebuild None is e = absurd (cc)
 
 -- a change's word
-pub names_change : (ref : Option Ref) (base : ℕ) → instead_of ref ≡ Change base
-    → ref ≡ Some (ChangeAt base)
-names_change (Some (RebuildAt other)) base e = absurd (cc)
-names_change (Some (ChangeAt other)) base e = cc
-names_change (Some (LeafAt other)) base e = absurd (cc)
-names_change (Some (InnerAt other)) base e = absurd (cc)
-names_change (Some Empty) base e = absurd (cc)
-names_change (Some Unset) base e = absurd (cc)
-names_change None base e = absurd (cc)
+pub names_change : {said : Instead} (ref : Option Ref) {base : ℕ} → said ≡ instead_of ref
+    → said ≡ Change base → ref ≡ Some (ChangeAt base)
+names_change (Some (RebuildAt other)) is e = absurd (cc)
+names_change (Some (ChangeAt other)) is e = cc
+names_change (Some (LeafAt other)) is e = absurd (cc)
+names_change (Some (InnerAt other)) is e = absurd (cc)
+names_change (Some Empty) is e = absurd (cc)
+names_change (Some Unset) is e = absurd (cc)
+names_change None is e = absurd (cc)
 
 same_rebuild_base : (a b : ℕ) → Some (RebuildAt a) ≡ Some (RebuildAt b) → a ≡ b
 same_rebuild_base a b e = cc

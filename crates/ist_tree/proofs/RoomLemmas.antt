@@ -52,6 +52,7 @@ pub record RoomEnds (old : PassFace) (who : Caller) (refused : Option Full) (tok
   pub step : StepsIn old (face_as token who.number refused) token.view.log
   pub none : HasMadeNone old (face_as token who.number refused)
   pub unstarted : HasStartedNone old (face_as token who.number refused)
+  pub no_walk : token.view.searches ≡ old.searches
   pub loads : token.view.loaded ≡ old.loaded + 1
   pub calls : token.view.calls ≡ old.calls
   pub stamp : token.view.stamp ≡ old.stamp
@@ -122,6 +123,7 @@ room_ends who refused token all sound next left l sum old view =
           none = subst (λ x. Later x v.log w.log) all.pass.caller.mine t.later;
           unstarted = starts_none_later v w later who.number all.pass.caller.mine
               (between_calls v who.number sound all.pass.caller.mine all.pass.in_none).resolved;
+          no_walk = ap (λ (y : View). y.searches) t.view;
           loads = ap (λ (y : View). y.loaded) t.view;
           calls = ap (λ (y : View). y.calls) t.view;
           stamp = stamps;

@@ -34,7 +34,7 @@ rounds_begin p lawful =
     record { let_go = let_go_none p; lawful = lawful; paid = pays_none p }
 
 -- a round began at the second pass, and its update ended at the third
-module _ (p m n : PassFace) (r : IsBetweenRounds p m) (w : HasWorked m n) where
+module _ {p m n : PassFace} (r : IsBetweenRounds p m) (w : HasWorked m n) where
   -- what holds however the update ended
   pub run_taken : HasRunRounds p n
   run_taken =
@@ -49,10 +49,10 @@ module _ (p m n : PassFace) (r : IsBetweenRounds p m) (w : HasWorked m n) where
       }
 
   -- the update took effect
-  pub answered_taken : (key : ℕ) (command : Command) (expected reply : Option ℕ)
+  pub answered_taken : {key : ℕ} {command : Command} {expected reply : Option ℕ}
       → HasUpdated m n command reply → reply ≡ expected
       → HasAnswered p n key command expected reply
-  answered_taken key command expected reply u same =
+  answered_taken {key} {command} {expected} {reply} u same =
       record {
         took = λ e. adds_from p m r.let_go n command reply u.added;
         got = λ other. absurd (other same);
@@ -62,9 +62,9 @@ module _ (p m n : PassFace) (r : IsBetweenRounds p m) (w : HasWorked m n) where
       }
 
   -- the update was refused
-  pub turned_from : (key : ℕ) (value : Option ℕ) (full : Full) → IsTurnedAway m n key value full
+  pub turned_from : {key : ℕ} {value : Option ℕ} {full : Full} → IsTurnedAway m n key value full
       → IsTurnedAway p n key value full
-  turned_from key value full t =
+  turned_from {key} {value} {full} t =
       record {
         cause = refused_from p m r.let_go n r.lawful key value full t.cause;
         calls = t.calls ∙ r.let_go.calls;
@@ -74,7 +74,7 @@ module _ (p m n : PassFace) (r : IsBetweenRounds p m) (w : HasWorked m n) where
       }
 
   -- the update met another value, and the find ended at the fourth pass
-  module _ (q : PassFace) (key : ℕ) (expected : Option ℕ) (missed : HasMissedAt m n key (Had expected))
+  module _ {q : PassFace} {key : ℕ} {expected : Option ℕ} (missed : HasMissedAt m n key (Had expected))
       (f : OnlyFinds n q) where
     so_far : HasLetGo p n
     so_far = let_go_from p m r.let_go n missed.let_go
@@ -95,9 +95,9 @@ module _ (p m n : PassFace) (r : IsBetweenRounds p m) (w : HasWorked m n) where
         }
 
     -- the find found another value
-    pub answered_found : (command : Command) (reply : Option ℕ) → AddsCall n q (Get key) reply
+    pub answered_found : {command : Command} {reply : Option ℕ} → AddsCall n q (Get key) reply
         → reply ≢ expected → HasAnswered p q key command expected reply
-    answered_found command reply a other =
+    answered_found {command} {reply} a other =
         record {
           took = λ same. absurd (other same);
           got = λ e. adds_from p n so_far q (Get key) reply a;

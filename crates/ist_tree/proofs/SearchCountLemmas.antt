@@ -1,6 +1,6 @@
 -- A caller as if it had begun another number of searches, and what it does each time that it begins one.
 -- Serves `look_below` and `freeze`.
-use Rattle.std.proofs.Common.{◌≡◌, ℕ, ◌+◌, ◌≤◌, None, sym, ap, subst, arith}
+use Rattle.std.proofs.Common.{◌≡◌, ℕ, ◌+◌, ◌-◌, ◌<◌, ◌≤◌, None, Result, IfErr, IsErrAnd, sym, ap, subst, arith}
 use Rattle.ist_core.specs.declared.events.Event.{Event}
 use Rattle.ist_core.specs.declared.ports.Full.{Full}
 use Rattle.ist_core.proofs.PrefixLemmas.{goes_on_more}
@@ -16,8 +16,10 @@ use Rattle.ist_rows.specs.declared.callers.Caller.{Caller}
 use Rattle.ist_rows.specs.Going.{IsReady, StaysReady}
 use Rattle.ist_rows.proofs.GoneLemmas.{still_ready}
 use Rattle.laws_coming.specs.Further.{CameFurther}
-use Rattle.laws_stability.specs.Progress.{progress}
+use Rattle.laws_coming.proofs.FurtherLemmas.{fewer_left}
+use Rattle.laws_stability.specs.Progress.{most_progress, progress}
 use Rattle.laws_stability.proofs.ProgressLemmas.{never_falls}
+use Rattle.ist_rebuild.proofs.RefusalLemmas.{passed_on}
 use Rattle.ist_updates.specs.Further.{HasWalkedFew}
 use Rattle.ist_tree.specs.declared.freezing.FreezeOutcome.{FreezeOutcome}
 use Rattle.ist_tree.specs.declared.freezing.Site.{Site}
@@ -129,64 +131,81 @@ idle_begun a b token g t =
 none_begun : (b c : Caller) → StaysReady Rebuilds b c → b.token.view.searches ≡ c.token.view.searches
 none_begun b c on = sym (ap (λ (y : View). y.searches) on.gone.went.same)
 
--- so what is met after it is met from the beginning on
-pub met_begun : (a b c : Caller) (site : Site) → GoesIdle (counted_as a b.token.view.searches) b
-    → HasMet b c site → HasMet (counted_as a c.token.view.searches) c site
-met_begun a b c site g m =
-    subst (λ n. HasMet (counted_as a n) c site) (none_begun b c m.on)
-    (met_more (counted_as a b.token.view.searches) b c site g.on g.done g.few m)
-
--- and steps that met nothing are further such steps
-pub idle_after : (a b c : Caller) → GoesIdle (counted_as a b.token.view.searches) b → GoesIdle b c
-    → GoesIdle (counted_as a c.token.view.searches) c
-idle_after a b c g h =
-    subst (λ n. GoesIdle (counted_as a n) c) (none_begun b c h.on)
-    (idle_more (counted_as a b.token.view.searches) b c g h)
-
--- so is a tree that was frozen
+-- a tree that was frozen after it was frozen from the beginning on
 pub froze_begun : (a b c : Caller) (words : ℕ) (outcome : FreezeOutcome) → StaysReady Rebuilds b c
     → Freezes (counted_as a b.token.view.searches) c words outcome
     → Freezes (counted_as a c.token.view.searches) c words outcome
 froze_begun a b c words outcome on f =
     subst (λ n. Freezes (counted_as a n) c words outcome) (none_begun b c on) f
 
--- and a refusal is one
-pub stopped_begun : (a b c : Caller) (words : ℕ) (full : Full)
-    → GoesIdle (counted_as a b.token.view.searches) b → IsFreezeStopped b c words full
-    → IsFreezeStopped (counted_as a c.token.view.searches) c words full
-stopped_begun a b c words full g s =
-    subst (λ n. IsFreezeStopped (counted_as a n) c words full) (none_begun b c s.idle.on)
-    (stopped_more (counted_as a b.token.view.searches) b c words full g s)
-
 -- ---- how many searches
 
--- the searches are at most the steps of progress, if one more saw progress
-pub paid_begun : (u v w x : View) → v.searches + progress u.log ≤ u.searches + progress v.log
-    → Turned v (searching v) w → x.searches ≡ w.searches → CameFurther w x
-    → x.searches + progress u.log ≤ u.searches + progress x.log
-paid_begun u v w x paid t none k =
-    let one : w.searches ≡ v.searches + 1 = ap (λ (y : View). y.searches) t.view in
-    let rise = never_falls v.log w.log (later-goes_on t.later) in
-    let more = k.more in
-    omega arith
+-- a search begins after others, in which the caller went on idly, and for which progress paid
+module _ (a : Caller) {b : Caller} {token : TokenFace} (i : GoesIdle (counted_as a b.token.view.searches) b
+    × (b.token.view.searches + progress a.token.view.log
+    ≤ a.token.view.searches + progress b.token.view.log))
+    (t : Turned b.token.view (searching b.token.view) token.view) where
+  abbrev there : Caller
+  there = record b { token = token }
 
--- and at most one more if the last one saw none
-pub few_begun : (P : Event → Type 0) (u v w x : View)
-    → v.searches + progress u.log ≤ u.searches + progress v.log → Turned v (searching v) w
-    → WentOn P w x → HasWalkedFew u x
-few_begun P u v w x paid t g =
-    let one : w.searches ≡ v.searches + 1 = ap (λ (y : View). y.searches) t.view in
-    let none : x.searches ≡ w.searches = ap (λ (y : View). y.searches) g.same in
-    let more = never_falls v.log x.log (goes_on_more (later-goes_on t.later)
-    (later_by-goes_on g.later)) in
-    omega arith
+  begun : GoesIdle (counted_as a token.view.searches) there
+  begun = idle_begun a b token i.0 t
 
--- a search that saw progress saw it since it was to begin
-pub further_begun : (v w x : View) → Turned v (searching v) w → CameFurther w x → CameFurther v x
-further_begun v w x t k =
-    let rise = never_falls v.log w.log (later-goes_on t.later) in
+  -- the caller is ready to look
+  pub look_ready : IsReady there
+  look_ready = still_ready begun.on
+
+  one : token.view.searches ≡ b.token.view.searches + 1
+  one = ap (λ (y : View). y.searches) t.view
+
+  module _ {c : Caller} where
+    -- what it meets it meets from the beginning on
+    pub look_met : {site : Site} → HasMet there c site
+        → HasMet (counted_as a c.token.view.searches) c site
+    look_met {site} m =
+        subst (λ n. HasMet (counted_as a n) c site) (none_begun there c m.on)
+        (met_more (counted_as a token.view.searches) there c site begun.on begun.done begun.few m)
+
+    -- so is a refusal one from the beginning on
+    pub look_stopped : {words : ℕ} {full : Full} (answer : Result Site Full)
+        → IsErrAnd answer (λ x. x ≡ full) → IsFreezeStopped there c words full
+        → IfErr answer (IsFreezeStopped (counted_as a c.token.view.searches) c words)
+    look_stopped {words} {full} answer same s =
+        passed_on answer full (IsFreezeStopped (counted_as a c.token.view.searches) c words) same
+        (subst (λ n. IsFreezeStopped (counted_as a n) c words full) (none_begun there c s.idle.on)
+        (stopped_more (counted_as a token.view.searches) there c words full begun s))
+
+    -- few searches began
+    pub look_few : StaysReady Rebuilds there c → HasWalkedFew a.token.view c.token.view
+    look_few on =
+        let is = one in let paid = i.1 in let none = none_begun there c on in
+        let more = never_falls b.token.view.log c.token.view.log (goes_on_more (later-goes_on t.later)
+        (later_by-goes_on on.gone.went.later)) in
+        omega arith
+
+    -- if it met nothing and saw progress, the next search begins in the same way
+    pub look_on : GoesIdle there c → CameFurther token.view c.token.view
+        → GoesIdle (counted_as a c.token.view.searches) c
+        × (c.token.view.searches + progress a.token.view.log
+        ≤ a.token.view.searches + progress c.token.view.log)
+    look_on idle k =
+        let is = one in let paid = i.1 in let none = none_begun there c idle.on in
+        let rise = never_falls b.token.view.log token.view.log (later-goes_on t.later) in
+        let more = k.more in (
+          subst (λ n. GoesIdle (counted_as a n) c) none
+              (idle_more (counted_as a token.view.searches) there c begun idle),
+          omega arith,
+        )
+
+-- and less progress is left
+pub look_smaller : {b c : Caller} {token : TokenFace}
+    → Turned b.token.view (searching b.token.view) token.view → GoesIdle (record b { token = token }) c
+    → CameFurther token.view c.token.view
+    → most_progress - progress c.token.view.log < most_progress - progress b.token.view.log
+look_smaller {b} {c} {token} t idle k =
+    let rise = never_falls b.token.view.log token.view.log (later-goes_on t.later) in
     let more = k.more in
-    record { more = omega arith }
+    fewer_left b.token.view c.token.view idle.on.gone.went.sound record { more = omega arith }
 
 -- no more is begun after it
 pub few_after : (P : Event → Type 0) (u w x : View) → HasWalkedFew u w → WentOn P w x

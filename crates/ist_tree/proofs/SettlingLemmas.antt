@@ -1,6 +1,6 @@
 -- What a pass has settled stays so while others go on; a new pass has nothing to settle. Serves all
 -- calls of a pass, and `close`.
-use Rattle.std.proofs.Common.{ℕ, List, [], ◌∷◌, arith, refl, ◌≡◌, ◌≢◌, ◌∙◌, Some}
+use Rattle.std.proofs.Common.{ℕ, List, [], arith, refl, ◌≡◌, ◌≢◌, Some}
 use Rattle.ist_core.specs.declared.pairs.Pair.{Pair}
 use Rattle.ist_core.specs.declared.states.ChangeRow.{ChangeRow}
 use Rattle.ist_core.specs.Authors.{whose, Later, IsIdleIn}

@@ -22,9 +22,9 @@ use Rattle.ist_rows.specs.declared.callers.Caller.{Caller}
 use Rattle.ist_rows.specs.Rows.{spares_of, is_spare, held_by, IsCaller}
 use Rattle.ist_rows.specs.Building.{AreStuck, none_stuck}
 use Rattle.ist_rows.specs.Entering.{HasEntered}
-use Rattle.ist_tree.specs.Faces.{PassFace, MakerFace}
+use Rattle.ist_tree.specs.Faces.{TreeFace, PassFace, MakerFace, calls_in, with_back}
 use Rattle.ist_tree.specs.Calls.{MakerHasLearnt, MakerHasSeenMore}
-use Rattle.ist_tree.specs.Insides.{IsPass, IsPassWith, IsMaker, IsMakerWith, IsMakerCounted, HasSettled, IsNote, maker_face, taken_pass, tree_of}
+use Rattle.ist_tree.specs.Insides.{IsPass, IsPassWith, IsMaker, IsMakerWith, IsMakerCounted, HasSettled, IsNote, maker_face, pass_face, taken_pass, tree_of}
 use Rattle.ist_tree.proofs.IdleCallerLemmas.{has_its_calls}
 use Rattle.ist_tree.proofs.SettlingLemmas.{idle_settled}
 use Rattle.ist_tree.proofs.TakenLemmas.{taken_few}
@@ -93,7 +93,7 @@ none_refused false (Some full) e = absurd (cc)
 none_refused true r e = absurd (cc)
 
 -- the maker that took it back keeps that all of its own is settled
-pub taken_back : (v w x : View) (number word : ℕ) (before : Bool) (refused : Option Full)
+taken_back : (v w x : View) (number word : ℕ) (before : Bool) (refused : Option Full)
     → IsMakerWith v before → w.who ≡ CallerOf number
     → (refused ≡ None → HasSettled w.start w.words w.log number)
     → w.start ≡ v.start → w.words ≡ v.words → Looked (joined v w) 0 word x
@@ -145,16 +145,21 @@ back_few v w x number word refused made back m mine l =
     omega (arith, few.0, few.1, long, m.taken_is)
 
 -- and counts all that it took back
-pub back_counted : (v w x : View) (number word : ℕ) (before : Bool) (made back : ℕ)
-    → IsMakerCounted v before made back → w.who ≡ CallerOf number → Looked (joined v w) 0 word x
-    → (after : Bool) → IsMakerWith x after → (more : ℕ) → more ≡ back + 1
-    → IsMakerCounted x after made more
-back_counted v w x number word before made back m mine l after with more is =
+pub back_counted : {v x : View} (w : View) {number word : ℕ} {before said : Bool} {refused : Option Full}
+    {made back : ℕ} → IsMakerCounted v before made back → w.who ≡ CallerOf number
+    → (refused ≡ None → HasSettled w.start w.words w.log number) → {p q : TreeFace} → p ≡ q
+    → p.start ≡ w.start → p.words ≡ w.words → q.start ≡ v.start → q.words ≡ v.words
+    → Looked (joined v w) 0 word x → said ≡ is_some refused
+    → IsMakerCounted x (before || said) made (back + 1)
+back_counted {v} {x} w {number} {word} {before} {said} {refused} m mine its same a b c d l is =
     let long = back_long v w x number word mine l in
     record {
-      with = with;
+      with = subst (λ said. IsMakerWith x (before || said)) (sym is)
+          (taken_back v w x number word before refused m.with mine its
+          (sym a ∙ ap (λ (t : TreeFace). t.start) same ∙ c)
+          (sym b ∙ ap (λ (t : TreeFace). t.words) same ∙ d) l);
       made_is = m.made_is ∙ sym (ap (λ (y : View). y.made) l.view);
-      taken_is = omega (arith, long, m.taken_is, is);
+      taken_is = omega (arith, long, m.taken_is);
     }
 
 -- ---- notes
@@ -235,12 +240,33 @@ module _ (old new : TokenFace) (w : View) (word : ℕ) (l : Looked (joined old.v
 
     -- and what that one knew
     pub maker_learnt : GoesOn w.log new.view.log → MomentsGoOn w.moments new.view.moments
-        → (p : PassFace) → p.seen ≡ w.log → p.moments ≡ w.moments → p.stamp ≡ w.stamp
-        → (after : Bool) → MakerHasLearnt (maker_face new after) p
-    maker_learnt on heard p seen_is moments_is stamp_is after =
+        → {q p : PassFace} → q ≡ p → q.seen ≡ w.log → q.moments ≡ w.moments → q.stamp ≡ w.stamp
+        → {after : Bool} → MakerHasLearnt (maker_face new after) p
+    maker_learnt on heard same seen_is moments_is stamp_is {after} =
         let up : new.view.stamp ≡ max old.view.stamp w.stamp = ap (λ (y : View). y.stamp) l.view in
-        record {
+        subst (MakerHasLearnt (maker_face new after)) same record {
           seen = subst (λ log. GoesOn log new.view.log) (sym seen_is) on;
           heard = subst (λ ms. MomentsGoOn ms new.view.moments) (sym moments_is) heard;
           stamp = omega arith;
         }
+
+-- a maker that took a pass back has its calls
+pub maker_back : (old new : TokenFace) (who : Caller) (word : ℕ)
+    → Looked (joined old.view who.token.view) 0 word new.view
+    → who.token.view.who ≡ CallerOf who.number → GoesOn old.view.log new.view.log
+    → MomentsGoOn old.view.moments new.view.moments → {before said : Bool} {refused : Option Full}
+    → said ≡ is_some refused → {p : PassFace} → pass_face who refused ≡ p → {m : MakerFace}
+    → maker_face old before ≡ m
+    → MakerHasSeenMore (with_back p m) (maker_face new (before || said))
+maker_back old new who word l mine on heard {before} {said} {refused} is {p} pass {m} maker =
+    let w = who.token.view in let after = maker_face new (before || said) in
+    let back : new.view.taken ≡ with_taken (CallerOf who.number) w.calls w.log old.view.taken =
+    ap (λ (y : View). y.taken) l.view ∙ ap (λ k. with_taken k w.calls w.log old.view.taken) mine in
+    subst (λ n. MakerHasSeenMore (with_back p n) after) maker
+    (subst (λ q. MakerHasSeenMore (with_back q (maker_face old before)) after) pass
+    (subst (λ b. MakerHasSeenMore
+    (record (maker_face old before) {
+      taken = calls_in (pass_face who refused) ∷ map taken_pass old.view.taken;
+      refused = before || b;
+    }) after) is
+    (maker_more old new w word l on heard before (before || said) _ (ap (map taken_pass) back))))

@@ -44,22 +44,30 @@ module _ (v : View) (s : IsSound v) (row : ℕ) (m : MayCount v row) where
   size_low = (row_low v s row (Inner there.0) there.1 3 (omega arith)).0
 
   -- and after the anchor's slot
-  pub size_off : row + inner_size_offset ≢ anchor_slot_place
-  size_off same =
+  pub size_off : {from : ℕ} → from ≡ row → from + inner_size_offset ≢ anchor_slot_place
+  size_off from_is same =
       let above = row_above v s row (Inner there.0) there.1 in absurd (omega arith)
 
   -- the add may be the Count
-  pub can_count : (place : ℕ) → place ≡ row + inner_count_offset
-      → CanAdd v place (counting v (place - inner_count_offset))
-  can_count place at =
+  pub can_count : {from : ℕ} → from ≡ row
+      → CanAdd v (from + inner_count_offset) (counting v (from + inner_count_offset - inner_count_offset))
+  can_count from_is =
       let back : row + inner_count_offset - inner_count_offset ≡ row = omega arith in
-      subst (λ q. CanAdd v q (counting v (q - inner_count_offset))) (sym at)
+      subst (λ q. CanAdd v (q + inner_count_offset) (counting v (q + inner_count_offset - inner_count_offset)))
+      (sym from_is)
       (subst (λ r. CanAdd v (row + inner_count_offset) (counting v r)) (sym back)
       (subst (λ n. CanAdd v (row + inner_count_offset) (λ found. Count n row)) (sym number_is)
       (count_comes v s m.number m.mine row m.resolved m.can)))
 
-  module _ (place found : ℕ) (at : place ≡ row + inner_count_offset) (w : View)
-      (l : LoggedAdd v (counting v (place - inner_count_offset)) place found w) where
+  module _ {from found : ℕ} (from_is : from ≡ row) {w : View}
+      (l : LoggedAdd v (counting v (from + inner_count_offset - inner_count_offset))
+      (from + inner_count_offset) found w) where
+    abbrev place : ℕ
+    place = from + inner_count_offset
+
+    at : place ≡ row + inner_count_offset
+    at = ap (λ n. n + inner_count_offset) from_is
+
     event_is : counting v (place - inner_count_offset) found ≡ Count (number_of v.who) row
     event_is =
         let back : place - inner_count_offset ≡ row = omega arith in
@@ -102,19 +110,20 @@ module _ (v : View) (s : IsSound v) (row : ℕ) (m : MayCount v row) where
         logged_went (IsCountAt (number_of v.who) row) v
         (counting v (place - inner_count_offset) found) w l.logged event_is refl
 
-    module _ (at_size size : ℕ) (size_at : at_size ≡ row + inner_size_offset) (u : View)
-        (k : Looked w at_size size u) where
+    module _ {start size : ℕ} (start_is : start ≡ row) {u : View}
+        (k : Looked w (start + inner_size_offset) size u) where
       -- and so it did with the load of the size
       pub all_went : WentOn (IsCountAt (number_of v.who) row) v u
       all_went =
           went_more (IsCountAt (number_of v.who) row) v w u count_went
-          (looked_went (IsCountAt (number_of v.who) row) w at_size size u k)
+          (looked_went (IsCountAt (number_of v.who) row) w (start + inner_size_offset) size u k)
 
       size_is : size ≡ row_before.0.size
       size_is =
           let r = inner_there (now v).pieces (now u).pieces
           (went_grow (IsCountAt (number_of v.who) row) v u all_went) row there.0 there.1 in
-          looked_row w at_size size u k row (Inner r.0) 3 r.0.size r.1 refl size_at
+          looked_row w (start + inner_size_offset) size u k row (Inner r.0) 3 r.0.size r.1 refl
+          (ap (λ n. n + inner_size_offset) start_is)
           ∙ r.2.size ∙ sym row_before.2.size
 
       -- the Count, and whether it brought the row to its limit

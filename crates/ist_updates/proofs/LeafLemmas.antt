@@ -20,18 +20,18 @@ leaf_read v w base pair g p =
     ∙ ap₂ (λ k x. Some (Leaf record { key = k; value = x })) (sym p.key_is) (sym p.value_is)
 
 -- a leaf of the key gives it its value
-pub own_value : (ps : Pieces) (base key word : ℕ) (row : LeafRow) → ref_of word ≡ Some (LeafAt base)
+pub own_value : (ps : Pieces) (word : ℕ) {base key : ℕ} {row : LeafRow} → ref_of word ≡ Some (LeafAt base)
     → ps base ≡ Some (Leaf row) → row.key ≡ key → value_at ps (ref_of word) key ≡ Some row.value
-own_value ps base key word row is there same =
+own_value ps word {base} {key} {row} is there same =
     subst (λ r. value_at ps r key ≡ Some row.value) (sym is)
     (ap (λ o. value_in o key) there
     ∙ ⊎_elim (λ k. ap (λ b. if b then Some row.value else None) k.0) (λ k. absurd (k.1 same))
     (eqb_tells row.key key))
 
 -- and a leaf of another none
-pub other_value : (ps : Pieces) (base key word : ℕ) (row : LeafRow) → ref_of word ≡ Some (LeafAt base)
+pub other_value : (ps : Pieces) (word : ℕ) {base key : ℕ} {row : LeafRow} → ref_of word ≡ Some (LeafAt base)
     → ps base ≡ Some (Leaf row) → row.key ≢ key → value_at ps (ref_of word) key ≡ None
-other_value ps base key word row is there differs =
+other_value ps word {base} {key} {row} is there differs =
     subst (λ r. value_at ps r key ≡ None) (sym is)
     (ap (λ o. value_in o key) there
     ∙ ⊎_elim (λ k. absurd (differs k.1)) (λ k. ap (λ b. if b then Some row.value else None) k.0)

@@ -1,5 +1,5 @@
 -- Plans whose change fits its kind. Serves `plan_leaf`, `plan_pair` and `plan_clear`.
-use Rattle.std.proofs.Common.{◌≡◌, ◌≢◌, ℕ, ◌<◌, [], List, Some, refl, sym, ap, ◌∙◌, subst, inl, inr}
+use Rattle.std.proofs.Common.{◌≡◌, ℕ, ◌<◌, [], List, Some, refl, sym, ap, ◌∙◌, subst, inl, inr, arith}
 use Rattle.ist_core.specs.declared.events.Event.{Event}
 use Rattle.ist_core.specs.declared.lists.Row.{Row}
 use Rattle.ist_core.specs.declared.states.ChangeRow.{ChangeRow}
@@ -16,7 +16,11 @@ use Rattle.ist_rule.specs.Learning.{now, GoesOnTo}
 use Rattle.ist_rule.specs.Watching.{IsNode}
 use Rattle.ist_rule.proofs.GoingOnLemmas.{goes_on_more}
 use Rattle.ist_rule.proofs.WentOnLemmas.{went_lawful, later_by-goes_on, goes_on_grow}
+use Rattle.ist_core.specs.Pieces as pieces
 use Rattle.ist_rows.specs.declared.callers.Caller.{Caller}
+use Rattle.ist_rows.specs.declared.kinds.Kind.TheVariants as kind
+use Rattle.ist_rows.specs.Rows.{IsCaller}
+use Rattle.ist_dcss.proofs.FieldLemmas.{good_base}
 use Rattle.ist_dcss.specs.HelpEvents.{IsSlot}
 use Rattle.ist_dcss.proofs.FitsLemmas.{fits_later}
 use Rattle.ist_dcss.proofs.InstallLemmas.{slot_on}
@@ -28,7 +32,8 @@ use Rattle.laws_calls.proofs.WalkLemmas.{meeting_comes}
 use Rattle.ist_updates.specs.declared.plans.Aim.{Aim}
 use Rattle.ist_updates.specs.declared.plans.Fresh.TheVariants.{Nothing, Leaf, Pair}
 use Rattle.ist_updates.specs.declared.plans.SlotPlan.TheVariants as way
-use Rattle.ist_updates.specs.Changing.{WasAtSlot, IsPlanned, row_for}
+use Rattle.ist_updates.specs.Changing.{MayReplace, WasAtSlot, IsPlanned, row_for}
+use Rattle.ist_updates.proofs.PairLemmas.{row_good}
 
 module _ (v : View) (aim : Aim) (at : WasAtSlot v aim) where
   -- the search came to the node
@@ -128,18 +133,22 @@ module _ (P : Event → Type 0) (old new : Caller)
       }
 
   -- a put of a pair row is planned
-  pub pair_planned : (value other other_key leaf pair to : ℕ) → ref_of aim.word ≡ Some (LeafAt other)
-      → IsLeafOf (now v) other other_key → other_key ≢ aim.key → new.leaf ≡ Some leaf
-      → new.pair ≡ Some pair → aim.node < pair → IsGoodBase leaf → IsGoodBase other → IsGoodBase pair
-      → to ≡ word_of (InnerAt pair) → (row : ChangeRow)
+  pub pair_planned : {value other other_key leaf pair to : ℕ} → IsCaller new
+      → MayReplace v aim.key aim.word (way.Pair value other other_key) → new.leaf ≡ Some leaf
+      → new.pair ≡ Some pair → aim.node < pair → to ≡ word_of (InnerAt pair) → {row : ChangeRow}
       → row ≡ row_for aim put_kind value to new.number
       → IsPlanned new aim (way.Pair value other other_key) record {
         base = base;
         row = row;
         fresh = Pair pair leaf other other_key;
       }
-  pair_planned value other other_key leaf pair to from stands differs has_leaf has_pair above
-      leaf_good other_good pair_good to_is row is =
+  pair_planned {value} {other} {other_key} {leaf} {pair} {to} caller room has_leaf has_pair above to_is
+      {row} is =
+      let stands = room.1 in
+      let leaf_good = row_good new g.sound caller kind.Leaf leaf has_leaf (omega arith) in
+      let pair_good = row_good new g.sound caller kind.Pair pair has_pair (omega arith) in
+      let other_good = good_base v at.seen.sound other (pieces.Leaf stands.row) stands.published
+      (omega arith) in
       subst (λ r. IsPlanned new aim (way.Pair value other other_key) record {
         base = base;
         row = r;
@@ -163,9 +172,9 @@ module _ (P : Event → Type 0) (old new : Caller)
               by_key = by_key put_kind value to new.number;
               other = other;
               other_key = other_key;
-              from = from;
+              from = room.0;
               stands = stands;
-              differs = differs;
+              differs = room.2;
               pair = pair;
               leaf = leaf;
               to = ap ref_of to_is ∙ ref_of-word_of (InnerAt pair) pair_good;

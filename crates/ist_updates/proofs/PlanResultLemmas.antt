@@ -1,5 +1,5 @@
 -- What carrying out a plan promises, by what came of its change. Serves `carry_out`.
-use Rattle.std.proofs.Common.{◌≡◌, true, false}
+use Rattle.std.proofs.Common.{◌≡◌, Bool, true, false, subst}
 use Rattle.ist_core.specs.Rebuilding.{IsUpdate}
 use Rattle.ist_rule.specs.Faces.{TokenFace}
 use Rattle.ist_rule.specs.Going.{WentOn}
@@ -20,11 +20,11 @@ use Rattle.ist_updates.proofs.HelpedChangeLemmas.{missed_gone, missed_quiet, mis
 use Rattle.ist_updates.proofs.FurtherLemmas.{installed_further, other_further}
 
 -- the slot held another word
-pub missed_carried : (old new : Caller) (plan : PlannedChange) → IsCaller old
+pub missed_carried : (old new : Caller) {plan : PlannedChange} → IsCaller old
     → IsInstallable old.token.view plan.base (filling_of plan) → IsCaller new
     → new.number ≡ old.number → HasRefused new → GoesOnTo old.token.view new.token.view
     → HoldsElse (now new.token.view) plan.row → HasCarried old plan false new
-missed_carried old new plan c m caller number refused g other =
+missed_carried old new {plan} c m caller number refused g other =
     record {
       on = record {
         gone = missed_gone old new caller number refused g Tries;
@@ -50,36 +50,20 @@ module _ (old mid : Caller) (token : TokenFace) (plan : PlannedChange) (c : IsCa
   abbrev new : Caller
   new = record mid { token = token }
 
-  -- it was decided yes
-  pub yes_carried : IsDecided token.view plan.base true → HasCarried old plan true new
-  yes_carried d =
+  -- whatever it was decided
+  pub helped_carried : (taken : Bool) → IsDecided token.view plan.base taken
+      → HasCarried old plan taken new
+  helped_carried taken d =
       record {
         on = record {
           gone = carried_gone old mid token plan c s rows update m caller refused number i g;
           quiet = carried_quiet old mid token plan c s rows update m caller refused number i g out;
         };
-        took = λ is. carried_yes old mid token plan c s rows update m caller refused number i g d;
-        lost = λ is. absurd (no is);
-        further = λ is. absurd (no is);
-      }
-    where
-      no : true ≡ false → ⊥
-      no e = cc
-
-  -- or no
-  pub no_carried : IsDecided token.view plan.base false → HasCarried old plan false new
-  no_carried d =
-      record {
-        on = record {
-          gone = carried_gone old mid token plan c s rows update m caller refused number i g;
-          quiet = carried_quiet old mid token plan c s rows update m caller refused number i g out;
-        };
-        took = λ is. absurd (no is);
-        lost = λ is. carried_no old mid token plan c s rows update m caller refused number i g d out;
+        took = λ is. carried_yes old mid token plan c s rows update m caller refused number i g
+            (subst (IsDecided token.view plan.base) is d);
+        lost = λ is. carried_no old mid token plan c s rows update m caller refused number i g
+            (subst (IsDecided token.view plan.base) is d) out;
         further = λ is first aimed. installed_further first old.token.view mid.token.view token.view
             plan.row.node plan.row.index plan.row.from plan.base (filling_of plan) aimed i
             (after_went (Serves plan.base) mid.token.view token.view g);
       }
-    where
-      no : false ≡ true → ⊥
-      no e = cc

@@ -1,6 +1,6 @@
 -- Refusals, seen from earlier views. Serves each step of a change.
-use Rattle.std.proofs.Common.{◌≡◌, ℕ, Result, Ok, Err}
-use Rattle.std.specs.Prelude.{IfErr}
+use Rattle.std.proofs.Common.{◌≡◌, ℕ, Result, Ok, Err, sym, subst}
+use Rattle.std.specs.Prelude.{IfErr, IsErrAnd}
 use Rattle.ist_core.specs.declared.events.Event.{Event}
 use Rattle.ist_core.specs.declared.ports.Full.{Full}
 use Rattle.ist_rule.specs.declared.view.View.{View}
@@ -27,20 +27,16 @@ short_wider P Q all u v words full w a s to =
     short_from (WentOn P) (WentOn Q) u v (λ x h. went_more Q u v x a (went_all P Q all v x h)) words
     full w s to
 
--- a change of the slot asks for a row
-pub way_short : {size : ℕ} (v : View) (words : ℕ) (full : Full) (w : View) (x : SlotPlan)
-    → IsRowShort (λ asked. asked ≡ size) v words full w
-    → (full.asked ≡ size → MayAskFor x full.asked) → IsRowShort (MayAskFor x) v words full w
-way_short v words full w x s may =
-    short_from (WentOn Prepares) (WentOn Prepares) v v (λ y went. went) words full w s
-    (λ for. (may for.0, for.1))
-
--- the same after other steps
-pub way_refused : {size : ℕ} (u v : View) (words : ℕ) (full : Full) (w : View) (x : SlotPlan)
-    → WentOn Prepares u v → IsRowShort (λ asked. asked ≡ size) v words full w
-    → (full.asked ≡ size → MayAskFor x full.asked) → IsRowShort (MayAskFor x) u words full w
-way_refused u v words full w x a s may =
-    way_short u words full w x (short_after Prepares u v words full w a s) may
+-- a row of one size was refused, which is handed on as a refusal of any of several sizes
+pub row_refused : {A : Type 0} (For : ℕ → Type 0) {size : ℕ} {u v w : View} {words : ℕ} {full : Full}
+    (r : Result A Full) → IsErrAnd r (λ x. x ≡ full) → WentOn Prepares u v
+    → IsRowShort (λ asked. asked ≡ size) v words full w → For size
+    → IfErr r (λ full. IsRowShort For u words full w)
+row_refused For (Ok a) same went s may = absurd same
+row_refused {A} For {size} {u} {v} {w} {words} {full} (Err e) same went s may =
+    subst (λ x. IsRowShort For u words x w) (sym same)
+    (short_wider Prepares Prepares (λ event is. is) u v words full w went s
+    (λ for. (subst For (sym for.0) may, for.1)))
 
 -- a change that was refused since a later view was refused since the earlier view
 pub err_refused : {A : Type 0} (u v : View) (x : SlotPlan) (words : ℕ) (w : View) (r : Result A Full)

@@ -1,5 +1,5 @@
 -- A try at a slot, as its walk reports it: an update that took effect isn't yet counted. Serves `try_slot`.
-use Rattle.std.proofs.Common.{◌≡◌, ℕ, List, [], ◌++◌, length, Option, Some, None, IfOk, IfErr, Result, Ok, Err, sym, ap, ◌∙◌, subst, append-nil, arith}
+use Rattle.std.proofs.Common.{◌≡◌, ◌≢◌, ℕ, List, [], ◌++◌, length, Option, Some, None, IfOk, IfErr, Result, Ok, Err, sym, ap, ◌∙◌, subst, append-nil, arith}
 use Rattle.ist_core.specs.declared.commands.Command.{Command}
 use Rattle.ist_core.specs.declared.events.Event.{Event}
 use Rattle.ist_core.specs.declared.pairs.Pair.{Pair}
@@ -162,6 +162,27 @@ tried_walk {old} {new} {aim} {value} {words} {when} {r} a sound at t met missed 
       missed = missed;
     }
 
+-- so is a try that missed no value
+pub unmissed_walk : {old new : Caller} {aim : Aim} {value : Option ℕ} {words : ℕ} {when : When}
+    {r : Result (Option Outcome) Full} → IsAsked old (command_for aim.key value)
+    → IsSound old.token.view → IsAtSlot old.token.view aim.key aim.node aim.index aim.word
+    → HasTried old aim value words r new → IfOk r (IsTryMet when) → r ≢ Ok (Some Unmet)
+    → IsWalk old aim.key value when aim.node words r new
+unmissed_walk a sound at t met unmissed = tried_walk a sound at t met (λ is. absurd (unmissed is))
+
+-- as one that must begin again
+pub again_walk : {old new : Caller} {aim : Aim} {value : Option ℕ} {words : ℕ} {when : When}
+    {o : Option Outcome} → IsAsked old (command_for aim.key value) → IsSound old.token.view
+    → IsAtSlot old.token.view aim.key aim.node aim.index aim.word
+    → HasTried old aim value words (Ok o) new → o ≡ None
+    → IsWalk old aim.key value when aim.node words (Ok o) new
+again_walk {when = when} {o = o} a sound at t is =
+    unmissed_walk a sound at t (subst (IsTryMet when) (sym is) tt) (λ unmet. unmet_none o is unmet)
+  where
+    unmet_none : (o : Option Outcome) → o ≡ None
+        → ◌≡◌ {A = Result (Option Outcome) Full} (Ok o) (Ok (Some Unmet)) → ⊥
+    unmet_none o none unmet = cc
+
 -- ---- the value that the try met
 
 -- a try that replaced this value met it
@@ -177,11 +198,3 @@ replied_met when had (Err full) met h = tt
 pub replied_unmissed : (had : Option ℕ) (r : Result (Option Outcome) Full) → IfOk r (RepliesWith had)
     → r ≡ Ok (Some Unmet) → ⊥
 replied_unmissed had r h is = subst (λ x. IfOk x (RepliesWith had)) is h
-
--- nor does one that must begin again
-pub none_met : (when : When) (o : Option Outcome) → o ≡ None → IsTryMet when o
-none_met when o e = subst (IsTryMet when) (sym e) tt
-
-pub none_unmet : (o : Option Outcome) → o ≡ None
-    → ◌≡◌ {A = Result (Option Outcome) Full} (Ok o) (Ok (Some Unmet)) → ⊥
-none_unmet o none is = cc

@@ -1,14 +1,17 @@
 -- What a try promises, by what came of it at the slot. Serves the functions of `trying`.
-use Rattle.std.proofs.Common.{◌≡◌, ℕ, true, false, Option, Some, None, refl, sym, subst}
-use Rattle.std.specs.Prelude.{Bool, Ok, Err, Result}
+use Rattle.std.proofs.Common.{◌≡◌, ◌≢◌, ℕ, true, false, Option, Some, None, refl, sym, ap, subst, inl, inr, ⊎_elim}
+use Rattle.std.specs.Prelude.{Bool, IsErrAnd, Ok, Err, Result}
 use Rattle.ist_core.specs.declared.commands.Command.{Command}
 use Rattle.ist_core.specs.declared.ports.Full.{Full}
+use Rattle.ist_core.specs.declared.states.LeafRow.{LeafRow}
 use Rattle.ist_core.specs.Changes.{value_at}
-use Rattle.ist_core.specs.References.{ref_of}
+use Rattle.ist_core.specs.Pieces.{Leaf}
+use Rattle.ist_core.specs.References.{LeafAt, ref_of}
 use Rattle.ist_rule.specs.declared.view.View.{View}
 use Rattle.ist_rule.specs.Faces.{TokenFace}
 use Rattle.ist_rule.specs.Learning.{now, GoesOnTo}
 use Rattle.ist_rule.specs.Rule.{IsSound}
+use Rattle.ist_rule.proofs.WentOnLemmas.{later_by-goes_on}
 use Rattle.laws_coming.specs.Further.{CameFurther}
 use Rattle.laws_histories.specs.Searching.{Searched}
 use Rattle.ist_rows.specs.declared.callers.Caller.{Caller}
@@ -21,7 +24,7 @@ use Rattle.ist_updates.specs.declared.updates.Outcome.{Outcome}
 use Rattle.ist_updates.specs.declared.updates.Outcome.TheVariants.{Nothing, Unmet}
 use Rattle.ist_updates.specs.Answering.{HasChanged, HasTried, IsTryRefused, just_took}
 use Rattle.ist_updates.specs.Asking.{command_for, IsAsked}
-use Rattle.ist_updates.specs.Changing.{MayAskFor, command_by}
+use Rattle.ist_updates.specs.Changing.{MayAskFor, WasAtSlot, command_by}
 use Rattle.ist_updates.specs.Further.{HasAimed}
 use Rattle.ist_updates.specs.Refusals.{IsUpdateRefused}
 use Rattle.ist_updates.specs.Trying.{BeganSince, Tries, HasFoundNone, HasTakenEffect}
@@ -29,6 +32,7 @@ use Rattle.ist_updates.proofs.AskedLemmas.{asked_quiet}
 use Rattle.ist_updates.proofs.AfterLemmas.{after_loads}
 use Rattle.ist_updates.proofs.FurtherLemmas.{aimed_on}
 use Rattle.ist_updates.proofs.TriedLemmas.{IsPutFor, err_after, ok_after, put_refused, remove_refused}
+use Rattle.ist_updates.proofs.WayLemmas.{met_other}
 
 -- ---- results
 
@@ -105,6 +109,14 @@ module _ (old new : Caller) (aim : Aim) (value : Option ℕ) (words : ℕ) where
         further = λ is. absurd (refused_again full is);
       }
 
+-- a refusal that is handed on is the refusal of the try
+handed_on : {old new : Caller} {aim : Aim} {value : Option ℕ} {words : ℕ} {full : Full}
+    (r : Result (Option Outcome) Full) → IsErrAnd r (λ x. x ≡ full)
+    → HasTried old aim value words (Err full) new → HasTried old aim value words r new
+handed_on (Ok tried) same t = absurd same
+handed_on {old} {new} {aim} {value} {words} (Err e) same t =
+    subst (λ f. HasTried old aim value words (Err f) new) (sym same) t
+
 -- ---- a try by a change of the slot
 
 module _ {old new : Caller} {aim : Aim} {x : SlotPlan} {words : ℕ} where
@@ -133,7 +145,7 @@ module _ {old new : Caller} {aim : Aim} {x : SlotPlan} {words : ℕ} where
       (h.further refl))
 
   -- the table had too few words for a row of a put
-  pub put_unchanged : {full : Full} (value : Option ℕ) (given : ℕ) → value ≡ Some given
+  put_unchanged : {full : Full} (value : Option ℕ) (given : ℕ) → value ≡ Some given
       → command_by aim.key x ≡ command_for aim.key value → HasChanged old aim x words (Err full) new
       → ((first : View) → BeganSince first old.token.view → MayAskFor x full.asked
       → IsPutFor first new.token.view aim.key full.asked) → HasTried old aim value words (Err full) new
@@ -145,28 +157,49 @@ module _ {old new : Caller} {aim : Aim} {x : SlotPlan} {words : ℕ} where
             aim.key given (asks first began h.full.few.asked.0));
       }
 
--- the table had too few words for the change of a remove
-pub remove_unchanged : {old new : Caller} {aim : Aim} {words : ℕ} {full : Full} (found : ℕ)
-    → HasChanged old aim way.Clear words (Err full) new
-    → (let v = old.token.view in
-    Searched v.start v.words v.log aim.key v.loads.since aim.node (Some found))
-    → HasTried old aim None words (Err full) new
-remove_unchanged {old} {new} {aim} {words} {full} found h searched =
-    refused_tried old new aim None words full h.on.gone record {
-      still = h.still;
-      cause = λ first began. remove_refused first old.token.view new.token.view words full began
-          h.full aim.key aim.node found h.full.few.asked.0 searched;
-    }
+module _ {old new : Caller} {aim : Aim} {words : ℕ} {full : Full} (r : Result (Option Outcome) Full)
+    (same : IsErrAnd r (λ x. x ≡ full)) where
+  -- of a leaf that is put
+  pub leaf_unchanged : {value : Option ℕ} {given : ℕ} → value ≡ Some given
+      → HasChanged old aim (way.Leaf given) words (Err full) new → HasTried old aim value words r new
+  leaf_unchanged {value} {given} put h =
+      handed_on r same (put_unchanged value given put (ap (command_for aim.key) (sym put)) h
+      (λ first began k. ⊎_elim (λ e. inl e) (λ e. inr (inr e)) k))
+
+  -- of a pair row that is put in the place of a leaf of another key
+  pub pair_unchanged : {value base : ℕ} {row : LeafRow} → WasAtSlot old.token.view aim
+      → ref_of aim.word ≡ Some (LeafAt base) → (now old.token.view).pieces base ≡ Some (Leaf row)
+      → row.key ≢ aim.key → HasChanged old aim (way.Pair value base row.key) words (Err full) new
+      → HasTried old aim (Some value) words r new
+  pair_unchanged {value} {base} {row} at is there differs h =
+      let on = later_by-goes_on h.on.gone.went.later in
+      handed_on r same (put_unchanged (Some value) value refl refl h
+      (λ first began k. ⊎_elim (λ e. inl e) (λ l. inr (⊎_elim (λ e.
+      inl (e, met_other old.token.view aim at first began new.token.view on base row is there differs))
+      (λ e. inr e) l)) k))
+
+  -- or for the change of a remove
+  pub remove_unchanged : {found : ℕ} → HasChanged old aim way.Clear words (Err full) new
+      → (let v = old.token.view in
+      Searched v.start v.words v.log aim.key v.loads.since aim.node (Some found))
+      → HasTried old aim None words r new
+  remove_unchanged {found} h searched =
+      handed_on r same (refused_tried old new aim None words full h.on.gone record {
+        still = h.still;
+        cause = λ first began. remove_refused first old.token.view new.token.view words full began
+            h.full aim.key aim.node found h.full.few.asked.0 searched;
+      })
 
 -- ---- after loads
 
 -- a try after loads is a try that makes them first
-pub loads_tried : (old : Caller) (token : TokenFace) {aim : Aim} {value : Option ℕ} {words : ℕ}
+pub loads_tried : {old : Caller} {token : TokenFace} {aim : Aim} {value asked : Option ℕ} {words : ℕ}
     {r : Result (Option Outcome) Full} {new : Caller} → IsAsked old (command_for aim.key value)
-    → GoesOnTo old.token.view token.view
-    → HasTried (record old { token = token }) aim value words r new
+    → GoesOnTo old.token.view token.view → value ≡ asked
+    → HasTried (record old { token = token }) aim asked words r new
     → HasTried old aim value words r new
-loads_tried old token {aim} {value} {words} {r} {new} a g t =
+loads_tried {old} {token} {aim} {value} {asked} {words} {r} {new} a g is tried =
+    let t = subst (λ o. HasTried (record old { token = token }) aim o words r new) (sym is) tried in
     record {
       on = record {
         gone = gone_more Tries old (record old { token = token }) new

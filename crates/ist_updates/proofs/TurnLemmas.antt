@@ -1,6 +1,6 @@
 -- One walk of a call, from the anchor, after walks of which none took effect: what the call has by
 -- each of its results. Serves `apply`.
-use Rattle.std.proofs.Common.{◌≡◌, ◌+◌, ◌≤◌, ℕ, true, Option, Some, None, refl, sym, ap, subst}
+use Rattle.std.proofs.Common.{◌≡◌, ◌+◌, ◌-◌, ◌<◌, ◌≤◌, ◌∙◌, ℕ, true, Option, Some, None, refl, sym, ap, subst, arith}
 use Rattle.std.specs.Prelude.{IfErr, IsErrAnd, Ok, OnErr, Err, Result}
 use Rattle.ist_core.specs.declared.commands.Command.{Command}
 use Rattle.ist_core.specs.declared.ports.Full.{Full}
@@ -9,19 +9,27 @@ use Rattle.ist_core.specs.Standing.{makes_entry}
 use Rattle.ist_rule.specs.Conditions.{CanGiveUp}
 use Rattle.ist_rule.specs.Faces.{TokenFace}
 use Rattle.ist_rule.specs.Learning.{Turned, searching}
-use Rattle.ist_rule.proofs.WentOnLemmas.{later_by-goes_on}
-use Rattle.laws_stability.specs.Progress.{progress}
+use Rattle.ist_rule.specs.Rule.{IsSound}
+use Rattle.ist_rule.proofs.SearchedOnLemmas.{went_searched}
+use Rattle.ist_rule.proofs.WentOnLemmas.{later_by-goes_on, went_same}
+use Rattle.laws_stability.specs.Progress.{most_progress, progress}
 use Rattle.laws_coming.specs.Further.{CameFurther}
+use Rattle.laws_coming.proofs.FurtherLemmas.{fewer_left}
 use Rattle.ist_rows.specs.declared.callers.Caller.{Caller}
 use Rattle.ist_updates.specs.declared.updates.When.{When}
 use Rattle.ist_updates.specs.declared.updates.Outcome.{Outcome}
 use Rattle.ist_updates.specs.declared.updates.Outcome.TheVariants.{Took, Nothing, Unmet}
 use Rattle.ist_updates.specs.Asking.{Updates, command_for, IsAsked}
 use Rattle.ist_updates.specs.Ending.{IsWalk, HasTakenNone, HasDone, HasEnded}
+use Rattle.ist_updates.specs.Counting.{CountedNowhere, LeavesDue}
+use Rattle.ist_updates.specs.Meeting.{WasMissed}
+use Rattle.ist_updates.specs.Refusals.{WasRefused}
+use Rattle.ist_updates.specs.Trying.{Tries}
 use Rattle.ist_updates.specs.Walking.{IsAskedAgain, IsAskedStill, HasWalked}
 use Rattle.ist_updates.proofs.ApplyingLemmas.{HasBegunWalk, all_searched, begun_walk, still_on, refused_first, still_counted, still_due, took_is_counted, took_ends, took_due, nothing_told}
 use Rattle.ist_updates.proofs.FurtherLemmas.{begun_fresh}
 use Rattle.ist_updates.proofs.MissLemmas.{missed_since}
+use Rattle.ist_updates.proofs.ResultLemmas.{ok_outcome}
 use Rattle.ist_updates.proofs.WalkCountLemmas.{few_on, paid_on}
 
 -- a caller that is asked may give its call up
@@ -42,17 +50,51 @@ none_entry : (key : ℕ) (value : Option ℕ) → value ≡ None
 none_entry key (Some given) is e = cc
 none_entry key None is e = cc
 
--- what follows from each refusal
-pub refused_as : (r : Result Outcome Full) {P Q : Full → Type 0}
-    → ((full : Full) → P full → Q full) → IfErr r P → IfErr r Q
-refused_as (Ok o) f h = tt
-refused_as (Err full) f h = f full h
+-- ---- what it has by its last walk
 
--- what holds after any refusal
-pub refused_so : (r : Result Outcome Full) {P : Full → Type 0} {Q : Type 0}
-    → ((full : Full) → P full → Q) → IfErr r P → OnErr r Q
-refused_so (Ok o) f h = tt
-refused_so (Err full) f h = f full h
+-- what an outcome is as the result of the call
+abbrev pub ended : Outcome → Result Outcome Full
+ended outcome = Ok outcome
+
+-- if it met another value, it met it in the call, and took no effect
+pub record HasUnmet (old : Caller) (key : ℕ) (when : When) (outcome : Outcome) (new : Caller) : Type 0 where
+  pub missed : ended outcome ≡ ended Unmet → WasMissed old.token.view new.token.view key when
+  pub given_up : ended outcome ≡ ended Unmet → CanGiveUp new.token.view
+  pub nowhere : ended outcome ≡ ended Unmet
+      → CountedNowhere old.token.view.log new.token.view.log old.number
+
+-- so it is for each outcome
+pub unmet_ends : {old new : Caller} {key : ℕ} {value : Option ℕ} {when : When} {outcome : Outcome}
+    → HasDone old key value when outcome new → HasUnmet old key when outcome new
+unmet_ends {outcome = outcome} d =
+    record {
+      missed = λ is. (d.unmet (same is)).0;
+      given_up = λ is. (d.unmet (same is)).1.given_up;
+      nowhere = λ is. (d.unmet (same is)).1.nowhere;
+    }
+  where
+    same : ended outcome ≡ ended Unmet → outcome ≡ Unmet
+    same is = ok_outcome outcome Unmet is
+
+-- if it was refused, it took no effect
+pub record HasRefusedAll (old : Caller) (key : ℕ) (value : Option ℕ) (words : ℕ)
+    (result : Result Outcome Full) (new : Caller) : Type 0 where
+  pub full : IfErr result (λ full.
+      WasRefused old.token.view key value words full new.token.view)
+  pub given_up : IfErr result (λ full. CanGiveUp new.token.view)
+  pub due : OnErr result (LeavesDue old.token.view new.token.view old.number None)
+  pub nowhere : OnErr result (CountedNowhere old.token.view.log new.token.view.log old.number)
+
+-- so it is for each result
+pub refused_ends : {old new : Caller} {key : ℕ} {value : Option ℕ} {when : When} {words : ℕ}
+    (result : Result Outcome Full) → HasEnded old key value when words result new
+    → HasRefusedAll old key value words result new
+refused_ends (Ok outcome) e = record { full = tt; given_up = tt; due = tt; nowhere = tt }
+refused_ends (Err full) e =
+    let none = e.refused.1 in
+    record { full = e.refused.0; given_up = none.given_up; due = none.due; nowhere = none.nowhere }
+
+-- ---- a walk
 
 -- a walk of the call begins, after walks of which none took effect and which progress paid for
 pub record IsTurn (old who : Caller) (token : TokenFace) (key : ℕ) (value : Option ℕ) : Type 0 where
@@ -62,6 +104,28 @@ pub record IsTurn (old who : Caller) (token : TokenFace) (key : ℕ) (value : Op
   pub paid : who.token.view.searches + progress old.token.view.log
       ≤ old.token.view.searches + progress who.token.view.log
   pub turned : Turned who.token.view (searching who.token.view) token.view
+
+-- what the walks so far have done
+abbrev WalksOn : Caller → Caller → ℕ → Option ℕ → Type 0
+WalksOn old who key value =
+    (who.number ≡ old.number) × IsAskedAgain old who (command_for key value)
+    × (who.token.view.searches + progress old.token.view.log
+    ≤ old.token.view.searches + progress who.token.view.log)
+
+-- before the first walk nothing was done
+pub turns_begin : {old : Caller} (key : ℕ) (value : Option ℕ) → IsSound old.token.view
+    → IsAsked old (command_for key value) → WalksOn old old key value
+turns_begin {old} key value s asked =
+    let v = old.token.view in
+    let went = went_searched Tries v v (went_same Tries v s) in
+    (refl, record { went = went; asked = asked }, omega arith)
+
+-- a walk begins after them
+pub is_turn : {old who : Caller} {token : TokenFace} {key : ℕ} {value : Option ℕ}
+    → IsAsked old (command_for key value) → WalksOn old who key value
+    → Turned who.token.view (searching who.token.view) token.view → IsTurn old who token key value
+is_turn asked i turned =
+    record { asked = asked; number = i.0; again = i.1; paid = i.2; turned = turned }
 
 module _ {old who : Caller} {token : TokenFace} {key : ℕ} {value : Option ℕ}
     (b : IsTurn old who token key value) where
@@ -85,26 +149,35 @@ module _ {old who : Caller} {token : TokenFace} {key : ℕ} {value : Option ℕ}
     -- ---- if it must begin again
 
     -- after a walk that must begin again the call is as before it
-    pub again_asked : {x : Option Outcome} → x ≡ None → IsWalk there key value when anchor words (Ok x) new
+    again_asked : {x : Option Outcome} → x ≡ None → IsWalk there key value when anchor words (Ok x) new
         → IsAskedAgain old new (command_for key value)
     again_asked is h =
         still_on old there key value b.asked turn_begun new
         (subst (λ y. HasWalked there key value anchor words (Ok y) new) is h.walked)
 
     -- and the table came further
-    pub again_further : {x : Option Outcome} → x ≡ None
+    again_further : {x : Option Outcome} → x ≡ None
         → IsWalk there key value when anchor words (Ok x) new
         → CameFurther who.token.view new.token.view
     again_further is h =
         h.further (ap Ok is) who.token.view (begun_fresh who.token.view token.view b.turned)
 
     -- which pays for it
-    pub again_paid : {x : Option Outcome} → x ≡ None → IsWalk there key value when anchor words (Ok x) new
-        → new.token.view.searches + progress old.token.view.log
-        ≤ old.token.view.searches + progress new.token.view.log
-    again_paid is h =
-        paid_on old.token.view who.token.view token.view new.token.view b.paid b.turned h.on.gone.went
-        (again_further is h)
+    pub again_walks : {x : Option Outcome} → x ≡ None → IsWalk there key value when anchor words (Ok x) new
+        → WalksOn old new key value
+    again_walks is h = (
+      h.on.gone.number ∙ b.number,
+      again_asked is h,
+      paid_on old.token.view who.token.view token.view new.token.view b.paid b.turned h.on.gone.went
+          (again_further is h),
+    )
+
+    -- and less progress is left
+    pub again_smaller : {x : Option Outcome} → x ≡ None
+        → IsWalk there key value when anchor words (Ok x) new
+        → most_progress - progress new.token.view.log < most_progress - progress who.token.view.log
+    again_smaller is h =
+        fewer_left who.token.view new.token.view h.on.gone.went.sound (again_further is h)
 
     -- ---- if it needn't
 

@@ -76,18 +76,18 @@ met_wider pairs words a b c d g h key m =
 
 -- ---- at the slot
 
+-- a caller at the slot has made no step since it was there
+pub slot_here : (v : View) (aim : Aim) → IsSound v
+    → IsAtSlot v aim.key aim.node aim.index aim.word → WasAtSlot v aim
+slot_here v aim s at = record { before = v; at = at; sound = s; seen = goes_on_same v s }
+
 module _ (v : View) (aim : Aim) (at : WasAtSlot v aim) where
   abbrev b : View
   b = at.before
 
-  -- the caller was at the slot when it was there
-  there : WasAtSlot b aim
-  there =
-      record { before = b; at = at.at; sound = at.sound; seen = goes_on_same b at.sound }
-
   -- the key leads to the slot
   pub slot_leads : LeadsToSlot b.start b.words b.log aim.key aim.node aim.index
-  slot_leads = record { led = (slot_met b aim there).led; child = at.at.child }
+  slot_leads = record { led = (slot_met b aim (slot_here b aim at.sound at.at)).led; child = at.at.child }
 
   b_to_v : GoesOn b.log v.log
   b_to_v = later-goes_on at.seen.later
@@ -146,10 +146,10 @@ module _ (v : View) (aim : Aim) (at : WasAtSlot v aim) where
 pub slot_on_way : (v : View) → IsSound v → (key node index word rebuild : ℕ)
     → IsAtSlot v key node index word → IsRebuildFor (now v).pieces node index rebuild
     → IsOnWay v.start v.words v.log key rebuild
+unfolding slot_here
 slot_on_way v s key node index word rebuild at named =
     let aim : Aim = record { node = node; index = index; word = word; key = key } in
-    let leads = slot_leads v aim
-    record { before = v; at = at; sound = s; seen = goes_on_same v s } in
+    let leads = slot_leads v aim (slot_here v aim s at) in
     record {
       row = named.row;
       published = named.published;

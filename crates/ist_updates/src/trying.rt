@@ -161,6 +161,7 @@ fn remove_at(
 }
 
 // Tries the update at a slot that holds a leaf.
+#[tactic(auto, using(crate::proofs::PlanLemmas::slot_loads, crate::proofs::TriedLemmas::loads_asked))]
 fn try_leaf(
     table: &TreeTable,
     who: &mut Caller,
@@ -238,6 +239,7 @@ fn help_target(
 /// If the slot holds a change or a rebuild, it is helped, and the walk must begin again. The walk must
 /// also begin again if the node isn't open, if the slot holds another word by then, and if the update
 /// was decided no.
+#[tactic(auto, using(crate::proofs::WayLemmas::slot_here))]
 pub(crate) fn try_slot(
     table: &TreeTable,
     who: &mut Caller,

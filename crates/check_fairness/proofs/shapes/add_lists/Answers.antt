@@ -1,13 +1,11 @@
-use Rattle.std.proofs.Common.{◌≤◌, ◌<◌, map, arith}
+use Rattle.std.proofs.Common.{◌≤◌, ◌<◌, arith}
 use Rattle.std.proofs.lemmas.Result.{on_ok_weaker}
 use Rattle.ist_core.specs.Shapes.{share_from, share_from_is}
 use Rattle.check_fairness.proofs.BuildLemmas.{adds_none, adds_one, adds_three, shapes_kept}
 use Rattle.check_fairness.proofs.shapes.add_lists.Goals as goal
 
 pub returns-then-k-lt2 : goal.returns-then-k-lt2
-returns-then-k-lt2 c = record {
-  added = λ has. (adds_none c.args.k c.if-k-lt2.true (map (λ v. v.items) c.args.lists.now.items), has);
-}
+returns-then-k-lt2 c = record { added = λ has. (adds_none c.args.k c.if-k-lt2.true _, has) }
 
 pub returns-then-k-lt-SHARE_FROM : goal.returns-then-k-lt-SHARE_FROM
 returns-then-k-lt-SHARE_FROM c =
@@ -15,11 +13,7 @@ returns-then-k-lt-SHARE_FROM c =
     let few : c.args.k < share_from = omega arith in
     record {
       added = on_ok_weaker c.add_shape_alone.result
-          (λ come has. (
-            adds_one c.args.k (omega arith) few (map (λ v. v.items) c.args.lists.now.items)
-                (map (λ v. v.items) c.add_shape_alone.new.lists.items) (come has).0,
-            (come has).1,
-          ))
+          (λ come has. (adds_one c.args.k (omega arith) few _ _ (come has).0, (come has).1))
           c.add_shape_alone.ensures.added;
     }
 
@@ -27,19 +21,13 @@ pub returns : goal.returns
 returns c =
     let from = share_from_is in
     let many : share_from ≤ c.args.k = omega arith in
-    let old = map (λ v. v.items) c.args.lists.now.items in
-    let mid = map (λ v. v.items) c.add_top.new.lists.items in
-    let next = map (λ v. v.items) c.add_shape_alone-2.new.lists.items in
-    let new = map (λ v. v.items) c.add_shape_alone-3.new.lists.items in
     let top = c.in_ok-add_top.ensures.added in
     record {
       added = on_ok_weaker c.add_shape_alone-3.result
           (λ come has.
-          let first = c.in_ok-add_shape_alone.ensures.added
-          (shapes_kept c.args.shapes.now old mid _ top has) in
+          let first = c.in_ok-add_shape_alone.ensures.added (shapes_kept c.args.shapes.now _ _ _ top has) in
           let last = come first.1 in (
-            adds_three c.args.k c.degree_of-children.result c.part_len_of.result
-                c.part_len_of-2.result old mid next new (omega arith) many
+            adds_three c.args.k c.degree_of-children.result _ _ _ _ _ _ (omega arith) many
                 c.degree_of-children.ensures.value c.part_len_of.ensures.value
                 c.part_len_of-2.ensures.value top first.0 last.0,
             last.1,

@@ -1,47 +1,34 @@
-use Rattle.std.proofs.Common.{◌≡◌, ◌*◌, ◌-◌, ◌<◌, ◌≤◌, ◌^◌, IfSome, ap, ◌∙◌, subst, arith}
+use Rattle.std.proofs.Common.{◌≡◌, ◌*◌, ◌-◌, ap, ◌∙◌, arith}
 use Rattle.std.specs.List.{sum}
+use Rattle.ist_core.specs.Shapes.{shape}
 use Rattle.ist_core.proofs.WordLemmas.{ideal_words_is}
-use Rattle.ist_rows.specs.Building.{HasTaken}
-use Rattle.ist_rule.specs.Learning.{GoesOnTo}
-use Rattle.ist_rows.proofs.ShortLemmas.{short_from, short_goes_on}
+use Rattle.ist_rows.proofs.ShortLemmas.{short_goes_on}
 use Rattle.ist_build.proofs.AtOnceLemmas.{shape_next}
 use Rattle.ist_build.proofs.block.reserve_shape.Goals as goal
 
 -- leaves take two words each
 pub overflow_sub-inner : goal.overflow_sub-inner
-overflow_sub-inner g c =
-    let is = c.ideal_words.ensures.value ∙ ideal_words_is c.args.size in
-    let h : 2 * c.args.size ≤ c.ideal_words.result = omega arith in
-    h
+overflow_sub-inner g c = omega (arith, c.ideal_words.ensures.value ∙ ideal_words_is c.args.size)
 
 -- the rows take the others, and are few words
 pub reserve_block-requires : goal.reserve_block-requires
 reserve_block-requires g c =
     let is = c.ideal_words.ensures.value ∙ ideal_words_is c.args.size in
     let rows = ap sum c.requires.0 in
-    let most = c.ideal_words.ensures.most in
-    let few = c.requires.1.1.1.1.1 in
-    let asked : c.ideal_words.result - 2 * c.args.size ≡ sum g.sizes = omega arith in
-    let small : c.ideal_words.result - 2 * c.args.size < 2 ^ 32 = omega arith in
     let next = shape_next c.args.who.now c.args.size g.sizes c.requires.0 c.requires.1.1.1.0
     c.requires.1.1.1.1.0 in
-    (c.requires.1.0, (c.requires.1.1.0, (next.0, (next.1, (asked, small)))))
+    (c.requires.1.0, (c.requires.1.1.0, (next.0, (next.1, (omega arith, omega arith)))))
 
 -- they are taken in the order of the shape
 pub returns-clause-taken : goal.returns-clause-taken
-returns-clause-taken g c =
-    subst (λ xs. IfSome c.reserve_block.result (λ base. HasTaken c.args.who.now xs
-    c.reserve_block.new.who)) c.requires.0 c.reserve_block.ensures.taken
+returns-clause-taken g c = rw c.requires.0 at c.reserve_block.ensures.taken
 
 -- if they don't fit, the first free word says so
 pub returns-clause-full : goal.returns-clause-full
 returns-clause-full g c none =
     let is = c.ideal_words.ensures.value ∙ ideal_words_is c.args.size in
-    let v = c.args.who.now.token.view in
-    let h = c.reserve_block.ensures.none none in (
-      h.0,
-      short_from GoesOnTo GoesOnTo v v (λ x on. on) _ h.0 _ h.1 (λ asked. asked ∙ omega arith),
-    )
+    let asked : c.ideal_words.result - 2 * c.args.size ≡ sum (shape c.args.size) = omega arith in
+    rw asked at (c.reserve_block.ensures.none none)
 
 -- and only loads were made
 pub returns-clause-none : goal.returns-clause-none

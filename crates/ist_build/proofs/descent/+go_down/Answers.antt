@@ -1,11 +1,11 @@
-use Rattle.std.proofs.Common.{ℕ, ◌+◌, ◌-◌, ◌*◌, ◌^◌, ◌≤◌, arith}
-use Rattle.ist_core.specs.RowLayout.{place_limit}
+use Rattle.std.proofs.Common.{arith}
 use Rattle.ist_rule.proofs.GoingOnLemmas.{goes_on_more}
-use Rattle.ist_build.proofs.DescentLemmas.{few_loads, few_below, past, past_nothing, past_leaf, past_row, at_leaf, below_row, not_past}
+use Rattle.ist_build.proofs.DescentLemmas.{few_loads, few_below, past, past_nothing, past_leaf, past_row}
+use Rattle.ist_build.proofs.DescentLemmas.{at_leaf, below_row, not_past}
 use Rattle.ist_build.proofs.ReadingLemmas.{reading_begun}
 use Rattle.ist_build.proofs.SlotLemmas.{slots_on}
 use Rattle.ist_build.proofs.descent.+go_down.Goals as goal
-use Rattle.ist_build.proofs.descent.+go_down.Goals.{in-Nothing, in-Leaf+else-skip-eq0, in-Row+else-skip-keys, After-look_below-below, After-go_down-reached}
+use Rattle.ist_build.proofs.descent.+go_down.Goals.{in-Nothing, in-Leaf+else-skip-eq0, in-Row+else-skip-keys}
 
 pub loop-index-init : goal.loop-index-init
 loop-index-init t c =
@@ -14,33 +14,23 @@ loop-index-init t c =
       e.slots,
       e.counted,
       omega arith,
-      (λ leaves has. reading_begun leaves _ _ _ _ c.args.node c.know.ensures.sound e.seen
-          (c.requires.finished.k, c.requires.finished.finished) (omega arith) has),
+      reading_begun _ _ _ _ _ c.know.ensures.sound e.seen (c.requires.finished.k, c.requires.finished.finished)
+          (omega arith),
     )
-
-few : (t : ℕ) (c : After-look_below-below t)
-    → c.loop-index.loads + c.look_below-below.result.1 ≤ (place_limit - c.args.node) * 2 ^ 31
-few t c =
-    few_loads _ c.loop-index.invariant.0.sound c.args.node _ c.loop-index.index _ _
-    c.loop-index.invariant.1 c.loop-index-test.true c.loop-index.invariant.3
-    c.look_below-below.ensures.few
 
 pub overflow_add-loads : goal.overflow_add-loads
 overflow_add-loads t c =
-    record { fits = omega (arith, few t (goal.at.overflow_add-loads t c).After-look_below-below) }
-
-rest : (t : ℕ) (c : After-go_down-reached t)
-    → c.loop-index.loads + c.look_below-below.result.1 + c.go_down-reached.result.loads
-    ≤ (place_limit - c.args.node) * 2 ^ 31
-rest t c =
-    let i = c.loop-index.invariant in let e = c.look_below-below.ensures in
-    few_below _ c.look_below-below.new.token.view i.0.sound c.args.node _ c.loop-index.index
-    _ _ c.in-Row.base c.in-Row.keys _ i.1 c.loop-index-test.true i.3 e.few _ c.in-Row.is e.under
-    c.go_down-reached.ensures.fits
+    let i = c.loop-index.invariant in
+    let few = few_loads _ i.0.sound _ _ _ _ _ i.1 c.loop-index-test.true i.3 c.look_below-below.ensures.few in
+    record { fits = omega arith }
 
 pub overflow_add-result : goal.overflow_add-result
 overflow_add-result t c =
-    record { fits = omega (arith, rest t (goal.at.overflow_add-result t c).After-go_down-reached) }
+    let i = c.loop-index.invariant in
+    let e = c.look_below-below.ensures in
+    let rest = few_below _ c.look_below-below.new.token.view i.0.sound _ _ _ _ _ _ _ _ i.1 c.loop-index-test.true
+    i.3 e.few _ c.in-Row.is e.under c.go_down-reached.ensures.fits in
+    record { fits = omega arith }
 
 pub returns-then-skip-eq0 : goal.returns-then-skip-eq0
 returns-then-skip-eq0 t c =
@@ -48,11 +38,10 @@ returns-then-skip-eq0 t c =
     let e = c.look_below-below.ensures in
     record {
       seen = goes_on_more _ _ _ i.0 e.seen;
-      read = λ leaves has. at_leaf leaves _ _ c.args.node _ c.loop-index.index i.0.sound e.seen i.1
-          c.loop-index-test.true c.args.i c.loop-index.skip (i.4 leaves has) _ c.in-Leaf.base
-          c.in-Leaf.is e.under c.if-skip-eq0.true;
+      read = λ leaves has. at_leaf leaves _ _ _ _ _ i.0.sound e.seen i.1 c.loop-index-test.true _ _
+          (i.4 leaves has) _ _ c.in-Leaf.is e.under c.if-skip-eq0.true;
       counted = omega (arith, i.2, e.counted);
-      fits = few t (goal.at.returns-then-skip-eq0 t c).After-look_below-below;
+      fits = few_loads _ i.0.sound _ _ _ _ _ i.1 c.loop-index-test.true i.3 e.few;
     }
 
 pub returns-then-skip-keys : goal.returns-then-skip-keys
@@ -62,11 +51,11 @@ returns-then-skip-keys t c =
     let g = c.go_down-reached.ensures in
     record {
       seen = goes_on_more _ _ _ (goes_on_more _ _ _ i.0 e.seen) g.seen;
-      read = λ leaves has. below_row leaves _ _ c.args.node _ c.loop-index.index i.0.sound e.seen
-          i.1 c.loop-index-test.true c.args.i c.loop-index.skip (i.4 leaves has) _ c.in-Row.base
-          c.in-Row.keys _ c.in-Row.is e.under g.read;
+      read = λ leaves has. below_row leaves _ _ _ _ _ i.0.sound e.seen i.1 c.loop-index-test.true _ _
+          (i.4 leaves has) _ _ _ _ c.in-Row.is e.under g.read;
       counted = omega (arith, i.2, e.counted, g.counted);
-      fits = rest t (goal.at.returns-then-skip-keys t c).After-go_down-reached;
+      fits = few_below _ c.look_below-below.new.token.view i.0.sound _ _ _ _ _ _ _ _ i.1 c.loop-index-test.true
+          i.3 e.few _ c.in-Row.is e.under g.fits;
     }
 
 pub loop-index-preserved : goal.loop-index-preserved
@@ -74,7 +63,7 @@ loop-index-preserved t c =
     let i = c.loop-index.invariant in
     let e = c.look_below-below.ensures in (
       goes_on_more _ _ _ i.0 e.seen,
-      slots_on _ _ e.seen c.args.node _ i.1,
+      slots_on _ _ e.seen _ _ i.1,
       omega (arith, i.2, e.counted),
       omega (arith, i.3, e.few),
       (λ leaves has.
@@ -91,6 +80,5 @@ loop-index-preserved t c =
 
 pub unreachable-requires : goal.unreachable-requires
 unreachable-requires t c =
-    not_past _ _ c.know.ensures.sound c.loop-index.invariant.0.sound c.args.node _
-    c.loop-index.index c.args.i c.loop-index.skip c.loop-index.invariant.1 c.loop-index-test.false
-    c.requires.finished c.loop-index.invariant.4
+    let i = c.loop-index.invariant in
+    not_past _ _ c.know.ensures.sound i.0.sound _ _ _ _ _ i.1 c.loop-index-test.false c.requires.finished i.4

@@ -1,6 +1,6 @@
 use Rattle.ist_build.proofs.BackLemmas.{back_more}
 use Rattle.ist_build.proofs.KeptLemmas.{shared_back, shared_told, err_stopped}
-use Rattle.ist_build.proofs.LeftLemmas.{fills_then}
+use Rattle.ist_build.proofs.FewFillLemmas.{fills_then}
 use Rattle.ist_build.proofs.filling.fill_shared.Goals as goal
 
 pub fill_unset-requires-clause-shared : goal.fill_unset-requires-clause-shared
@@ -18,6 +18,6 @@ returns-clause-full c =
 
 pub returns-clause-few : goal.returns-clause-few
 returns-clause-few c =
-    fills_then c.args.who.now c.fill_drawn.new.who c.fill_unset.new.who c.args.shared
-    c.fill_drawn.ensures.back c.fill_unset.ensures.back c.in_ok-fill_drawn.ensures.few
+    fills_then _ _ c.fill_unset.new.who c.args.shared
+    (c.fill_drawn.ensures.back, c.in_ok-fill_drawn.ensures.few) c.fill_unset.ensures.back
     c.fill_unset.result c.fill_unset.ensures.few

@@ -1,4 +1,4 @@
-use Rattle.std.proofs.Common.{◌≡◌, sym, ap, ◌∙◌, eq-eqb, arith}
+use Rattle.std.proofs.Common.{sym, ap, ◌∙◌, eq-eqb, arith}
 use Rattle.std.proofs.lemmas.Bool.{eqb-true}
 use Rattle.ist_core.specs.Writing.{place_of_status}
 use Rattle.ist_rule.proofs.GoingOnLemmas.{looked_goes_on}
@@ -10,9 +10,7 @@ use Rattle.ist_dcss.proofs.opening.is_open.Goals as goal
 pub load-requires-clause-within : goal.load-requires-clause-within
 load-requires-clause-within c =
     let low = status_low _ c.know.ensures.sound c.args.node c.requires.node in
-    let at : c.status_place.result ≡ place_of_status c.args.node =
-    c.status_place.ensures.value ∙ ap place_of_status c.from.ensures in
-    let known = c.know.ensures.words in
+    let at = c.status_place.ensures.value ∙ ap place_of_status c.from.ensures in
     let same = ap (λ t. t.words) c.requires.same_table in
     omega arith
 
@@ -29,17 +27,14 @@ returns-clause-seen c = looked_goes_on _ _ _ _ c.load.ensures.looked
 -- the word is the open word if the node is open
 pub returns-clause-open : goal.returns-clause-open
 returns-clause-open c =
-    let at = c.status_place.ensures.value ∙ ap place_of_status c.from.ensures in (
-      λ t. shows_open _ c.know.ensures.sound c.args.node _ _ _ c.load.ensures.looked
-          c.requires.node at (eqb-true _ _ t ∙ c.to_word.ensures.value),
-      λ is. eq-eqb _ _ (open_shows _ c.args.node _ _ _ c.load.ensures.looked at is
-          ∙ sym c.to_word.ensures.value),
+    let at = c.status_place.ensures.value ∙ ap place_of_status c.from.ensures in
+    let looked = c.load.ensures.looked in (
+      λ t. shows_open _ c.know.ensures.sound c.args.node _ _ _ looked c.requires.node at
+          (eqb-true _ _ t ∙ c.to_word.ensures.value),
+      λ is. eq-eqb _ _ (open_shows _ c.args.node _ _ _ looked at is ∙ sym c.to_word.ensures.value),
     )
 
 -- if the node is open, no change on it was decided no
 pub returns-clause-unrefused : goal.returns-clause-unrefused
 returns-clause-unrefused c number t =
-    let at = c.status_place.ensures.value ∙ ap place_of_status c.from.ensures in
-    open_unrefused _ c.load.ensures.looked.sound number c.args.node
-    (shows_open _ c.know.ensures.sound c.args.node _ _ _ c.load.ensures.looked c.requires.node at
-    (eqb-true _ _ t ∙ c.to_word.ensures.value))
+    open_unrefused _ c.load.ensures.looked.sound number c.args.node ((returns-clause-open c).0 t)

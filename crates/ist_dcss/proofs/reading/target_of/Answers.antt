@@ -9,10 +9,7 @@ use Rattle.ist_dcss.proofs.reading.target_of.Goals as goal
 pub load-requires-clause-within : goal.load-requires-clause-within
 load-requires-clause-within c =
     let it = c.requires.published in
-    let low = (row_low _ c.know.ensures.sound c.args.rebuild (Rebuild it.row) it.published 0
-    (omega arith)).0 in
-    let from = c.from.ensures in
-    let known = c.know.ensures.words in
+    let low = (row_low _ c.know.ensures.sound c.args.rebuild (Rebuild it.row) it.published 0 (omega arith)).0 in
     let same = ap (λ t. t.words) c.requires.same_table in
     omega arith
 
@@ -21,17 +18,12 @@ pub load-requires-clause-no_walk : goal.load-requires-clause-no_walk
 load-requires-clause-no_walk c at =
     let it = c.requires.published in
     let above = row_above _ c.know.ensures.sound c.args.rebuild (Rebuild it.row) it.published in
-    let from = c.from.ensures in
     absurd (omega arith)
 
 -- and the target is a row of it
 pub overflow_cast-result : goal.overflow_cast-result
 overflow_cast-result c =
-    let from = c.from.ensures in
-    record {
-      fits = target_low _ _ _ _ c.load.ensures.looked c.args.rebuild c.requires.published
-          (omega arith);
-    }
+    record { fits = target_low _ _ _ _ c.load.ensures.looked c.args.rebuild c.requires.published (omega arith) }
 
 pub returns-clause-seen : goal.returns-clause-seen
 returns-clause-seen c = looked_goes_on _ _ _ _ c.load.ensures.looked
@@ -39,5 +31,4 @@ returns-clause-seen c = looked_goes_on _ _ _ _ c.load.ensures.looked
 -- the word is the target
 pub returns-clause-target : goal.returns-clause-target
 returns-clause-target c =
-    let from = c.from.ensures in
     target_told _ _ _ _ c.load.ensures.looked c.args.rebuild c.requires.published (omega arith)

@@ -20,7 +20,7 @@ pub overflow_add-loads : goal.overflow_add-loads
 overflow_add-loads c =
     let few = run_fits _ _ c.args.node c.args.from c.args.key c.args.count c.loop-gallop.gallop _
     c.loop-gallop.invariant c.requires.count c.requires.within in
-    record { fits = omega (arith, few, c.requires.fits) }
+    record { fits = omega arith }
 
 -- each look is one load
 pub loop-gallop-preserved : goal.loop-gallop-preserved
@@ -28,14 +28,12 @@ loop-gallop-preserved c =
     let k = c.key_at-in-loop-gallop.ensures in
     let p = c.probe-at.ensures in
     let t = c.told-gallop.ensures in
-    run_on _ _ _ c.args.node c.args.from c.args.key c.loop-gallop.gallop _ c.loop-gallop.loads
-    c.probe-at.result _ c.loop-gallop.invariant k.seen k.loads k.value p.after_low p.before_high
+    run_on _ _ _ _ _ _ _ _ _ _ _ c.loop-gallop.invariant k.seen k.loads k.value p.after_low p.before_high
     t.low t.high t.gallops
 
 pub returns : goal.returns
 returns c =
     record {
-      finds = run_ends _ _ c.know.ensures.sound c.args.node c.args.from c.args.key _
-          c.loop-gallop.gallop _ c.requires.row c.loop-gallop.invariant
+      finds = run_ends _ _ c.know.ensures.sound _ _ _ _ _ _ c.requires.row c.loop-gallop.invariant
           c.loop-gallop-test.ensures.exact c.requires.count c.requires.within;
     }

@@ -1,26 +1,16 @@
 use Rattle.std.proofs.Common.{◌+◌, ◌<◌, ◌^◌, ap, arith}
-use Rattle.ist_core.specs.Pieces.{Inner, Rebuild}
-use Rattle.ist_dcss.proofs.FieldLemmas.{row_low, row_above}
+use Rattle.ist_core.specs.Pieces.{Inner}
+use Rattle.ist_dcss.proofs.FieldLemmas.{row_low}
+use Rattle.ist_find.proofs.RowLemmas.{may_load}
 use Rattle.ist_find.proofs.ReadLemmas.{target_told}
 use Rattle.ist_find.proofs.reading.target.Goals as goal
 
 -- the rebuild lies within the table
-pub load-target-requires-clause-within : goal.load-target-requires-clause-within
-load-target-requires-clause-within c =
-    let r = c.requires.row in
-    let low = (row_low _ c.know.ensures.sound c.args.base (Rebuild r.row) r.published 0
-    (omega arith)).0 in
-    let from = c.from.ensures in
-    let known = c.know.ensures.words in
-    let same = ap (λ t. t.words) c.requires.same_table in
-    omega arith
-
-pub load-target-requires-clause-no_walk : goal.load-target-requires-clause-no_walk
-load-target-requires-clause-no_walk c at =
-    let r = c.requires.row in
-    let above = row_above _ c.know.ensures.sound c.args.base (Rebuild r.row) r.published in
-    let from = c.from.ensures in
-    absurd (omega arith)
+pub load-target-requires : goal.load-target-requires
+load-target-requires c =
+    let may = may_load c.know.ensures.sound c.know.ensures.words c.requires.same_table c.args.base
+    c.requires.row.published 0 (omega arith) _ (ap (λ n. n + 0) c.from.ensures) in
+    record { same_table = c.requires.same_table; within = may.0; no_walk = may.1 }
 
 -- so does its target, and the table is small
 pub overflow_cast-result : goal.overflow_cast-result

@@ -1,6 +1,5 @@
 use Rattle.ist_math.proofs.ChildLemmas.{key_after_child}
 use Rattle.ist_rule.proofs.GoingOnLemmas.{goes_on_same}
-use Rattle.ist_find.specs.Searches.{keys_at}
 use Rattle.ist_find.proofs.RowLemmas.{keys_rise}
 use Rattle.ist_find.proofs.SpanLemmas.{node_row, row_child}
 use Rattle.ist_find.proofs.SlotEndLemmas.{slot_within}
@@ -27,8 +26,8 @@ last_of-requires c =
       row = row;
       count = c.requires.at.count_is;
       within = slot_within v c.args.node c.args.from _ c.requires.at.child;
-      below = key_after_child (keys_at v c.args.node) (keys_rise v c.know.ensures.sound c.args.node row)
-          c.args.from _ (row_child v c.args.node c.args.from _ other c.requires.at.child);
+      below = key_after_child _ (keys_rise v c.know.ensures.sound c.args.node row) c.args.from _
+          (row_child v c.args.node c.args.from _ other c.requires.at.child);
     }
 
 pub returns-clause-stays : goal.returns-clause-stays

@@ -1,50 +1,21 @@
-use Rattle.std.proofs.Common.{sym, ap, ◌∙◌, subst, rules}
+use Rattle.std.proofs.Common.{sym, ap, ◌∙◌, rules}
+use Rattle.ist_rebuild.proofs.FewLemmas.{few_row}
 use Rattle.ist_rebuild.proofs.HelpedLemmas.{refused_row}
-use Rattle.ist_rebuild.proofs.PreparedLemmas.{HasPreparedFinish, has_prepared}
+use Rattle.ist_rebuild.proofs.PreparedLemmas.{has_prepared}
 use Rattle.ist_rebuild.proofs.RefusalLemmas.{passed_on, row_refused}
 use Rattle.ist_rebuild.proofs.SiteLemmas.{plan_good}
-use Rattle.ist_core.specs.RowLayout.{change_words}
-use Rattle.ist_rows.specs.declared.callers.Caller.{Caller}
-use Rattle.ist_rows.specs.Taken.{HasTakenFew, HasTakenFewIn}
-use Rattle.ist_rebuild.specs.Needs.{wanting}
-use Rattle.ist_rebuild.proofs.FewLemmas.{few_row}
 use Rattle.ist_rebuild.proofs.finishing.prepare.Goals as goal
 
 -- a change row that was refused
 pub returns-in_err-change-clause-helped : goal.returns-in_err-change-clause-helped
-returns-in_err-change-clause-helped c =
-    refused_row _ _ _ _ c.requires.ready c.reserve.ensures.caller c.reserve.ensures.number
-    c.in_err-change.ensures.full
+returns-in_err-change-clause-helped c = search (rules, refused_row)
 
 pub returns-in_err-change-clause-full : goal.returns-in_err-change-clause-full
 returns-in_err-change-clause-full c =
-    passed_on c.from_residual.result _ _ c.from_residual.ensures.1
-    (row_refused _ _ c.args.plan.rebuild _ _ c.in_err-change.ensures.full
-    (refused_row _ _ _ _ c.requires.ready c.reserve.ensures.caller c.reserve.ensures.number
-    c.in_err-change.ensures.full).on.gone)
+    let refused = c.in_err-change.ensures.full in
+    passed_on c.from_residual.result _ _ c.from_residual.ensures.1 (row_refused _ _ c.args.plan.rebuild _ _ refused
+    (refused_row _ _ _ _ c.requires.ready c.reserve.ensures.caller c.reserve.ensures.number refused).on.gone)
 
--- a published rebuild has a good base
-pub finish_words-words-requires : goal.finish_words-words-requires
-finish_words-words-requires c =
-    record { good = plan_good _ c.know.ensures.sound c.args.plan c.requires.plan }
-
--- the row was filled
-prepares : (c : goal.After-know-3)
-    → HasPreparedFinish c.args.who.now c.fill_row.new.who c.args.plan c.in_ok-change.change
-prepares c =
-    let e = c.in_ok-change.ensures in
-    has_prepared c.args.who.now c.reserve.new.who _ c.args.plan c.in_ok-change.change _
-    c.requires.ready c.know.ensures.sound c.requires.plan c.requires.unrefused
-    record { caller = e.caller; number = e.number; held = e.held; fresh = e.reserved }
-    c.finish_words-words.ensures.value c.fill_row.ensures.stored c.know-3.ensures.sound
-
-pub returns-clause-helped : goal.returns-clause-helped
-returns-clause-helped c = (prepares c).helped
-
-pub returns-clause-prepared : goal.returns-clause-prepared
-returns-clause-prepared c = (prepares c).prepared
-
--- only the words of the change were taken
 pub returns-in_err-change-clause-few : goal.returns-in_err-change-clause-few
 returns-in_err-change-clause-few c =
     let e = c.reserve.ensures in
@@ -52,12 +23,16 @@ returns-in_err-change-clause-few c =
     (sym (c.know.ensures.words ∙ ap (λ t. t.words) c.requires.same_table)) e.held e.reserved e.full in
     search rules
 
-pub returns-clause-few : goal.returns-clause-few
-returns-clause-few c =
-    let e = c.reserve.ensures in
-    let few = few_row c.args.who.now c.reserve.new.who _ c.reserve.result c.requires.ready.caller
-    (sym (c.know.ensures.words ∙ ap (λ t. t.words) c.requires.same_table)) e.held e.reserved e.full in
-    subst (λ (x : Caller). HasTakenFew (wanting c.args.who.now.change change_words) 0 c.args.who.now x)
-    (sym c.fill_row.ensures.stored)
-    (subst (λ r. HasTakenFewIn r (wanting c.args.who.now.change change_words) 0 c.args.who.now
-    c.reserve.new.who) c.in_ok-change.was few)
+-- a published rebuild has a good base
+pub finish_words-words-requires : goal.finish_words-words-requires
+finish_words-words-requires c = record { good = plan_good _ c.know.ensures.sound c.args.plan c.requires.plan }
+
+-- the row was filled
+pub returns : goal.returns
+returns c =
+    let e = c.in_ok-change.ensures in
+    let p = has_prepared c.args.who.now c.reserve.new.who _ c.args.plan c.in_ok-change.change _
+    c.requires.ready c.know.ensures.sound c.requires.plan c.requires.unrefused
+    record { caller = e.caller; number = e.number; held = e.held; fresh = e.reserved }
+    c.finish_words-words.ensures.value c.fill_row.ensures.stored c.know-3.ensures.sound in
+    record { helped = p.helped; few = p.few; prepared = p.prepared; full = tt }

@@ -18,29 +18,21 @@ mark_and_count_from-requires-clause-may_mark c =
     may_mark c.args.who.now c.target_of-target.new.token c.args.rebuild _ c.requires.ready
     c.requires.started c.target_of-target.ensures.seen c.target_of-target.ensures.target
 
--- the target is then finished
-pub returns-clause-helped : goal.returns-clause-helped
-returns-clause-helped c =
-    (has_marked c.args.who.now c.target_of-target.new.token c.mark_and_count_from.new.token c.args.rebuild
-    _ _ c.requires.ready c.requires.started c.target_of-target.ensures.seen
-    c.target_of-target.ensures.target c.mark_and_count_from.ensures.went
-    c.mark_and_count_from.ensures.finished).helped
-
-pub returns-clause-buildable : goal.returns-clause-buildable
-returns-clause-buildable c =
-    (has_marked c.args.who.now c.target_of-target.new.token c.mark_and_count_from.new.token c.args.rebuild
-    _ _ c.requires.ready c.requires.started c.target_of-target.ensures.seen
-    c.target_of-target.ensures.target c.mark_and_count_from.ensures.went
-    c.mark_and_count_from.ensures.finished).buildable
-
--- no word was taken
-pub returns-clause-none : goal.returns-clause-none
-returns-clause-none c =
+-- the target is then finished, and no word was taken
+pub returns : goal.returns
+returns c =
     let who = c.args.who.now in
     let mid = record who { token = c.target_of-target.new.token } in
     let new = record who { token = c.mark_and_count_from.new.token } in
     let loads = c.target_of-target.ensures.seen in
+    let went = c.mark_and_count_from.ensures.went in
     let mine = c.requires.ready.caller.mine in
-    none_more who mid new (none_loads who c.target_of-target.new.token mine loads)
-    (none_kept (Marks new.token.view c.target_of-target.result) (marks_keep _ _) mid new refl
-    (goes_on_who loads ∙ mine) c.mark_and_count_from.ensures.went)
+    let marked = has_marked who mid.token new.token c.args.rebuild _ _ c.requires.ready c.requires.started
+    loads c.target_of-target.ensures.target went c.mark_and_count_from.ensures.finished in
+    record {
+      helped = marked.helped;
+      none = none_more who mid new (none_loads who mid.token mine loads)
+          (none_kept (Marks new.token.view c.target_of-target.result) (marks_keep _ _) mid new refl
+          (goes_on_who loads ∙ mine) went);
+      buildable = marked.buildable;
+    }

@@ -1,6 +1,6 @@
-use Rattle.std.proofs.Common.{◌∙◌, ap, refl, arith}
+use Rattle.std.proofs.Common.{◌∙◌, ap, arith}
 use Rattle.ist_rows.proofs.ReserveLemmas.{read_again, read_first, read_table}
-use Rattle.ist_rows.proofs.TakingLemmas.{fewer_free, has_reserved, may_reserve, next_fits}
+use Rattle.ist_rows.proofs.TakingLemmas.{fewer_free, has_reserved, is_full, may_reserve, next_fits}
 use Rattle.ist_rows.proofs.reserving.take.Goals as goal
 
 -- the first free word was loaded once
@@ -8,39 +8,19 @@ pub turns-init : goal.turns-init
 turns-init c = read_first _ _ _ c.know.ensures.sound c.load-next.ensures.looked
 
 pub overflow_add-next : goal.overflow_add-next
-overflow_add-next c =
-    record { fits = next_fits _ _ _ c.turns.invariant _ c.requires.small }
+overflow_add-next c = record { fits = next_fits _ _ _ c.turns.invariant _ c.requires.small }
 
 -- the exchange may be made, whatever others do
 pub exchange-found-requires : goal.exchange-found-requires
 exchange-found-requires c =
-    let fits = c.if-next-size.false in
-    let words = c.word_count-words.ensures.value in
     let same = ap (λ t. t.words) c.requires.same_table in
-    let known = c.know.ensures.words in
-    let in_it = c.word_count-words.ensures.within.0 in (
-      read_table _ _ _ c.turns.invariant ∙ c.requires.same_table,
-      (
-        omega arith,
-        may_reserve _ _ _ c.turns.invariant c.args.number c.requires.caller c.args.size
-            c.requires.fair (omega arith),
-      ),
-    )
+    let may = may_reserve _ _ _ c.turns.invariant c.args.number c.requires.caller c.args.size c.requires.fair in
+    (read_table _ _ _ c.turns.invariant ∙ c.requires.same_table, (omega arith, may (omega arith)))
 
 -- too few words were left when the first free word was read
 pub returns-then-next-size-clause-full : goal.returns-then-next-size-clause-full
 returns-then-next-size-clause-full c =
-    let read = c.turns.invariant in
-    record {
-      before = read.before;
-      seen = read.seen;
-      looked = read.looked;
-      few = record {
-        words_is = c.word_count-words.ensures.value;
-        small = omega arith;
-        asked = refl;
-      };
-    }
+    is_full _ _ _ c.turns.invariant _ _ _ c.word_count-words.ensures.value c.if-next-size.true
 
 -- if the first free word was found, the row was reserved
 pub returns-then-found-next-clause-reserved : goal.returns-then-found-next-clause-reserved

@@ -1,5 +1,4 @@
-use Rattle.std.proofs.Common.{sym, ap, ◌∙◌, arith}
-use Rattle.ist_rule.specs.Faces.{TokenFace, TableFace}
+use Rattle.std.proofs.Common.{ap, arith}
 use Rattle.ist_rule.proofs.NamedLemmas.{same_id}
 use Rattle.ist_rule.proofs.CallPlayLemmas.{searches_moves, may_walk}
 use Rattle.ist_rule.proofs.calling.begin_search.Goals as goal

@@ -1,7 +1,7 @@
-use Rattle.std.proofs.Common.{sym, ap, subst, ◌∙◌, arith}
-use Rattle.ist_rule.specs.Faces.{TokenFace, TableFace, name_of}
+use Rattle.std.proofs.Common.{refl, sym, ap, subst, ◌∙◌, arith}
+use Rattle.ist_rule.specs.Faces.{TokenFace, TableFace}
 use Rattle.ist_rule.specs.Several.{CanExchangeAll}
-use Rattle.ist_rule.proofs.NamedLemmas.{same_id}
+use Rattle.ist_rule.proofs.NamedLemmas.{same_id, seat_holds}
 use Rattle.ist_rule.proofs.ListLogLemmas.{exchanges_all_moves, exchanged_all_sound}
 use Rattle.ist_rule.proofs.steps.exchange_all.Goals as goal
 
@@ -20,10 +20,7 @@ compare_exchange-requires g c =
 -- the token is sound
 pub invariant_of-token : goal.invariant_of-token
 invariant_of-token g c =
+    let i = c.token.invariant in
     let e = c.compare_exchange.ensures in
-    let it = exchanged_all_sound _ _ _ _ _ _ e.2.0 in (
-      e.2.1 ∙ c.token.invariant.0,
-      it.0,
-      it.1 ∙ c.token.invariant.2 ∙ sym (ap (λ t. t.words) e.0),
-      it.2 ∙ c.token.invariant.3 ∙ sym (ap name_of e.0),
-    )
+    let it = exchanged_all_sound _ _ _ _ _ _ e.2.0 in
+    seat_holds refl (e.2.1 ∙ i.0) it.0 (it.1 ∙ i.2) (it.2 ∙ i.3) e.0

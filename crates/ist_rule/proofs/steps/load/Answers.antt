@@ -1,5 +1,5 @@
-use Rattle.std.proofs.Common.{sym, ap, ◌∙◌, arith}
-use Rattle.ist_rule.specs.Faces.{TokenFace, TableFace}
+use Rattle.std.proofs.Common.{ap, arith}
+use Rattle.ist_rule.specs.Faces.{TableFace}
 use Rattle.ist_rule.proofs.NamedLemmas.{same_id}
 use Rattle.ist_rule.proofs.LookLemmas.{looks_moves}
 use Rattle.ist_rule.proofs.steps.load.Goals as goal

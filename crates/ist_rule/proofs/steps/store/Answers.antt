@@ -1,9 +1,7 @@
 use Rattle.std.proofs.Common.{sym, ap, subst, ◌∙◌, arith}
-use Rattle.ist_rule.specs.declared.view.View.{View}
-use Rattle.ist_rule.specs.Faces.{TokenFace, TableFace, name_of}
+use Rattle.ist_rule.specs.Faces.{TokenFace, TableFace}
 use Rattle.ist_rule.specs.Conditions.{IsOwn}
-use Rattle.ist_rule.specs.Rule.{IsSound}
-use Rattle.ist_rule.proofs.NamedLemmas.{same_id}
+use Rattle.ist_rule.proofs.NamedLemmas.{same_id, seat_holds}
 use Rattle.ist_rule.proofs.StoreLemmas.{stores_moves, storing_sound}
 use Rattle.ist_rule.proofs.steps.store.Goals as goal
 
@@ -22,12 +20,9 @@ store-requires c =
 -- the token is sound
 pub invariant_of-token : goal.invariant_of-token
 invariant_of-token c =
+    let i = c.token.invariant in
     let e = c.store.ensures in
-    let v : View = c.token.inside.seat.me.0 in
     let own = subst (λ x. IsOwn x c.args.place) (ap (λ (s : TokenFace). s.view) (sym c.token.view_is))
-    c.requires.own in (
-      e.2.1 ∙ c.token.invariant.0,
-      subst IsSound (sym e.2.0) (storing_sound v c.args.place c.args.word own c.token.invariant.1),
-      ap (λ (x : View). x.words) e.2.0 ∙ c.token.invariant.2 ∙ sym (ap (λ t. t.words) e.0),
-      ap (λ (x : View). x.table) e.2.0 ∙ c.token.invariant.3 ∙ sym (ap name_of e.0),
-    )
+    c.requires.own in
+    seat_holds e.2.0 (e.2.1 ∙ i.0)
+    (storing_sound c.token.inside.seat.me.0 c.args.place c.args.word own i.1) i.2 i.3 e.0

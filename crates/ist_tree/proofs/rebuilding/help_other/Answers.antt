@@ -9,42 +9,31 @@ use Rattle.ist_tree.proofs.rebuilding.help_other.Goals as goal
 pub help_rebuild-requires-clause-started : goal.help_rebuild-requires-clause-started
 help_rebuild-requires-clause-started c =
     other_started _ c.know.ensures.sound _ _ _ _ _ c.requires.stood
-    (names_rebuild _ _ (sym c.instead_in.ensures.value ∙ c.in-Rebuild.is))
+    (names_rebuild _ c.instead_in.ensures.value c.in-Rebuild.is)
 
 pub returns-in-Ok : goal.returns-in-Ok
 returns-in-Ok c =
-    record {
-      helped = other_rebuilt _ _ c.args.due _ _ _ c.help_rebuild.ensures.helped
-          (names_rebuild _ _ (sym c.instead_in.ensures.value ∙ c.in-Rebuild.is)) c.requires.ready
-          c.help_rebuild.ensures.finished;
-    }
+    let is = names_rebuild _ c.instead_in.ensures.value c.in-Rebuild.is in let h = c.help_rebuild.ensures in
+    record { helped = other_rebuilt _ _ _ _ _ _ h.helped is c.requires.ready h.finished }
 
 pub returns-in-Err : goal.returns-in-Err
 returns-in-Err c =
-    record {
-      helped = other_short _ _ c.args.due _ _ _ c.help_rebuild.ensures.helped
-          (names_rebuild _ _ (sym c.instead_in.ensures.value ∙ c.in-Rebuild.is))
-          c.know.ensures.sound c.requires.stood _ c.in-Err.ensures.full;
-    }
+    let is = names_rebuild _ c.instead_in.ensures.value c.in-Rebuild.is in let h = c.help_rebuild.ensures in
+    let stood = c.requires.stood in
+    record { helped = other_short _ _ _ _ _ _ h.helped is c.know.ensures.sound stood _ c.in-Err.ensures.full }
 
 -- a change
 pub help-requires-clause-may_help : goal.help-requires-clause-may_help
 help-requires-clause-may_help c =
     other_helped _ c.know.ensures.sound _ _ _ _ _ c.requires.stood _ c.requires.ready.caller.mine
-    (names_change _ _ (sym c.instead_in.ensures.value ∙ c.in-Change.is))
+    (names_change _ c.instead_in.ensures.value c.in-Change.is)
 
 pub returns-in-Change : goal.returns-in-Change
 returns-in-Change c =
-    record {
-      helped = other_changed _ c.help.new.token c.args.due _ _ _ c.requires.ready
-          c.help.ensures.went
-          (names_change _ _ (sym c.instead_in.ensures.value ∙ c.in-Change.is))
-          c.help.ensures.out.resolved;
-    }
+    let is = names_change _ c.instead_in.ensures.value c.in-Change.is in let h = c.help.ensures in
+    record { helped = other_changed _ _ _ _ _ _ c.requires.ready h.went is h.out.resolved }
 
 pub returns-in-Other : goal.returns-in-Other
 returns-in-Other c =
-    record {
-      helped = other_none _ c.args.due _ _ c.know.ensures.sound c.requires.ready
-          (sym c.instead_in.ensures.value ∙ c.in-Other.is);
-    }
+    let is = sym c.instead_in.ensures.value ∙ c.in-Other.is in
+    record { helped = other_none _ _ _ _ c.know.ensures.sound c.requires.ready is }

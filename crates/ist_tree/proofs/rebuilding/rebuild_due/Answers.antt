@@ -8,8 +8,7 @@ use Rattle.ist_tree.proofs.RebuildLemmas.{may_start_went}
 use Rattle.ist_tree.proofs.rebuilding.rebuild_due.Goals as goal
 
 pub turns-init : goal.turns-init
-turns-init c =
-    (goes_none _ _ c.know.ensures.sound c.requires.ready, λ first done. done)
+turns-init c = (goes_none _ _ c.know.ensures.sound c.requires.ready, λ first done. done)
 
 pub try_due-requires-clause-may_start : goal.try_due-requires-clause-may_start
 try_due-requires-clause-may_start c =
@@ -18,16 +17,14 @@ try_due-requires-clause-may_start c =
 pub returns-in_err-try_due : goal.returns-in_err-try_due
 returns-in_err-try_due c =
     record {
-      rebuilt = rebuilt_short _ _ _ c.args.due _ c.turns.invariant.0 c.from_residual.result _
-          c.from_residual.ensures.1 c.in_err-try_due.ensures.tried;
+      rebuilt = rebuilt_short _ _ _ _ _ c.turns.invariant.0 _ _ c.from_residual.ensures.1
+          c.in_err-try_due.ensures.tried;
     }
 
 pub returns-then-branch : goal.returns-then-branch
 returns-then-branch c =
-    record {
-      rebuilt = rebuilt_last _ _ _ c.args.due _ c.turns.invariant.0 _ c.turns.invariant.1
-          c.in_ok-try_due.ensures.tried c.if-branch.true;
-    }
+    let so_far = c.turns.invariant in let t = c.in_ok-try_due.ensures.tried in
+    record { rebuilt = rebuilt_last _ _ _ _ _ so_far.0 _ so_far.1 t c.if-branch.true }
 
 pub turns-preserved : goal.turns-preserved
 turns-preserved c = (

@@ -1,19 +1,12 @@
 -- A row is rebuilt, or found shut, or what its slot holds instead is helped.
 use Rattle.std.proofs.Common.{Ok, ap}
-use Rattle.ist_rule.specs.Watching.{is_inner}
-use Rattle.ist_tree.specs.Working.{Rebuilds}
-use Rattle.ist_tree.proofs.AttemptLemmas.{later_short, marked_tried, other_tried, own_tried, tried_short}
-use Rattle.ist_tree.proofs.DueLemmas.{goes_more, marked_leaves, other_leaves, yes_leaves}
-use Rattle.ist_tree.proofs.RebuildLemmas.{may_start_went}
+use Rattle.ist_tree.proofs.AttemptLemmas.{due_node, later_short, marked_tried, other_tried, own_tried, tried_short}
 use Rattle.ist_tree.proofs.rebuilding.try_due.Goals as goal
 
 -- the start is refused
 pub returns-in_err-rebuild : goal.returns-in_err-rebuild
 returns-in_err-rebuild c =
-    record {
-      tried = tried_short _ _ c.args.due _ c.from_residual.result _ c.from_residual.ensures.1
-          c.start_due.ensures.on c.in_err-rebuild.ensures.full;
-    }
+    record { tried = tried_short _ c.from_residual.ensures.1 c.start_due.ensures.on c.in_err-rebuild.ensures.full }
 
 -- a rebuild is started, and helped
 pub help_own-requires-clause-started : goal.help_own-requires-clause-started
@@ -21,53 +14,32 @@ help_own-requires-clause-started c = c.in_ok-rebuild.ensures.yes _ (ap Ok c.in-Y
 
 pub returns-in_err-help_own-in-Yes : goal.returns-in_err-help_own-in-Yes
 returns-in_err-help_own-in-Yes c =
-    record {
-      tried = later_short _ _ _ c.args.due _ c.from_residual-in_err-help_own-in-Yes.result _
-          c.from_residual-in_err-help_own-in-Yes.ensures.1 c.start_due.ensures.on
-          c.in_err-help_own-in-Yes.ensures.helped.on c.in_err-help_own-in-Yes.ensures.helped.full;
-    }
+    let h = c.in_err-help_own-in-Yes.ensures.helped in let on = c.start_due.ensures.on in
+    record { tried = later_short _ c.from_residual-in_err-help_own-in-Yes.ensures.1 on h.on h.full }
 
 pub returns-in_ok-help_own-in-Yes : goal.returns-in_ok-help_own-in-Yes
 returns-in_ok-help_own-in-Yes c =
-    record {
-      tried = own_tried _ _ _ c.args.due _ c.in-Yes.rebuild c.start_due.ensures.on
-          (λ first done. yes_leaves first _ _ _ _ c.in-Yes.is
-          (c.in_ok-rebuild.ensures.done first done))
-          c.in_ok-help_own-in-Yes.ensures.helped;
-    }
+    let h = c.in_ok-help_own-in-Yes.ensures.helped in let on = c.start_due.ensures.on in
+    record { tried = own_tried on c.in-Yes.is c.in_ok-rebuild.ensures.done h }
 
 -- the parent is marked
 pub returns-in-Marked : goal.returns-in-Marked
 returns-in-Marked c =
-    record {
-      tried = marked_tried _ _ c.args.due _ c.start_due.ensures.on
-          (c.in_ok-rebuild.ensures.marked (ap Ok c.in-Marked.is))
-          (λ first done. marked_leaves first _ _ _ c.in-Marked.is
-          (c.in_ok-rebuild.ensures.done first done));
-    }
+    let r = c.in_ok-rebuild.ensures in
+    record { tried = marked_tried c.start_due.ensures.on c.in-Marked.is r.marked r.done }
 
 -- something else is there
 pub returns-in_err-help_other-in-Other : goal.returns-in_err-help_other-in-Other
 returns-in_err-help_other-in-Other c =
-    record {
-      tried = later_short _ _ _ c.args.due _ c.from_residual-in_err-help_other-in-Other.result _
-          c.from_residual-in_err-help_other-in-Other.ensures.1 c.start_due.ensures.on
-          c.in_err-help_other-in-Other.ensures.helped.on
-          c.in_err-help_other-in-Other.ensures.helped.full;
-    }
+    let h = c.in_err-help_other-in-Other.ensures.helped in let on = c.start_due.ensures.on in
+    record { tried = later_short _ c.from_residual-in_err-help_other-in-Other.ensures.1 on h.on h.full }
 
 pub is_open-requires-clause-node : goal.is_open-requires-clause-node
 is_open-requires-clause-node c =
-    let on = goes_more _ _ _ _ c.start_due.ensures.on c.in_ok-help_other-in-Other.ensures.helped.on in
-    let m = may_start_went Rebuilds _ _ on.on.gone.went _ _ _ c.requires.may_start in
-    is_inner m.row m.published
+    due_node c.start_due.ensures.on c.in_ok-help_other-in-Other.ensures.helped.on c.requires.may_start
 
 pub returns-in_ok-help_other-in-Other : goal.returns-in_ok-help_other-in-Other
 returns-in_ok-help_other-in-Other c =
-    record {
-      tried = other_tried _ _ _ _ c.args.due _ _ _ c.requires.may_start c.start_due.ensures.on
-          (c.in_ok-rebuild.ensures.other _ (ap Ok c.in-Other.is))
-          (λ first done. other_leaves first _ _ _ _ c.in-Other.is
-          (c.in_ok-rebuild.ensures.done first done))
-          c.in_ok-help_other-in-Other.ensures.helped c.is_open.ensures.seen c.is_open.ensures.open;
-    }
+    let r = c.in_ok-rebuild.ensures in let h = c.in_ok-help_other-in-Other.ensures.helped in
+    let on = c.start_due.ensures.on in let o = c.is_open.ensures in
+    record { tried = other_tried c.requires.may_start on c.in-Other.is r.other r.done h o.seen o.open }

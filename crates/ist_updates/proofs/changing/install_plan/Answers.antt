@@ -1,6 +1,5 @@
-use Rattle.std.proofs.Common.{sym, subst}
-use Rattle.ist_rule.specs.Faces.{TokenFace}
-use Rattle.ist_dcss.specs.Installing.{Filling, IsInstalled}
+use Rattle.std.proofs.Common.{subst}
+use Rattle.ist_dcss.specs.Installing.{Filling}
 use Rattle.ist_updates.proofs.GivenLemmas.{given_caller, given_refused}
 use Rattle.ist_rows.proofs.GoneLemmas.{loads_gone}
 use Rattle.ist_rule.specs.Learning.{now}
@@ -10,28 +9,17 @@ use Rattle.ist_updates.proofs.changing.install_plan.Goals as goal
 -- if it is installed
 pub returns-in-Yes-clause-yes : goal.returns-in-Yes-clause-yes
 returns-in-Yes-clause-yes g c _ =
-    subst (λ (s : TokenFace). IsInstalled c.args.who.now.token.view c.args.plan.base g.filling s.view)
-    (sym c.give_away.ensures.same.0) (c.install.ensures.yes c.in-Yes.is)
+    rw c.give_away.ensures.same.0 (c.install.ensures.yes c.in-Yes.is)
 
 pub returns-in-Yes-clause-caller : goal.returns-in-Yes-clause-caller
 returns-in-Yes-clause-caller g c =
-    given_caller c.args.who.now c.give_away.new.who c.args.plan c.requires.1.0 c.requires.1.1.0
-    c.requires.1.1.1.0
-    (subst (λ (f : Filling). IsInstalled c.args.who.now.token.view c.args.plan.base f
-    c.give_away.new.who.token.view) c.requires.1.1.1.1.1
-    (subst (λ (s : TokenFace). IsInstalled c.args.who.now.token.view c.args.plan.base g.filling s.view)
-    (sym c.give_away.ensures.same.0) (c.install.ensures.yes c.in-Yes.is)))
-    c.give_away.ensures.same.1 c.give_away.ensures.rows
+    given_caller _ _ c.args.plan c.requires.1.0 c.requires.1.1.0 c.requires.1.1.1.0 c.requires.1.1.1.1.1
+    (c.install.ensures.yes c.in-Yes.is) c.give_away.ensures.same c.give_away.ensures.rows
 
 pub returns-in-Yes-clause-refused : goal.returns-in-Yes-clause-refused
 returns-in-Yes-clause-refused g c =
-    given_refused c.args.who.now c.give_away.new.who c.args.plan c.requires.1.0
-    c.requires.1.1.0 c.requires.1.1.1.0
-    (subst (λ (f : Filling). IsInstalled c.args.who.now.token.view c.args.plan.base f
-    c.give_away.new.who.token.view) c.requires.1.1.1.1.1
-    (subst (λ (s : TokenFace). IsInstalled c.args.who.now.token.view c.args.plan.base g.filling s.view)
-    (sym c.give_away.ensures.same.0) (c.install.ensures.yes c.in-Yes.is)))
-    c.give_away.ensures.same.1 c.give_away.ensures.rows
+    given_refused _ _ c.args.plan c.requires.1.0 c.requires.1.1.0 c.requires.1.1.1.0 c.requires.1.1.1.1.1
+    (c.install.ensures.yes c.in-Yes.is) c.give_away.ensures.same c.give_away.ensures.rows
 
 -- and if the slot held another word
 pub returns-in-Other-clause-no : goal.returns-in-Other-clause-no
@@ -39,13 +27,11 @@ returns-in-Other-clause-no g c _ = (c.install.ensures.other c.in-Other.field-0 c
 
 pub returns-in-Other-clause-caller : goal.returns-in-Other-clause-caller
 returns-in-Other-clause-caller g c =
-    (loads_gone (λ e. ⊥) c.args.who.now c.install.new.token c.requires.1.0 c.requires.1.1.0
-    (c.install.ensures.other c.in-Other.field-0 c.in-Other.is).seen).caller
+    (loads_gone (λ e. ⊥) _ _ c.requires.1.0 c.requires.1.1.0 (c.install.ensures.other _ c.in-Other.is).seen).caller
 
 pub returns-in-Other-clause-refused : goal.returns-in-Other-clause-refused
 returns-in-Other-clause-refused g c =
-    (loads_gone (λ e. ⊥) c.args.who.now c.install.new.token c.requires.1.0 c.requires.1.1.0
-    (c.install.ensures.other c.in-Other.field-0 c.in-Other.is).seen).refused
+    (loads_gone (λ e. ⊥) _ _ c.requires.1.0 c.requires.1.1.0 (c.install.ensures.other _ c.in-Other.is).seen).refused
 
 pub returns-in-Other-clause-other : goal.returns-in-Other-clause-other
 returns-in-Other-clause-other g c _ =

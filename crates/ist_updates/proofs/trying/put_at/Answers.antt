@@ -1,10 +1,8 @@
-use Rattle.std.proofs.Common.{Some, None, inl, inr, refl, ⊎_elim, rules}
+use Rattle.std.proofs.Common.{Some, None, refl}
 use Rattle.ist_core.specs.Installing.{same_key}
 use Rattle.ist_rule.specs.Learning.{now}
-use Rattle.ist_rule.proofs.WentOnLemmas.{later_by-goes_on}
 use Rattle.ist_updates.proofs.LeafLemmas.{own_value, other_value}
-use Rattle.ist_updates.proofs.TryResultLemmas.{changed_tried, put_unchanged}
-use Rattle.ist_updates.proofs.WayLemmas.{met_other}
+use Rattle.ist_updates.proofs.TryResultLemmas.{changed_tried, leaf_unchanged, pair_unchanged}
 use Rattle.ist_updates.proofs.trying.put_at.Goals as goal
 
 -- a leaf of the key leaves room
@@ -17,36 +15,22 @@ change_slot-requires-clause-room c =
 -- the put was over a leaf of the key
 pub returns-in_err-taken-clause-tried : goal.returns-in_err-taken-clause-tried
 returns-in_err-taken-clause-tried c =
-    let h = put_unchanged (Some c.args.value) _ refl refl c.in_err-taken.ensures.changed
-    (λ first began k. ⊎_elim (λ e. inl e) (λ e. inr (inr e)) k) in
-    search rules
+    leaf_unchanged _ c.from_residual.ensures.1 refl c.in_err-taken.ensures.changed
 
 pub returns-then-leaf-aim-clause-tried : goal.returns-then-leaf-aim-clause-tried
 returns-then-leaf-aim-clause-tried c =
     changed_tried (Some c.args.value) c.answer.result (Some c.args.leaf.value) refl
     c.in_ok-taken.ensures.changed c.answer.ensures.took c.answer.ensures.again
-    (own_value (now c.args.who.now.token.view).pieces c.args.base c.args.aim.key c.args.aim.word
-    c.args.leaf c.requires.leaf c.requires.stands c.if-leaf-aim.true)
+    (own_value (now c.args.who.now.token.view).pieces _ c.requires.leaf c.requires.stands c.if-leaf-aim.true)
 
 -- or beside one of another key
 pub returns-in_err-beside-clause-tried : goal.returns-in_err-beside-clause-tried
 returns-in_err-beside-clause-tried c =
-    let changed = c.in_err-beside.ensures.changed in
-    let h = put_unchanged (Some c.args.value) _ refl refl changed
-    (λ first began k. ⊎_elim (λ e. inl e)
-    (λ l. inr (⊎_elim
-    (λ e. inl (
-      e,
-      met_other _ c.args.aim c.requires.at_slot first began
-          c.change_slot-2.new.who.token.view (later_by-goes_on changed.on.gone.went.later) c.args.base
-          c.args.leaf c.requires.leaf c.requires.stands c.if-leaf-aim.false,
-    ))
-    (λ e. inr e) l)) k) in
-    search rules
+    pair_unchanged _ c.from_residual-in_err-beside.ensures.1 c.requires.at_slot c.requires.leaf
+    c.requires.stands c.if-leaf-aim.false c.in_err-beside.ensures.changed
 
 pub returns-clause-tried : goal.returns-clause-tried
 returns-clause-tried c =
     changed_tried (Some c.args.value) c.answer-2.result None refl c.in_ok-beside.ensures.changed
     c.answer-2.ensures.took c.answer-2.ensures.again
-    (other_value (now c.args.who.now.token.view).pieces c.args.base c.args.aim.key c.args.aim.word
-    c.args.leaf c.requires.leaf c.requires.stands c.if-leaf-aim.false)
+    (other_value (now c.args.who.now.token.view).pieces _ c.requires.leaf c.requires.stands c.if-leaf-aim.false)

@@ -1,4 +1,4 @@
-use Rattle.std.proofs.Common.{Some, None, refl, rules}
+use Rattle.std.proofs.Common.{Some, None, refl}
 use Rattle.ist_rule.specs.Learning.{now}
 use Rattle.ist_updates.proofs.LeafLemmas.{own_value}
 use Rattle.ist_updates.proofs.TriedLemmas.{found_other, found_key}
@@ -15,15 +15,13 @@ returns-then-leaf-aim-clause-tried c =
 -- the change's row was refused
 pub returns-in_err-removed-clause-tried : goal.returns-in_err-removed-clause-tried
 returns-in_err-removed-clause-tried c =
-    let h = remove_unchanged c.args.leaf.value c.in_err-removed.ensures.changed
+    remove_unchanged _ c.from_residual.ensures.1 c.in_err-removed.ensures.changed
     (found_key _ c.args.aim c.requires.at_slot c.args.base c.args.leaf c.requires.leaf
-    c.requires.stands c.if-leaf-aim.false) in
-    search rules
+    c.requires.stands c.if-leaf-aim.false)
 
 -- the remove was carried out or lost
 pub returns-clause-tried : goal.returns-clause-tried
 returns-clause-tried c =
     changed_tried None c.answer.result (Some c.args.leaf.value) refl c.in_ok-removed.ensures.changed
     c.answer.ensures.took c.answer.ensures.again
-    (own_value (now c.args.who.now.token.view).pieces c.args.base c.args.aim.key c.args.aim.word
-    c.args.leaf c.requires.leaf c.requires.stands c.if-leaf-aim.false)
+    (own_value (now c.args.who.now.token.view).pieces _ c.requires.leaf c.requires.stands c.if-leaf-aim.false)

@@ -1,11 +1,11 @@
-use Rattle.std.proofs.Common.{None, ap, inl, inr, refl, sym, ⊎_elim, rules}
+use Rattle.std.proofs.Common.{None, ap, refl, sym}
 use Rattle.ist_core.specs.Changes.{value_at}
 use Rattle.ist_rule.specs.Learning.{now}
 use Rattle.ist_rule.proofs.GoingOnLemmas.{goes_on_same}
 use Rattle.ist_updates.specs.Asking.{command_for}
 use Rattle.ist_updates.proofs.MissLemmas.{none_missed}
 use Rattle.ist_updates.proofs.TriedLemmas.{found_nothing}
-use Rattle.ist_updates.proofs.TryResultLemmas.{changed_tried, nothing_tried, put_unchanged, unmet_tried}
+use Rattle.ist_updates.proofs.TryResultLemmas.{changed_tried, leaf_unchanged, nothing_tried, unmet_tried}
 use Rattle.ist_updates.proofs.trying.try_empty.Goals as goal
 
 -- the key has no value, but the update requires one
@@ -21,10 +21,7 @@ returns-then-not-meets-clause-missed c e =
 -- a put
 pub returns-in_err-taken-in-Some-clause-tried : goal.returns-in_err-taken-in-Some-clause-tried
 returns-in_err-taken-in-Some-clause-tried c =
-    let h = put_unchanged c.args.update.value c.in-Some.value c.in-Some.is
-    (ap (command_for c.args.aim.key) (sym c.in-Some.is)) c.in_err-taken-in-Some.ensures.changed
-    (λ first began k. ⊎_elim (λ e. inl e) (λ e. inr (inr e)) k) in
-    search rules
+    leaf_unchanged _ c.from_residual.ensures.1 c.in-Some.is c.in_err-taken-in-Some.ensures.changed
 
 pub returns-in_ok-taken-in-Some-clause-tried : goal.returns-in_ok-taken-in-Some-clause-tried
 returns-in_ok-taken-in-Some-clause-tried c =

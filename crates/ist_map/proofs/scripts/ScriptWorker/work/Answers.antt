@@ -1,4 +1,4 @@
-use Rattle.std.proofs.Common.{◌≡◌, ◌<◌, length, slice_index_or, rules}
+use Rattle.std.proofs.Common.{rules}
 use Rattle.ist_tree.proofs.HeardLemmas.{seen_more_then, seen_same}
 use Rattle.ist_map.proofs.GrowLemmas.{passed_on}
 use Rattle.ist_map.proofs.RefusalLemmas.{refused_now, kept_now}
@@ -8,13 +8,9 @@ use Rattle.ist_map.proofs.scripts.ScriptWorker.work.Goals as goal
 -- one command more has its reply, and a rebuild was refused
 pub returns-in-Some-clause-told : goal.returns-in-Some-clause-told
 returns-in-Some-clause-told c =
-    let commands = c.loop-self.self-inside.commands.items in
-    let replies = c.loop-self.self-inside.replies.items in
-    let command = c.index-command.result.now in
-    let low : length replies < length commands = search rules in
-    let is : slice_index_or commands (length replies) command ≡ command = search rules in
-    told_more commands replies _ c.in_ok-reply.reply command _ _ _ c.push_reserved.ensures.items
-    low is c.loop-self.invariant.told c.in_ok-reply.ensures.added
+    told_more _ c.loop-self.self-inside.replies.items _ _ c.index-command.result.now _ _ _
+    c.push_reserved.ensures.items (search rules) (search rules) c.loop-self.invariant.told
+    c.in_ok-reply.ensures.added
 
 -- one command more has its reply
 pub loop-self-preserved : goal.loop-self-preserved
@@ -24,14 +20,9 @@ loop-self-preserved c = record {
   commands = search rules;
   few = search rules;
   room = search rules;
-  told =
-      let commands = c.loop-self.self-inside.commands.items in
-      let replies = c.loop-self.self-inside.replies.items in
-      let command = c.index-command.result.now in
-      let low : length replies < length commands = search rules in
-      let is : slice_index_or commands (length replies) command ≡ command = search rules in
-      told_more commands replies _ c.in_ok-reply.reply command _ _ _ c.push_reserved.ensures.items
-      low is c.loop-self.invariant.told c.in_ok-reply.ensures.added;
+  told = told_more _ c.loop-self.self-inside.replies.items _ _ c.index-command.result.now _ _ _
+      c.push_reserved.ensures.items (search rules) (search rules) c.loop-self.invariant.told
+      c.in_ok-reply.ensures.added;
 }
 
 -- no call yet
@@ -49,8 +40,7 @@ loop-self-init c = record {
 pub returns-in_err-reply-clause-refused : goal.returns-in_err-reply-clause-refused
 returns-in_err-reply-clause-refused c none =
     passed_on c.from_residual.result _ _ c.from_residual.ensures.1
-    (refused_now _ _ _ _ c.loop-self.invariant.seen c.call.ensures.seen
-    c.in_err-reply.ensures.full)
+    (refused_now _ _ _ _ c.loop-self.invariant.seen c.call.ensures.seen c.in_err-reply.ensures.full)
 
 -- the rebuild after it was
 pub returns-in-Some-clause-refused : goal.returns-in-Some-clause-refused
