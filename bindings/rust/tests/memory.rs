@@ -181,6 +181,16 @@ fn passes_that_a_snapshot_had_serve_the_next_one() {
 }
 
 #[test]
+fn a_tree_is_opened_over_rising_pairs_without_a_copy_of_them() {
+    let rising: Vec<Pair> = (0..100).map(|key| Pair { key, value: key }).collect();
+    let falling: Vec<Pair> = rising.iter().rev().copied().collect();
+    let none = allocations(|| Tree::open(4096, &[]).unwrap());
+    // A tree with rows takes one allocation more than one without any; a copy of the pairs would be another.
+    assert_eq!(allocations(|| Tree::open(4096, &rising).unwrap()), none + 1);
+    assert!(allocations(|| Tree::open(4096, &falling).unwrap()) > none + 1);
+}
+
+#[test]
 fn a_map_that_finds_no_memory_to_shrink_keeps_its_pairs() {
     for_each_allocation(&[false, true], |number, is_short| {
         let mut model = model(100);
