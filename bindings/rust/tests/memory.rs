@@ -188,6 +188,8 @@ fn a_tree_is_opened_over_rising_pairs_without_a_copy_of_them() {
     // A tree with rows takes one allocation more than one without any; a copy of the pairs would be another.
     assert_eq!(allocations(|| Tree::open(4096, &rising).unwrap()), none + 1);
     assert!(allocations(|| Tree::open(4096, &falling).unwrap()) > none + 1);
+    // Too many words are refused before anything is sorted.
+    assert_eq!(allocations(|| Tree::open(1 << 29, &falling).unwrap_err()), 0);
 }
 
 #[test]

@@ -1,6 +1,7 @@
 //! The exports that open a tree, make its passes and take them back, and free what a handle holds.
 ghost use Rattle.std.specs.Prelude.{◌≡◌, ◌<◌, ◌≤◌, ◌^◌, ◌∷◌, true, false};
 ghost use Rattle.std.specs.Arc.{arc_value};
+ghost use Rattle.ist_core.specs.RowLayout.{place_limit};
 ghost use Rattle.ist_tree.specs.Faces.{calls_in};
 ghost use Rattle.plain_map.specs.Rising.{IsRising};
 ghost use Rattle.ist_c.specs.Calls.{NumbersOwner};
@@ -64,9 +65,10 @@ pub(crate) fn status_for(fault: ReopenFault) -> u32
 // Makes `out` the owner of a new tree.
 fn open_owner(alloc: Global, words: u32, pairs: &[Pair], number: u64, out: &mut Handle) -> u32
     requires rising { IsRising pairs.now }
+    requires within { words ≤ place_limit }
     ensures opens { OpensNew words pairs.now number out.old out.new result }
 {
-    if words > MOST_WORDS || pairs.len() as u64 > PAIRS_LIMIT {
+    if pairs.len() as u64 > PAIRS_LIMIT {
         return MISUSE;
     }
     match TreeOwner::open(alloc, words, pairs, number) {
@@ -90,7 +92,7 @@ pub extern "C" fn open_numbered(
     ensures opens { out.old.full ≡ false
         → OpensNew words (pairs_given pairs.now) number out.old out.new result }
 {
-    if out.full {
+    if out.full || words > MOST_WORDS {
         return MISUSE;
     }
     if are_rising(pairs) {

@@ -1,23 +1,14 @@
 -- The handle holds the owner of a new tree, or is as before.
-use Rattle.std.proofs.Common.{arith, inl, inr, sym, ap, subst, ◌∙◌}
+use Rattle.std.proofs.Common.{arith, inr, sym, ap, subst, ◌∙◌}
 use Rattle.ist_c.specs.Closing.{fault_status}
 use Rattle.ist_c.specs.Opening.{OpensNew, opens_misuse}
 use Rattle.ist_c.proofs.OpenLemmas.{opened_one, opened_none}
 use Rattle.ist_c.proofs.tree_calls.open_owner.Goals as goal
-use Rattle.ist_c.proofs.tree_calls.open_owner.Goals.{
-  then-words-gt-MOST_WORDS-via-then-words-gt-MOST_WORDS,
-  then-words-gt-MOST_WORDS-via-else-words-gt-MOST_WORDS+then-pairs-gt-PAIRS_LIMIT,
-}
 
-pub returns-then-words-gt-MOST_WORDS : goal.returns-then-words-gt-MOST_WORDS
-returns-then-words-gt-MOST_WORDS c =
-    record {
-      opens = opens_misuse c.args.out.now (elim c.then-words-gt-MOST_WORDS.branch [
-        | then-words-gt-MOST_WORDS-via-then-words-gt-MOST_WORDS w ↦ inl w.if-words-gt-MOST_WORDS.true
-        | then-words-gt-MOST_WORDS-via-else-words-gt-MOST_WORDS+then-pairs-gt-PAIRS_LIMIT w ↦
-            let many = w.if-pairs-gt-PAIRS_LIMIT.true in inr (omega arith)
-      ]);
-    }
+pub returns-then-pairs-gt-PAIRS_LIMIT : goal.returns-then-pairs-gt-PAIRS_LIMIT
+returns-then-pairs-gt-PAIRS_LIMIT c =
+    let many = c.if-pairs-gt-PAIRS_LIMIT.true in
+    record { opens = opens_misuse c.args.out.now (inr (omega arith)) }
 
 pub returns-in-Ok : goal.returns-in-Ok
 returns-in-Ok c =
