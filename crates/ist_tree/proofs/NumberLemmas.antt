@@ -1,4 +1,4 @@
--- The calls of passes in the order of their numbers. Serves `TreeTables::run` and
+-- The calls of passes in the order of their numbers. Serves `tele_run::run_on_tree` and
 -- `Map::run`.
 use Rattle.std.proofs.Common.{◌≡◌, ℕ, zero, suc, ◌+◌, ◌<◌, ◌==◌, ◌≢◌, ◌⊎◌, true, false, List, []}
 use Rattle.std.proofs.Common.{◌∷◌, length, map, refl, arith, inl, inr}

@@ -1,6 +1,7 @@
-//! The result of one table of a round.
-use ist_core::Full;
+//! What the table of a generation gives.
+use ist_core::{Full, Pair};
 use ist_rest::Closed;
+use std::alloc::AllocError;
 use tele_lanes::{Answer, Task};
 
 /// The result of a generation.
@@ -15,3 +16,6 @@ pub struct Generation {
     /// The refusal of the lowest lane that stopped, if one did.
     pub full: Option<Full>,
 }
+
+/// The result of a generation, unless memory ran out.
+pub type Ran = Result<Generation, AllocError>;

@@ -2,6 +2,7 @@
 ghost use Rattle.std.specs.Prelude.{◌≡◌, ℕ, ◌≤◌, ◌⊎◌, [], Some, map, string_bytes, IfSome};
 ghost use Rattle.tele_io.specs.Bytes.{HaveRisen, Appends, AppendsPart};
 ghost use Rattle.tele_lines.specs.Answer.{answer, usage_text};
+ghost use Rattle.tele_generations.specs.Tables.{MayRun, RanNext};
 ghost use Rattle.tele_jobs.specs.Summaries.{summary_of, summary_text};
 ghost use Rattle.tele_jobs.specs.CommandLine.{options_in};
 ghost use Rattle.tele_jobs.specs.Jobs.{job_of};
@@ -9,19 +10,19 @@ ghost use Rattle.tele_jobs.specs.Causes.{IsAnswer, IsCutShort, IsStatus, IsWhole
 ghost use Rattle.tele_jobs.specs.Rounds.{input_rounds, made_rounds};
 ghost use Rattle.tele_jobs.specs.Endings.{EndsOn, HasNoTable};
 
-use crate::works::work;
+use crate::trees::run_on_tree;
+use ist_image::Image;
 use ist_rest::Closed;
 use std::alloc::{AllocError, Global};
 use std::sync::Wait;
 use std::thread::Threads;
-use tele_generations::Shelf;
+use tele_generations::{Ran, RoundState, Shelf};
 use tele_io::{Sink, Source};
 use tele_jobs::{
     ANSWERED, BAD_LINE, Job, NO_MEMORY, Outcome, READ_FAILED, USAGE, WRITE_FAILED, read_plan,
-    without_table,
+    without_table, work,
 };
 use tele_lanes::Gate;
-use tele_trees::TreeTables;
 
 /// Reads lines from the source, carries them out on one map, and writes the replies to the sink. If
 /// the command line says so, makes the lines instead and writes a summary.
@@ -44,7 +45,7 @@ use tele_trees::TreeTables;
 ///
 /// The point lines of a round run side by side on a tree. They are split into one lane per worker,
 /// or with `--steal 1` into 64 lanes that the workers steal from one another. If a tree runs full,
-/// another one follows it (`tele_trees::run_round`). The last tree of a round goes to the shelf
+/// another one follows it (`tele_generations::run_round`). The last tree of a round goes to the shelf
 /// when the next round begins; with status 0 or 3 the last tree of the last round is returned.
 /// `gate` is notified of each call on a tree. A run waits for its workers, and no clause says that
 /// this waiting ends.
@@ -130,7 +131,11 @@ pub fn run<R: Threads + Wait + Sync, S: Source, O: Sink, G: Gate + Sync, H: Shel
 {
     match read_plan(alloc, words) {
         Ok(plan) => {
-            let mut tables = TreeTables::new(rt, gate, alloc);
+            let mut image = Image::new(alloc);
+            let mut tables = |way: &RoundState, workers: u32, steal: bool| -> Ran
+                requires may { MayRun way.now workers }
+                ensures ran { RanNext way.now workers steal result }
+            { run_on_tree(rt, gate, alloc, &mut image, way, workers, steal) };
             work(&mut tables, shelf, alloc, plan, source, out)
         }
         Err(AllocError) => without_table(NO_MEMORY),

@@ -3,18 +3,20 @@ ghost use Rattle.std.specs.Prelude.{◌≡◌, ◌+◌, ◌≤◌, ◌^◌, leng
 ghost use Rattle.std.specs.List.Sorted.{IsStrictlyIncreasing};
 ghost use Rattle.ist_core.specs.declared.commands.Command.TheVariants.{Put};
 ghost use Rattle.tele_lanes.specs.Lines.{task_lines};
+ghost use Rattle.tele_generations.specs.Tables.{MayRun, RanNext, RunsTables};
 
 use crate::judging::same;
 use crate::running::{Ran, has_pairs, one, run_over};
 use ist_core::{Command, Full, Pair};
+use ist_image::Image;
 use ist_rest::Closed;
 use std::alloc::{AllocError, Global};
 use std::process::Abort;
 use std::sync::Wait;
 use std::thread::Threads;
-use tele_generations::{Kept, NoShelf, Round};
+use tele_generations::{Generation, Kept, NoShelf, Round, RoundState, run_round};
 use tele_lanes::{Answer, NoGate, Task};
-use tele_trees::{TreeTables, run_round};
+use tele_run::run_on_tree;
 
 /// One worker, and 64 words at most in a first tree.
 const SMALL: [&str; 4] = ["--workers", "1", "--words", "64"];
@@ -71,14 +73,15 @@ fn see(
 }
 
 // Runs a round by one worker, whose first tree has 64 words at most.
-fn see_round<R: Threads + Wait + Sync>(
+fn see_round<F: FnMut(&RoundState, u32, bool) -> Result<Generation, AllocError>>(
     alloc: Global,
-    tables: &mut TreeTables<'_, R, NoGate>,
+    tables: &mut F,
     shelf: &mut Kept<Closed>,
     pairs: &[Pair],
     tasks: &[Task],
     kept: (&[Pair], &[Pair]),
 ) -> Result<ShelfAfter, AllocError>
+    requires tables { RunsTables F.pre F.post }
     requires keys { IsStrictlyIncreasing (map (λ pair. pair.key) pairs.now) }
     requires lines { IsStrictlyIncreasing (task_lines tasks.now) }
     requires few { length pairs.now + length tasks.now ≤ 2 ^ 24 }
@@ -99,7 +102,11 @@ fn see_small<R: Threads + Wait + Sync>(
     requires lines { IsStrictlyIncreasing (task_lines tasks.now) }
     requires few { length pairs.now + length tasks.now ≤ 2 ^ 24 }
 {
-    let mut tables = TreeTables::new(rt, &NoGate, alloc);
+    let mut image = Image::new(alloc);
+    let mut tables = |way: &RoundState, workers: u32, steal: bool| -> Result<Generation, AllocError>
+        requires may { MayRun way.now workers }
+        ensures ran { RanNext way.now workers steal result }
+    { run_on_tree(rt, &NoGate, alloc, &mut image, way, workers, steal) };
     let mut shelf = Kept::new();
     see_round(alloc, &mut tables, &mut shelf, pairs, tasks, kept)
 }

@@ -1,7 +1,7 @@
 //! Runs of the whole program, rounds on trees, and dumps of closed trees: only tests.
 //!
 //! Read `running.rt`, then `statuses.rt`, `meetings.rt`, `stolen.rt`, `full_trees.rt`,
-//! `long_inputs.rt` and `dumps.rt`. Builds on `tele_run`, `tele_trees` and `tele_audit`.
+//! `long_inputs.rt` and `dumps.rt`. Builds on `tele_run`, `tele_generations` and `tele_audit`.
 #![tactic(auto)]
 
 #[cfg(test)]

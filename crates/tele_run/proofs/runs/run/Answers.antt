@@ -1,9 +1,16 @@
-use Rattle.std.proofs.Common.{sym, ◌∙◌, subst}
+use Rattle.std.proofs.Common.{of_calls, rules, sym, ◌∙◌, subst}
 use Rattle.std.specs.Prelude.{IfSome}
 use Rattle.tele_jobs.specs.Causes.{ReadsSparingly}
 use Rattle.tele_jobs.proofs.JobLemmas.{by_reading, reads_failed, reports_usage}
 use Rattle.tele_jobs.proofs.ReadingLemmas.{reads_none}
 use Rattle.tele_run.proofs.runs.run.Goals as goal
+
+-- the closure runs what a round has left on a tree
+pub work-requires-clause-tables : goal.work-requires-clause-tables
+work-requires-clause-tables g c = record {
+  may_run = λ tables way workers steal may. search rules;
+  ran = λ tables way workers steal result ends. search of_calls;
+}
 
 -- what a run over lines read and wrote
 pub returns-in-Ok-clause-text : goal.returns-in-Ok-clause-text
