@@ -7,7 +7,7 @@ ghost use Rattle.ist_core.specs.Shapes.{shape};
 ghost use Rattle.ist_rule.specs.Faces.{word_count_of};
 ghost use Rattle.ist_rule.specs.Rule.{own_at};
 ghost use Rattle.ist_rule.specs.Learning.{now, GoesOnTo};
-ghost use Rattle.ist_rows.specs.Rows.{IsCaller, spares_of};
+ghost use Rattle.ist_rows.specs.Rows.{IsCaller, IsAtTable, spares_of};
 ghost use Rattle.ist_rows.specs.Building.{HasTaken, HasRefused};
 ghost use Rattle.ist_rows.specs.Taken.{HasTakenFewIn};
 ghost use Rattle.ist_build.specs.Laying.{BuiltOn, HaveLeaves, AreKeysOf, ArePlaced, IsLaid, AreNextRows, IsShort, IsWritten, IsLaidBelow};
@@ -29,8 +29,7 @@ pub(crate) fn lay(
     leaves: &[u32],
     keys: &[u64],
 ) -> u64
-    requires same_table { who.old.token.view.table ≡ table.now.table }
-    requires caller { IsCaller who.old }
+    requires caller { IsAtTable table.now IsCaller who.old }
     requires held { HoldsBlock (now who.old.token.view) who.old.number next.old
         (shape (length leaves.now)) }
     requires fresh { (place : ℕ) → next.old ≤ place → own_at who.old.token.view.own place ≡ 0 }
@@ -70,8 +69,7 @@ pub(crate) fn lay(
 fn reserve_shape(table: &TreeTable, who: &mut Caller, size: u64) -> Option<u32>
     ghost sizes: { List ℕ }
     requires sizes { sizes ≡ shape size }
-    requires same_table { who.old.token.view.table ≡ table.now.table }
-    requires caller { IsCaller who.old }
+    requires caller { IsAtTable table.now IsCaller who.old }
     requires due { AreNextRows who.old size }
     requires several { 2 ≤ size }
     requires few { size < place_limit }
@@ -95,8 +93,7 @@ pub(crate) fn build_at_once(
     leaves: &[u32],
     keys: &[u64],
 ) -> Result<u64, Full>
-    requires same_table { who.old.token.view.table ≡ table.now.table }
-    requires caller { IsCaller who.old }
+    requires caller { IsAtTable table.now IsCaller who.old }
     requires due { 2 ≤ length leaves.now → AreNextRows who.old (length leaves.now) }
     requires leaves { HaveLeaves (now who.old.token.view) leaves.now }
     requires keys { AreKeysOf (now who.old.token.view) leaves.now keys.now }

@@ -8,7 +8,7 @@ ghost use Rattle.ist_rule.specs.Faces.{word_count_of};
 ghost use Rattle.ist_rule.specs.Going.{WentOn, KeepsWords};
 ghost use Rattle.ist_rule.specs.Learning.{now, GoesOnTo};
 ghost use Rattle.ist_rows.specs.Shortage.{RanShort};
-ghost use Rattle.ist_rows.specs.Rows.{IsCaller, spares_of};
+ghost use Rattle.ist_rows.specs.Rows.{IsCaller, IsAtTable, spares_of};
 ghost use Rattle.ist_rows.specs.Building.{HasRefused, IsInBuild, sizes_built};
 ghost use Rattle.ist_rows.specs.Taken.{HasTakenFewIn};
 ghost use Rattle.ist_build.specs.Laying.{IsForNode};
@@ -89,8 +89,7 @@ pub fn build_part(
     start: u64,
     len: u64,
 ) -> Result<Ref, Full>
-    requires same_table { who.old.token.view.table ≡ table.now.table }
-    requires caller { IsCaller who.old }
+    requires caller { IsAtTable table.now IsCaller who.old }
     requires refused { HasRefused who.old }
     requires share { MayBuild (now who.old.token.view) target start len }
     ensures caller { IsCaller who.new }
@@ -121,8 +120,7 @@ pub fn build_part(
 /// first word in this call left too few words for a row of the build; its rows stay held. Never
 /// allocates, always returns.
 pub fn set_root(table: &TreeTable, who: &mut Caller, rebuild: u32) -> Result<Ref, Full>
-    requires same_table { who.old.token.view.table ≡ table.now.table }
-    requires caller { IsCaller who.old }
+    requires caller { IsAtTable table.now IsCaller who.old }
     requires refused { HasRefused who.old }
     requires buildable { IsBuildable (now who.old.token.view) rebuild }
     ensures caller { IsCaller who.new }
@@ -152,8 +150,7 @@ pub fn set_root(table: &TreeTable, who: &mut Caller, rebuild: u32) -> Result<Ref
 /// this call left too few words for a row of a part; the rows of that build stay held. Never allocates,
 /// always returns.
 pub fn fill_parts(table: &TreeTable, who: &mut Caller, rebuild: u32) -> Result<(), Full>
-    requires same_table { who.old.token.view.table ≡ table.now.table }
-    requires caller { IsCaller who.old }
+    requires caller { IsAtTable table.now IsCaller who.old }
     requires refused { HasRefused who.old }
     requires buildable { IsBuildable (now who.old.token.view) rebuild }
     requires rooted { IsRooted (now who.old.token.view) rebuild }

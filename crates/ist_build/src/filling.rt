@@ -10,6 +10,7 @@ ghost use Rattle.ist_rule.specs.Faces.{word_count_of};
 ghost use Rattle.ist_rule.specs.Learning.{now, ExchangedOrLost};
 ghost use Rattle.ist_rule.specs.Conditions.{CanExchangeOrLose};
 ghost use Rattle.ist_rows.specs.Taken.{HasTakenFewIn, TakesNoWords};
+ghost use Rattle.ist_rows.specs.Rows.{IsAtTable};
 ghost use Rattle.laws_coming.specs.Builds.{WasUnset};
 ghost use Rattle.ist_build.specs.BuildEvents.{placing, losing};
 ghost use Rattle.ist_build.specs.Calls.{IsTold, IsBuildable, IsRooted, IsBuiltOut, parts_words};
@@ -28,8 +29,7 @@ use ist_rule::{TreeTable, TreeToken, add, exchange_or_lose, know, load};
 
 // Returns the word in a slot of a shared root.
 fn slot_of(table: &TreeTable, who: &mut Caller, shared: SharedRoot, i: u64) -> u64
-    requires same_table { who.old.token.view.table ≡ table.now.table }
-    requires ready { IsFreeToBuild who.old }
+    requires ready { IsAtTable table.now IsFreeToBuild who.old }
     requires shared { IsSharedAs (now who.old.token.view) shared }
     requires within { i < shared.degree }
     ensures back { IsBack who.old who.new }
@@ -83,8 +83,7 @@ fn put_slot(table: &TreeTable, who: &mut Caller, shared: SharedRoot, i: u64, wor
 
 // Builds part `i` of a shared root, whose slot was Unset, and returns its word.
 fn build_slot(table: &TreeTable, who: &mut Caller, shared: SharedRoot, i: u64) -> Result<u64, Full>
-    requires same_table { who.old.token.view.table ≡ table.now.table }
-    requires ready { IsFreeToBuild who.old }
+    requires ready { IsAtTable table.now IsFreeToBuild who.old }
     requires shared { IsSharedAs (now who.old.token.view) shared }
     requires within { i < shared.degree }
     requires unset { WasUnset who.old.token.view who.old.number
@@ -103,8 +102,7 @@ fn build_slot(table: &TreeTable, who: &mut Caller, shared: SharedRoot, i: u64) -
 
 // Builds part `i` of a shared root and puts it in place, if its slot is Unset.
 fn fill_slot(table: &TreeTable, who: &mut Caller, shared: SharedRoot, i: u64) -> Result<(), Full>
-    requires same_table { who.old.token.view.table ≡ table.now.table }
-    requires ready { IsFreeToBuild who.old }
+    requires ready { IsAtTable table.now IsFreeToBuild who.old }
     requires shared { IsSharedAs (now who.old.token.view) shared }
     requires within { i < shared.degree }
     ensures back { IsBack who.old who.new }
@@ -126,8 +124,7 @@ fn fill_slot(table: &TreeTable, who: &mut Caller, shared: SharedRoot, i: u64) ->
 // number of slots. It loads the draw word before each draw, so that a draw past the last part is the
 // caller's last.
 fn draw(table: &TreeTable, who: &mut Caller, shared: SharedRoot) -> u64
-    requires same_table { who.old.token.view.table ≡ table.now.table }
-    requires ready { IsFreeToBuild who.old }
+    requires ready { IsAtTable table.now IsFreeToBuild who.old }
     requires shared { IsSharedAs (now who.old.token.view) shared }
     ensures back { IsBack who.old who.new }
     ensures none { TakesNoWords who.old who.new }
@@ -144,8 +141,7 @@ fn draw(table: &TreeTable, who: &mut Caller, shared: SharedRoot) -> u64
 
 // Draws parts and fills them, as long as there are parts to draw.
 fn fill_drawn(table: &TreeTable, who: &mut Caller, shared: SharedRoot) -> Result<(), Full>
-    requires same_table { who.old.token.view.table ≡ table.now.table }
-    requires ready { IsFreeToBuild who.old }
+    requires ready { IsAtTable table.now IsFreeToBuild who.old }
     requires shared { IsSharedAs (now who.old.token.view) shared }
     ensures back { IsBack who.old who.new }
     ensures few { let left = left_for who.new shared in
@@ -166,8 +162,7 @@ fn fill_drawn(table: &TreeTable, who: &mut Caller, shared: SharedRoot) -> Result
 
 // Fills each slot that is still Unset.
 fn fill_unset(table: &TreeTable, who: &mut Caller, shared: SharedRoot) -> Result<(), Full>
-    requires same_table { who.old.token.view.table ≡ table.now.table }
-    requires ready { IsFreeToBuild who.old }
+    requires ready { IsAtTable table.now IsFreeToBuild who.old }
     requires shared { IsSharedAs (now who.old.token.view) shared }
     ensures back { IsBack who.old who.new }
     ensures few { let left = left_for who.new shared in
@@ -185,8 +180,7 @@ fn fill_unset(table: &TreeTable, who: &mut Caller, shared: SharedRoot) -> Result
 
 // Fills a shared root: first the parts that it draws, and then what is left.
 fn fill_shared(table: &TreeTable, who: &mut Caller, shared: SharedRoot) -> Result<(), Full>
-    requires same_table { who.old.token.view.table ≡ table.now.table }
-    requires ready { IsFreeToBuild who.old }
+    requires ready { IsAtTable table.now IsFreeToBuild who.old }
     requires shared { IsSharedAs (now who.old.token.view) shared }
     ensures back { IsBack who.old who.new }
     ensures few { let left = left_for who.new shared in
@@ -201,8 +195,7 @@ fn fill_shared(table: &TreeTable, who: &mut Caller, shared: SharedRoot) -> Resul
 
 // Returns the shared root of a rebuild.
 fn shared_root(table: &TreeTable, who: &mut Caller, rebuild: u32, target: Target) -> SharedRoot
-    requires same_table { who.old.token.view.table ≡ table.now.table }
-    requires ready { IsFreeToBuild who.old }
+    requires ready { IsAtTable table.now IsFreeToBuild who.old }
     requires told { IsTold (now who.old.token.view) rebuild target.keys }
     requires target { HasTarget (now who.old.token.view) rebuild target.base }
     requires rooted { IsRooted (now who.old.token.view) rebuild }
@@ -231,8 +224,7 @@ fn shared_root(table: &TreeTable, who: &mut Caller, rebuild: u32, target: Target
 
 // Fills the shared root of a rebuild.
 fn fill_many(table: &TreeTable, who: &mut Caller, rebuild: u32, target: Target) -> Result<(), Full>
-    requires same_table { who.old.token.view.table ≡ table.now.table }
-    requires ready { IsFreeToBuild who.old }
+    requires ready { IsAtTable table.now IsFreeToBuild who.old }
     requires told { IsTold (now who.old.token.view) rebuild target.keys }
     requires target { HasTarget (now who.old.token.view) rebuild target.base }
     requires rooted { IsRooted (now who.old.token.view) rebuild }
@@ -254,8 +246,7 @@ fn fill_many(table: &TreeTable, who: &mut Caller, rebuild: u32, target: Target) 
 /// slot that is still Unset, so that it waits for nobody. Returns `Full` if too few words are left for
 /// a row of a part; its rows stay held.
 pub(crate) fn fill_root(table: &TreeTable, who: &mut Caller, rebuild: u32) -> Result<(), Full>
-    requires same_table { who.old.token.view.table ≡ table.now.table }
-    requires ready { IsFreeToBuild who.old }
+    requires ready { IsAtTable table.now IsFreeToBuild who.old }
     requires buildable { IsBuildable (now who.old.token.view) rebuild }
     requires rooted { IsRooted (now who.old.token.view) rebuild }
     ensures back { IsBack who.old who.new }

@@ -8,7 +8,7 @@ ghost use Rattle.ist_core.specs.RowLayout.{place_limit};
 ghost use Rattle.ist_core.specs.Shapes.{shape};
 ghost use Rattle.ist_rule.specs.Faces.{word_count_of};
 ghost use Rattle.ist_rule.specs.Learning.{now, GoesOnTo};
-ghost use Rattle.ist_rows.specs.Rows.{IsCaller, spares_of};
+ghost use Rattle.ist_rows.specs.Rows.{IsCaller, IsAtTable, spares_of};
 ghost use Rattle.ist_rows.specs.Building.{HasTaken, HasRefused, IsInBuild, sizes_built};
 ghost use Rattle.ist_rows.specs.Taken.{HasTakenFewIn};
 ghost use Rattle.ist_build.specs.Calls.{MayBuild, HasKeys};
@@ -65,8 +65,7 @@ fn build_read(
     leaves: &mut [u32],
     keys: &mut [u64],
 ) -> Result<u64, Full>
-    requires same_table { who.old.token.view.table ≡ table.now.table }
-    requires caller { IsCaller who.old }
+    requires caller { IsAtTable table.now IsCaller who.old }
     requires due { 2 ≤ length leaves.old → AreNextRows who.old (length leaves.old) }
     requires finished { HasKeys (now who.old.token.view) target (start + length leaves.old) }
     requires many { length keys.old ≡ length leaves.old }
@@ -98,8 +97,7 @@ fn build_few(
     start: u64,
     len: u64,
 ) -> Result<u64, Full>
-    requires same_table { who.old.token.view.table ≡ table.now.table }
-    requires caller { IsCaller who.old }
+    requires caller { IsAtTable table.now IsCaller who.old }
     requires due { 2 ≤ len → AreNextRows who.old len }
     requires finished { HasKeys (now who.old.token.view) target (start + len) }
     requires few { len ≤ 256 }
@@ -137,8 +135,7 @@ fn build_many(
     start: u64,
     len: u64,
 ) -> Result<u64, Full>
-    requires same_table { who.old.token.view.table ≡ table.now.table }
-    requires caller { IsCaller who.old }
+    requires caller { IsAtTable table.now IsCaller who.old }
     requires due { 2 ≤ len → AreNextRows who.old len }
     requires finished { HasKeys (now who.old.token.view) target (start + len) }
     requires few { len ≤ 16388 }
@@ -181,8 +178,7 @@ pub(crate) fn build_share(
     start: u64,
     len: u64,
 ) -> Result<u64, Full>
-    requires same_table { who.old.token.view.table ≡ table.now.table }
-    requires caller { IsCaller who.old }
+    requires caller { IsAtTable table.now IsCaller who.old }
     requires refused { HasRefused who.old }
     requires share { MayBuild (now who.old.token.view) target start len }
     ensures caller { IsCaller who.new }

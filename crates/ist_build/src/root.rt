@@ -8,7 +8,7 @@ ghost use Rattle.ist_core.specs.References.{InnerAt, unset_word};
 ghost use Rattle.ist_core.specs.RowLayout.{rebuild_root_offset};
 ghost use Rattle.ist_rule.specs.Faces.{word_count_of};
 ghost use Rattle.ist_rule.specs.Learning.{now, GoesOnTo};
-ghost use Rattle.ist_rows.specs.Rows.{IsCaller, spares_of};
+ghost use Rattle.ist_rows.specs.Rows.{IsCaller, IsAtTable, spares_of};
 ghost use Rattle.ist_rows.specs.Building.{HasRefused};
 ghost use Rattle.ist_rows.specs.Taken.{HasTakenFewIn, TakesNoWords};
 ghost use Rattle.laws_coming.specs.Builds.{WasUnset};
@@ -29,8 +29,7 @@ use ist_rule::{TreeTable, TreeToken, exchange, exchange_or_lose, know, load};
 
 // Returns the word in a rebuild's root field.
 fn root_of(table: &TreeTable, who: &mut Caller, rebuild: u32) -> u64
-    requires same_table { who.old.token.view.table ≡ table.now.table }
-    requires ready { IsFreeToBuild who.old }
+    requires ready { IsAtTable table.now IsFreeToBuild who.old }
     requires buildable { IsBuildable (now who.old.token.view) rebuild }
     ensures back { IsBack who.old who.new }
     ensures none { TakesNoWords who.old who.new }
@@ -49,8 +48,7 @@ fn root_of(table: &TreeTable, who: &mut Caller, rebuild: u32) -> u64
 // Builds a root over the leaves of a finished target with two keys or more, and returns its word: the
 // whole ideal subtree, or from `SHARE_FROM` keys on only its top row.
 fn build_root(table: &TreeTable, who: &mut Caller, target: u32, keys: u64) -> Result<u64, Full>
-    requires same_table { who.old.token.view.table ≡ table.now.table }
-    requires caller { IsCaller who.old }
+    requires caller { IsAtTable table.now IsCaller who.old }
     requires refused { HasRefused who.old }
     requires target { IsTarget (now who.old.token.view) target keys }
     requires several { 2 ≤ keys }
@@ -91,8 +89,7 @@ fn put_root(table: &TreeTable, who: &mut Caller, rebuild: u32, word: u64) -> u64
 
 // Builds a root of inner rows and puts it in place, and returns the root that the rebuild then has.
 fn set_rows(table: &TreeTable, who: &mut Caller, rebuild: u32, target: Target) -> Result<u64, Full>
-    requires same_table { who.old.token.view.table ≡ table.now.table }
-    requires ready { IsFreeToBuild who.old }
+    requires ready { IsAtTable table.now IsFreeToBuild who.old }
     requires told { IsTold (now who.old.token.view) rebuild target.keys }
     requires target { HasTarget (now who.old.token.view) rebuild target.base }
     requires several { 2 ≤ target.keys }
@@ -128,8 +125,7 @@ fn small_root(table: &TreeTable, token: &mut TreeToken, target: u32, keys: u64) 
 
 // Puts a root without rows in place, and returns the root that the rebuild then has.
 fn set_small(table: &TreeTable, who: &mut Caller, rebuild: u32, target: Target) -> u64
-    requires same_table { who.old.token.view.table ≡ table.now.table }
-    requires ready { IsFreeToBuild who.old }
+    requires ready { IsAtTable table.now IsFreeToBuild who.old }
     requires told { IsTold (now who.old.token.view) rebuild target.keys }
     requires target { HasTarget (now who.old.token.view) rebuild target.base }
     requires few { target.keys < 2 }
@@ -154,8 +150,7 @@ fn set_small(table: &TreeTable, who: &mut Caller, rebuild: u32, target: Target) 
 /// first, that root is returned, and what this caller built is lost. Returns `Full` if too few words
 /// are left for a row of the build; its rows stay held.
 pub(crate) fn place_root(table: &TreeTable, who: &mut Caller, rebuild: u32) -> Result<u64, Full>
-    requires same_table { who.old.token.view.table ≡ table.now.table }
-    requires ready { IsFreeToBuild who.old }
+    requires ready { IsAtTable table.now IsFreeToBuild who.old }
     requires buildable { IsBuildable (now who.old.token.view) rebuild }
     ensures back { IsBack who.old who.new }
     ensures few { (k : ℕ) → IsTold (now who.old.token.view) rebuild k

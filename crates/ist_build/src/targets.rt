@@ -2,6 +2,7 @@
 ghost use Rattle.std.specs.Prelude.{◌≡◌};
 ghost use Rattle.ist_core.specs.Marking.{HasTarget};
 ghost use Rattle.ist_rule.specs.Learning.{now, GoesOnTo};
+ghost use Rattle.ist_rows.specs.Rows.{IsAtTable};
 ghost use Rattle.ist_build.specs.Calls.{IsTold, IsBuildable};
 ghost use Rattle.ist_build.specs.Back.{IsFreeToBuild, IsBack};
 
@@ -19,8 +20,7 @@ pub(crate) struct Target {
 
 // Finds the target of a started rebuild, which is finished.
 pub(crate) fn find_target(table: &TreeTable, who: &mut Caller, rebuild: u32) -> Target
-    requires same_table { who.old.token.view.table ≡ table.now.table }
-    requires ready { IsFreeToBuild who.old }
+    requires ready { IsAtTable table.now IsFreeToBuild who.old }
     requires buildable { IsBuildable (now who.old.token.view) rebuild }
     ensures back { IsBack who.old who.new }
     ensures seen { GoesOnTo who.old.token.view who.new.token.view }

@@ -7,7 +7,7 @@ ghost use Rattle.ist_core.specs.RowLayout.{inner_words, place_limit};
 ghost use Rattle.ist_core.specs.Shapes.{share_from};
 ghost use Rattle.ist_rule.specs.Faces.{word_count_of};
 ghost use Rattle.ist_rule.specs.Learning.{now, GoesOnTo};
-ghost use Rattle.ist_rows.specs.Rows.{IsCaller, spares_of};
+ghost use Rattle.ist_rows.specs.Rows.{IsCaller, IsAtTable, spares_of};
 ghost use Rattle.ist_rows.specs.Building.{HasRefused, sizes_built};
 ghost use Rattle.ist_rows.specs.Taken.{HasTakenFewIn};
 ghost use Rattle.ist_build.specs.Calls.{HasKeys};
@@ -45,8 +45,7 @@ fn begin_top(
     keys: u64,
     degree: u64,
 ) -> Result<u32, Full>
-    requires same_table { who.old.token.view.table ≡ table.now.table }
-    requires caller { IsCaller who.old }
+    requires caller { IsAtTable table.now IsCaller who.old }
     requires refused { HasRefused who.old }
     requires target { IsTarget (now who.old.token.view) target keys }
     requires many { share_from ≤ keys }
@@ -72,8 +71,7 @@ pub(crate) fn build_top(
     target: u32,
     keys: u64,
 ) -> Result<u64, Full>
-    requires same_table { who.old.token.view.table ≡ table.now.table }
-    requires caller { IsCaller who.old }
+    requires caller { IsAtTable table.now IsCaller who.old }
     requires refused { HasRefused who.old }
     requires target { IsTarget (now who.old.token.view) target keys }
     requires many { share_from ≤ keys }

@@ -17,6 +17,7 @@ ghost use Rattle.ist_rebuild.specs.declared.answers.Helped.TheVariants.{Replaced
 ghost use Rattle.ist_rebuild.specs.declared.finishing.Tried.TheVariants.{Yes, No, Other};
 ghost use Rattle.ist_rebuild.specs.Finishing.{IsPlan, IsPrepared};
 ghost use Rattle.ist_rows.specs.Going.{IsReady};
+ghost use Rattle.ist_rows.specs.Rows.{IsAtTable};
 ghost use Rattle.ist_rebuild.specs.Finishing.{finish_row};
 ghost use Rattle.ist_rebuild.specs.Helping.{IsLeftToParent, IsHelpRefused, HasHelped};
 ghost use Rattle.laws_coming.specs.Further.{CameFurther};
@@ -43,8 +44,7 @@ enum Tried {
 
 /// Gives the rebuild its root, and fills the root's parts.
 pub(crate) fn build_out(table: &TreeTable, who: &mut Caller, rebuild: u32) -> Result<(), Full>
-    requires same_table { who.old.token.view.table ≡ table.now.table }
-    requires ready { IsReady who.old }
+    requires ready { IsAtTable table.now IsReady who.old }
     requires buildable { IsBuildable (now who.old.token.view) rebuild }
     ensures helped { HasHelped who.old who.new }
     ensures few { (k : ℕ) → IsTold (now who.old.token.view) rebuild k
@@ -80,8 +80,7 @@ fn finish_words(plan: PlannedFinish, owner: u32) -> [u64; 9]
 
 // Fills the caller's change row as the finish of the plan, and returns it.
 fn prepare(table: &TreeTable, who: &mut Caller, plan: PlannedFinish) -> Result<u32, Full>
-    requires same_table { who.old.token.view.table ≡ table.now.table }
-    requires ready { IsReady who.old }
+    requires ready { IsAtTable table.now IsReady who.old }
     requires plan { IsPlan who.old.token.view plan }
     requires unrefused { IsUnrefused (now who.old.token.view) who.old.number plan.parent }
     ensures helped { HasHelped who.old who.new }
@@ -103,8 +102,7 @@ fn prepare(table: &TreeTable, who: &mut Caller, plan: PlannedFinish) -> Result<u
 
 // Installs the prepared finish and helps it, if the slot holds the rebuild.
 fn carry(table: &TreeTable, who: &mut Caller, plan: PlannedFinish, change: u32) -> Tried
-    requires same_table { who.old.token.view.table ≡ table.now.table }
-    requires ready { IsReady who.old }
+    requires ready { IsAtTable table.now IsReady who.old }
     requires plan { IsPlan who.old.token.view plan }
     requires prepared { IsPrepared who.old plan change }
     ensures helped { HasHelped who.old who.new }
@@ -139,8 +137,7 @@ fn conclude(
     plan: PlannedFinish,
     tried: Tried,
 ) -> Option<Helped>
-    requires same_table { who.old.token.view.table ≡ table.now.table }
-    requires ready { IsReady who.old }
+    requires ready { IsAtTable table.now IsReady who.old }
     requires plan { IsPlan who.old.token.view plan }
     requires yes { tried ≡ Yes → IsReplaced (now who.old.token.view) plan.rebuild }
     requires no { tried ≡ No → ¬ (IsOpen (now who.old.token.view) plan.parent) }
@@ -178,8 +175,7 @@ fn try_finish(
     who: &mut Caller,
     plan: PlannedFinish,
 ) -> Result<Option<Helped>, Full>
-    requires same_table { who.old.token.view.table ≡ table.now.table }
-    requires ready { IsReady who.old }
+    requires ready { IsAtTable table.now IsReady who.old }
     requires plan { IsPlan who.old.token.view plan }
     ensures helped { HasHelped who.old who.new }
     ensures few { let n = wanting who.old.change change_words in
@@ -210,8 +206,7 @@ pub(crate) fn finish(
     who: &mut Caller,
     plan: PlannedFinish,
 ) -> Result<Helped, Full>
-    requires same_table { who.old.token.view.table ≡ table.now.table }
-    requires ready { IsReady who.old }
+    requires ready { IsAtTable table.now IsReady who.old }
     requires plan { IsPlan who.old.token.view plan }
     ensures helped { HasHelped who.old who.new }
     ensures few { let n = wanting who.old.change change_words in

@@ -10,6 +10,7 @@ ghost use Rattle.ist_rule.specs.Learning.{now};
 ghost use Rattle.ist_build.specs.Calls.{IsBuildable, IsTold};
 ghost use Rattle.ist_rows.specs.Taken.{HasTakenFewIn, TakesNoWords};
 ghost use Rattle.ist_rows.specs.Going.{IsReady};
+ghost use Rattle.ist_rows.specs.Rows.{IsAtTable};
 ghost use Rattle.ist_rebuild.specs.Helping.{IsLeftToParent, IsHelpRefused, HasHelped};
 
 use crate::answers::Helped;
@@ -23,8 +24,7 @@ use ist_rule::{TreeTable, know};
 
 // Marks the target of a started rebuild, and counts its keys; then the rebuild may be built.
 fn mark_target(table: &TreeTable, who: &mut Caller, rebuild: u32)
-    requires same_table { who.old.token.view.table ≡ table.now.table }
-    requires ready { IsReady who.old }
+    requires ready { IsAtTable table.now IsReady who.old }
     requires started { IsStarted (now who.old.token.view) rebuild }
     ensures helped { HasHelped who.old who.new }
     ensures none { TakesNoWords who.old who.new }
@@ -49,8 +49,7 @@ fn mark_target(table: &TreeTable, who: &mut Caller, rebuild: u32)
 /// Source: Brown, Prokopec and Alistarh, "Non-Blocking Interpolation Search Trees with
 /// Doubly-Logarithmic Running Time", PPoPP 2020.
 pub fn help_rebuild(table: &TreeTable, who: &mut Caller, rebuild: u32) -> Result<Helped, Full>
-    requires same_table { who.old.token.view.table ≡ table.now.table }
-    requires ready { IsReady who.old }
+    requires ready { IsAtTable table.now IsReady who.old }
     requires started { IsStarted (now who.old.token.view) rebuild }
     ensures helped { HasHelped who.old who.new }
     ensures few { (k : ℕ) → IsTold (now who.old.token.view) rebuild k

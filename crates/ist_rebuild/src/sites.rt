@@ -12,6 +12,7 @@ ghost use Rattle.ist_dcss.specs.Reading.{IsRebuildRow};
 ghost use Rattle.ist_rebuild.specs.Finishing.{IsWordOf, IsPlan};
 ghost use Rattle.ist_rows.specs.Going.{IsReady};
 ghost use Rattle.ist_rows.specs.Taken.{TakesNoWords};
+ghost use Rattle.ist_rows.specs.Rows.{IsAtTable};
 ghost use Rattle.ist_rebuild.specs.Helping.{IsLeftToParent, HasHelped};
 
 use crate::answers::Helped;
@@ -117,8 +118,7 @@ fn slot_word(table: &TreeTable, token: &mut TreeToken, plan: PlannedFinish) -> u
 /// Returns what became of a rebuild whose parent isn't open, by a last load of its slot, after
 /// helping the changes that are there. Each help resolves one, so that there are few.
 pub(crate) fn settle(table: &TreeTable, who: &mut Caller, plan: PlannedFinish) -> Helped
-    requires same_table { who.old.token.view.table ≡ table.now.table }
-    requires ready { IsReady who.old }
+    requires ready { IsAtTable table.now IsReady who.old }
     requires plan { IsPlan who.old.token.view plan }
     requires closed { ¬ (IsOpen (now who.old.token.view) plan.parent) }
     ensures helped { HasHelped who.old who.new }

@@ -4,7 +4,7 @@ ghost use Rattle.ist_core.specs.Installing.{IsUnrefused};
 ghost use Rattle.ist_core.specs.References.{IsGoodBase};
 ghost use Rattle.ist_rule.specs.Faces.{word_count_of};
 ghost use Rattle.ist_rule.specs.Learning.{now};
-ghost use Rattle.ist_rows.specs.Rows.{IsCaller};
+ghost use Rattle.ist_rows.specs.Rows.{IsCaller, IsAtTable};
 ghost use Rattle.ist_rows.specs.Going.{IsQuiet};
 ghost use Rattle.ist_rebuild.specs.Lacking.{LacksKind};
 ghost use Rattle.ist_rebuild.specs.Starting.{MayStart, IsStartRefused};
@@ -25,8 +25,7 @@ pub(crate) struct StartRows {
 
 // Reserves the rows of a start, if the caller doesn't hold them.
 fn reserve_rows(table: &TreeTable, who: &mut Caller) -> Result<StartRows, Full>
-    requires same_table { who.old.token.view.table ≡ table.now.table }
-    requires caller { IsCaller who.old }
+    requires caller { IsAtTable table.now IsCaller who.old }
     requires quiet { IsQuiet who.old }
     ensures reserved { HasReserved who.old who.new }
     ensures rows { IfOk result (λ rows. HasStartRows who.new rows.rebuild rows.change) }
@@ -51,8 +50,7 @@ fn fill_rows(
     index: u64,
     target: u32,
 )
-    requires same_table { who.old.token.view.table ≡ table.now.table }
-    requires caller { IsCaller who.old }
+    requires caller { IsAtTable table.now IsCaller who.old }
     requires rows { HasStartRows who.old rows.rebuild rows.change }
     requires target { IsGoodBase target }
     ensures caller { IsCaller who.new }
@@ -79,8 +77,7 @@ pub(crate) fn prepare(
     index: u64,
     target: u32,
 ) -> Result<StartRows, Full>
-    requires same_table { who.old.token.view.table ≡ table.now.table }
-    requires caller { IsCaller who.old }
+    requires caller { IsAtTable table.now IsCaller who.old }
     requires quiet { IsQuiet who.old }
     requires may_start { MayStart who.old.token.view parent index target }
     requires unrefused { IsUnrefused (now who.old.token.view) who.old.number parent }

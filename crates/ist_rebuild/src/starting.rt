@@ -9,7 +9,7 @@ ghost use Rattle.ist_rule.specs.Faces.{word_count_of};
 ghost use Rattle.ist_rule.specs.Going.{WentOn};
 ghost use Rattle.ist_rule.specs.Learning.{now};
 ghost use Rattle.ist_rows.specs.Building.{HasRefused};
-ghost use Rattle.ist_rows.specs.Rows.{IsCaller};
+ghost use Rattle.ist_rows.specs.Rows.{IsCaller, IsAtTable};
 ghost use Rattle.ist_rows.specs.Taken.{HasTakenFew, TakesNoWords};
 ghost use Rattle.ist_rebuild.specs.Needs.{needed};
 ghost use Rattle.ist_rebuild.specs.Going.{Begins, KeepsFresh, StartsAt};
@@ -65,8 +65,7 @@ fn put_in(table: &TreeTable, who: &mut Caller, plan: FilledStart) -> Started
 
 // Returns whether the parent is open.
 fn parent_is_open(table: &TreeTable, who: &mut Caller, parent: u32, index: u64, target: u32) -> bool
-    requires same_table { who.old.token.view.table ≡ table.now.table }
-    requires caller { IsCaller who.old }
+    requires caller { IsAtTable table.now IsCaller who.old }
     requires quiet { IsQuiet who.old }
     requires may_start { MayStart who.old.token.view parent index target }
     ensures reserved { HasReserved who.old who.new }
@@ -87,8 +86,7 @@ fn start_open(
     index: u64,
     target: u32,
 ) -> Result<Started, Full>
-    requires same_table { who.old.token.view.table ≡ table.now.table }
-    requires caller { IsCaller who.old }
+    requires caller { IsAtTable table.now IsCaller who.old }
     requires quiet { IsQuiet who.old }
     requires may_start { MayStart who.old.token.view parent index target }
     requires unrefused { IsUnrefused (now who.old.token.view) who.old.number parent }
@@ -128,8 +126,7 @@ pub fn start(
     index: u64,
     target: u32,
 ) -> Result<Started, Full>
-    requires same_table { who.old.token.view.table ≡ table.now.table }
-    requires caller { IsCaller who.old }
+    requires caller { IsAtTable table.now IsCaller who.old }
     requires quiet { IsQuiet who.old }
     requires may_start { MayStart who.old.token.view parent index target }
     ensures caller { IsCaller who.new }

@@ -6,6 +6,7 @@ use Rattle.ist_core.specs.declared.events.Event.TheVariants.{Reserve}
 use Rattle.ist_core.specs.Snapshots.{Snapshot, HoldsRow}
 use Rattle.ist_core.specs.RowLayout.{next_place}
 use Rattle.ist_core.specs.Fairness.{AreBuilds}
+use Rattle.ist_rule.specs.Faces.{TableFace}
 use Rattle.ist_rule.specs.declared.view.View.{View}
 use Rattle.ist_core.specs.declared.events.Who.TheVariants.{Caller as CallerOf}
 use Rattle.ist_rule.specs.Learning.{now, GoesOnTo, Looked, Logged}
@@ -76,6 +77,10 @@ pub record IsCaller (who : Caller) : Type 0 where
       → HoldsRow (now who.token.view) who.number base (kind_words kind)
   pub builds : AreBuilds (now who.token.view)
       (build_sizes (now who.token.view) who.number (spares_of who))
+
+-- it is said of a caller, which is at this table
+abbrev pub IsAtTable : TableFace → (Caller → Type 0) → Caller → Type 0
+IsAtTable table Is who = Is who × (who.token.view.table ≡ table.table)
 
 -- ---- reserving
 

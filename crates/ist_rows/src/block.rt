@@ -3,7 +3,7 @@ ghost use Rattle.std.specs.Prelude.{◌≡◌, ◌+◌, ◌<◌, ◌≤◌, ◌^
 ghost use Rattle.std.specs.List.{sum};
 ghost use Rattle.ist_core.specs.declared.events.Who.TheVariants.{Caller as CallerOf};
 ghost use Rattle.ist_rule.specs.Faces.{word_count_of};
-ghost use Rattle.ist_rows.specs.Rows.{IsCaller};
+ghost use Rattle.ist_rows.specs.Rows.{IsCaller, IsAtTable};
 ghost use Rattle.ist_rows.specs.Building.{HasTaken};
 ghost use Rattle.ist_rows.specs.Block.{AreNext, ReservedAll, HasNoRoom, MayTakeAll};
 
@@ -53,8 +53,7 @@ fn take_all(table: &TreeTable, token: &mut TreeToken, number: u32, asked: u64) -
 /// reserve, allocates nothing, and always returns.
 pub fn reserve_block(table: &TreeTable, who: &mut Caller, asked: u64) -> Option<u32>
     ghost sizes: { List ℕ }
-    requires same_table { who.old.token.view.table ≡ table.now.table }
-    requires caller { IsCaller who.old }
+    requires caller { IsAtTable table.now IsCaller who.old }
     requires next { AreNext who.old sizes }
     requires several { 1 ≤ length sizes }
     requires asked { asked ≡ sum sizes }

@@ -1,7 +1,7 @@
 //! Giving up a pair row that lies too low.
 ghost use Rattle.std.specs.Prelude.{◌≡◌, IfSome};
 ghost use Rattle.ist_rows.specs.declared.kinds.Kind.TheVariants.{Pair};
-ghost use Rattle.ist_rows.specs.Rows.{IsCaller, spares_of};
+ghost use Rattle.ist_rows.specs.Rows.{IsCaller, IsAtTable, spares_of};
 ghost use Rattle.ist_rows.specs.CallerLaws.{without_row};
 ghost use Rattle.ist_rows.specs.Dropping.{HasPairBelow, HasLost};
 
@@ -13,11 +13,9 @@ use ist_rule::{TreeTable, know, load_past};
 /// The row is lost: it is never published, and its words are never reserved again. The next pair row
 /// that the caller reserves is a fresh one.
 pub fn drop_pair(table: &TreeTable, who: &mut Caller, node: u32)
-    requires same_table { who.old.token.view.table ≡ table.now.table }
-    requires caller { IsCaller who.old }
+    requires caller { IsAtTable table.now IsCaller who.old }
     requires below { HasPairBelow who.old node }
-    ensures same_table { who.new.token.view.table ≡ table.now.table }
-    ensures caller { IsCaller who.new }
+    ensures caller { IsAtTable table.now IsCaller who.new }
     ensures number { who.new.number ≡ who.old.number }
     ensures rows { spares_of who.new ≡ without_row Pair (spares_of who.old) }
     ensures lost { IfSome who.old.pair (λ pair.

@@ -5,7 +5,7 @@ ghost use Rattle.ist_core.specs.declared.events.Who.TheVariants.{Maker, Caller a
 ghost use Rattle.ist_core.specs.Authors.{IsIdleIn};
 ghost use Rattle.ist_rule.specs.Learning.{now};
 ghost use Rattle.ist_rule.specs.Seating.{plain};
-ghost use Rattle.ist_rows.specs.Rows.{IsCaller, spares_of, no_spares, held_by};
+ghost use Rattle.ist_rows.specs.Rows.{IsCaller, IsAtTable, spares_of, no_spares, held_by};
 ghost use Rattle.ist_rows.specs.Entering.{HasEntered};
 
 use crate::callers::Caller;
@@ -21,8 +21,7 @@ pub fn enter(table: &TreeTable, maker: &mut TreeToken) -> Caller
     requires maker { maker.old.view.who ≡ Maker }
     requires given { maker.old.view.given ≡ maker.old.view.made }
     requires few { maker.old.view.made < caller_limit }
-    ensures caller { IsCaller result }
-    ensures same_table { result.token.view.table ≡ table.now.table }
+    ensures caller { IsAtTable table.now IsCaller result }
     ensures maker_table { maker.new.view.table ≡ table.now.table }
     ensures number { result.number ≡ maker.old.view.made }
     ensures no_rows { spares_of result ≡ no_spares }

@@ -3,7 +3,7 @@ ghost use Rattle.std.specs.Prelude.{◌≡◌, ◌+◌, ◌<◌, ◌^◌, [], �
 ghost use Rattle.ist_core.specs.RowLayout.{inner_words, place_limit};
 ghost use Rattle.ist_core.specs.declared.events.Who.TheVariants.{Caller as CallerOf};
 ghost use Rattle.ist_rule.specs.Faces.{word_count_of};
-ghost use Rattle.ist_rows.specs.Rows.{spares_of, row_of, IsCaller, Reserved, IsFull, IsFreshRow, IsKindRefused};
+ghost use Rattle.ist_rows.specs.Rows.{spares_of, row_of, IsCaller, IsAtTable, Reserved, IsFull, IsFreshRow, IsKindRefused};
 ghost use Rattle.ist_rows.specs.Building.{IsNext, HasTaken, HasRefused};
 ghost use Rattle.ist_rows.specs.Fairly.{MayTake};
 
@@ -52,10 +52,8 @@ fn take(table: &TreeTable, token: &mut TreeToken, number: u32, size: u64) -> Res
 /// `next` with `next + asked > words`, it returns `Full` and reserves nothing. Retries while others
 /// reserve, and always returns.
 pub fn reserve(table: &TreeTable, who: &mut Caller, kind: Kind) -> Result<u32, Full>
-    requires same_table { who.old.token.view.table ≡ table.now.table }
-    requires caller { IsCaller who.old }
-    ensures same_table { who.new.token.view.table ≡ table.now.table }
-    ensures caller { IsCaller who.new }
+    requires caller { IsAtTable table.now IsCaller who.old }
+    ensures caller { IsAtTable table.now IsCaller who.new }
     ensures number { who.new.number ≡ who.old.number }
     ensures held { IfSome (row_of kind (spares_of who.old)) (λ base.
         (result ≡ Ok base) × (who.new ≡ who.old)) }
@@ -78,8 +76,7 @@ pub fn reserve(table: &TreeTable, who: &mut Caller, kind: Kind) -> Result<u32, F
 /// `Full`. The build is then refused: nothing is reserved, and the rows that it has stay held.
 /// Retries while others reserve, and always returns.
 pub fn reserve_inner(table: &TreeTable, who: &mut Caller, degree: u64) -> Result<u32, Full>
-    requires same_table { who.old.token.view.table ≡ table.now.table }
-    requires caller { IsCaller who.old }
+    requires caller { IsAtTable table.now IsCaller who.old }
     requires next { IsNext who.old (inner_words degree) }
     requires small { degree < place_limit }
     ensures caller { IsCaller who.new }

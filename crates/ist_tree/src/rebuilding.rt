@@ -6,6 +6,7 @@ ghost use Rattle.ist_core.specs.Snapshots.{Snapshot};
 ghost use Rattle.ist_rule.specs.Faces.{word_count_of};
 ghost use Rattle.ist_rule.specs.Learning.{now};
 ghost use Rattle.ist_rows.specs.Going.{IsReady};
+ghost use Rattle.ist_rows.specs.Rows.{IsAtTable};
 ghost use Rattle.ist_rebuild.specs.declared.answers.Started.TheVariants.{Yes, Other, Marked};
 ghost use Rattle.ist_rebuild.specs.Starting.{IsStartedAt, LeavesDone, MayStart, StartsDoneSince, StoodInstead};
 ghost use Rattle.ist_tree.specs.Attempts.{GoesFor, HelpsOther, HelpsOwn, RebuildsRow, TriesOnce};
@@ -47,8 +48,7 @@ fn instead_in(word: u64) -> Instead
 
 // Starts a rebuild of the row, or finds what stops it.
 fn start_due(table: &TreeTable, who: &mut Caller, due: Due) -> Result<Started, Full>
-    requires same_table { who.old.token.view.table ≡ table.now.table }
-    requires ready { IsReady who.old }
+    requires ready { IsAtTable table.now IsReady who.old }
     requires may_start { MayStart who.old.token.view due.parent due.index due.target }
     ensures on { GoesFor who.old who.new due.target }
     ensures yes { (rebuild : ℕ) → result ≡ Ok (Yes rebuild)
@@ -68,8 +68,7 @@ fn start_due(table: &TreeTable, who: &mut Caller, due: Due) -> Result<Started, F
 
 // Helps the rebuild that was started of the row.
 fn help_own(table: &TreeTable, who: &mut Caller, due: Due, rebuild: u32) -> Result<(), Full>
-    requires same_table { who.old.token.view.table ≡ table.now.table }
-    requires ready { IsReady who.old }
+    requires ready { IsAtTable table.now IsReady who.old }
     requires started { IsStartedAt (now who.old.token.view) rebuild due.parent due.index due.target }
     ensures helped { HelpsOwn who.old who.new due (word_count_of table.now) rebuild result }
 {
@@ -81,8 +80,7 @@ fn help_own(table: &TreeTable, who: &mut Caller, due: Due, rebuild: u32) -> Resu
 
 // Helps what the slot holds instead of the row that was due for a rebuild: a rebuild, or a change.
 fn help_other(table: &TreeTable, who: &mut Caller, due: Due, word: u64) -> Result<(), Full>
-    requires same_table { who.old.token.view.table ≡ table.now.table }
-    requires ready { IsReady who.old }
+    requires ready { IsAtTable table.now IsReady who.old }
     requires stood { StoodInstead who.old.token.view due.parent due.index due.target word }
     ensures helped { HelpsOther who.old who.new due (word_count_of table.now) word result }
 {
@@ -104,8 +102,7 @@ fn help_other(table: &TreeTable, who: &mut Caller, due: Due, word: u64) -> Resul
 // Tries once to rebuild the row. Returns whether that was the last try: the row or its parent isn't
 // open.
 fn try_due(table: &TreeTable, who: &mut Caller, due: Due) -> Result<bool, Full>
-    requires same_table { who.old.token.view.table ≡ table.now.table }
-    requires ready { IsReady who.old }
+    requires ready { IsAtTable table.now IsReady who.old }
     requires may_start { MayStart who.old.token.view due.parent due.index due.target }
     ensures tried { TriesOnce who.old who.new due (word_count_of table.now) result }
 {
@@ -125,8 +122,7 @@ fn try_due(table: &TreeTable, who: &mut Caller, due: Due) -> Result<bool, Full>
 /// Rebuilds the row, or finds that it or its parent isn't open. Helps what others put in its slot,
 /// and tries again only after a change of another was resolved.
 pub(crate) fn rebuild_due(table: &TreeTable, who: &mut Caller, due: Due) -> Result<(), Full>
-    requires same_table { who.old.token.view.table ≡ table.now.table }
-    requires ready { IsReady who.old }
+    requires ready { IsAtTable table.now IsReady who.old }
     requires may_start { MayStart who.old.token.view due.parent due.index due.target }
     ensures rebuilt { RebuildsRow who.old who.new due (word_count_of table.now) result }
 {

@@ -5,7 +5,7 @@ ghost use Rattle.ist_rule.specs.Conditions.{CanGiveUp};
 ghost use Rattle.ist_rule.specs.Faces.{word_count_of};
 ghost use Rattle.ist_rule.specs.Going.{SearchedOn};
 ghost use Rattle.ist_rows.specs.Building.{HasRefused};
-ghost use Rattle.ist_rows.specs.Rows.{IsCaller};
+ghost use Rattle.ist_rows.specs.Rows.{IsCaller, IsAtTable};
 ghost use Rattle.ist_rows.specs.Going.{IsQuiet};
 ghost use Rattle.ist_updates.specs.declared.updates.Outcome.TheVariants.{Unmet};
 ghost use Rattle.ist_updates.specs.Asking.{command_for, IsAsked, Updates, MayEnd};
@@ -39,8 +39,8 @@ use ist_rule::{TreeTable, begin_search, know};
 /// Always returns, and takes no memory. It begins one walk, and another only after the table made
 /// progress since the last one began.
 pub fn apply(table: &TreeTable, who: &mut Caller, update: Update) -> Result<Outcome, Full>
-    requires same_table { who.old.token.view.table ≡ table.now.table }
-    requires asked { IsAsked who.old (command_for update.key update.value) }
+    requires asked { IsAtTable table.now
+        (λ x. IsAsked x (command_for update.key update.value)) who.old }
     ensures caller { IsCaller who.new }
     ensures number { who.new.number ≡ who.old.number }
     ensures refused { HasRefused who.new }

@@ -14,7 +14,7 @@ ghost use Rattle.ist_rows.specs.Building.{HasRefused};
 ghost use Rattle.ist_rows.specs.CallerLaws.{without_rows};
 ghost use Rattle.ist_rows.specs.declared.kinds.Kind.TheVariants as kind;
 ghost use Rattle.ist_rows.specs.Kinds.{kind_words};
-ghost use Rattle.ist_rows.specs.Rows.{IsCaller, spares_of, row_of, with_spare};
+ghost use Rattle.ist_rows.specs.Rows.{IsCaller, IsAtTable, spares_of, row_of, with_spare};
 ghost use Rattle.ist_dcss.specs.Installing.{Filling, IsInstallable, IsInstalled};
 ghost use Rattle.ist_rows.specs.Going.{IsQuiet, HasGone};
 ghost use Rattle.ist_updates.specs.Answering.{HasCarried, HasChanged};
@@ -37,8 +37,7 @@ use ist_rule::{TreeTable, know};
 
 // The row of this kind that the caller holds, or a fresh one.
 fn take(table: &TreeTable, who: &mut Caller, kind: Kind) -> Result<u32, Full>
-    requires same_table { who.old.token.view.table ≡ table.now.table }
-    requires caller { IsCaller who.old }
+    requires caller { IsAtTable table.now IsCaller who.old }
     requires refused { HasRefused who.old }
     ensures gone { HasGone Prepares who.old who.new }
     ensures held { IfOk result (λ base. row_of kind (spares_of who.new) ≡ Some base) }
@@ -69,8 +68,7 @@ fn is_below(pair: Option<u32>, node: u32) -> bool
 
 // Gives up the pair row that the caller holds, if it lies below the node.
 fn drop_below(table: &TreeTable, who: &mut Caller, node: u32)
-    requires same_table { who.old.token.view.table ≡ table.now.table }
-    requires caller { IsCaller who.old }
+    requires caller { IsAtTable table.now IsCaller who.old }
     requires refused { HasRefused who.old }
     requires node { IsNode (now who.old.token.view) node }
     ensures gone { HasGone Prepares who.old who.new }
@@ -87,8 +85,7 @@ fn drop_below(table: &TreeTable, who: &mut Caller, node: u32)
 
 // A pair row above the node: the one that the caller holds, or a fresh one.
 fn take_pair(table: &TreeTable, who: &mut Caller, node: u32) -> Result<u32, Full>
-    requires same_table { who.old.token.view.table ≡ table.now.table }
-    requires caller { IsCaller who.old }
+    requires caller { IsAtTable table.now IsCaller who.old }
     requires refused { HasRefused who.old }
     requires node { IsNode (now who.old.token.view) node }
     ensures gone { HasGone Prepares who.old who.new }
@@ -132,8 +129,7 @@ fn plan_leaf(
     aim: Aim,
     value: u64,
 ) -> Result<PlannedChange, Full>
-    requires same_table { who.old.token.view.table ≡ table.now.table }
-    requires caller { IsCaller who.old }
+    requires caller { IsAtTable table.now IsCaller who.old }
     requires refused { HasRefused who.old }
     requires at_slot { WasAtSlot who.old.token.view aim }
     requires room { MayReplace who.old.token.view aim.key aim.word (way.Leaf value) }
@@ -161,8 +157,7 @@ fn plan_pair(
     other: u32,
     other_key: u64,
 ) -> Result<PlannedChange, Full>
-    requires same_table { who.old.token.view.table ≡ table.now.table }
-    requires caller { IsCaller who.old }
+    requires caller { IsAtTable table.now IsCaller who.old }
     requires refused { HasRefused who.old }
     requires at_slot { WasAtSlot who.old.token.view aim }
     requires room { MayReplace who.old.token.view aim.key aim.word (way.Pair value other other_key) }
@@ -191,8 +186,7 @@ fn plan_pair(
 
 // A plan to remove the leaf of the key.
 fn plan_clear(table: &TreeTable, who: &mut Caller, aim: Aim) -> Result<PlannedChange, Full>
-    requires same_table { who.old.token.view.table ≡ table.now.table }
-    requires caller { IsCaller who.old }
+    requires caller { IsAtTable table.now IsCaller who.old }
     requires refused { HasRefused who.old }
     requires at_slot { WasAtSlot who.old.token.view aim }
     requires room { MayReplace who.old.token.view aim.key aim.word way.Clear }
@@ -216,8 +210,7 @@ fn plan_for(
     aim: Aim,
     way: SlotPlan,
 ) -> Result<PlannedChange, Full>
-    requires same_table { who.old.token.view.table ≡ table.now.table }
-    requires caller { IsCaller who.old }
+    requires caller { IsAtTable table.now IsCaller who.old }
     requires refused { HasRefused who.old }
     requires at_slot { WasAtSlot who.old.token.view aim }
     requires room { MayReplace who.old.token.view aim.key aim.word way }
@@ -264,8 +257,7 @@ fn give_away(who: &mut Caller, fresh: Fresh)
 // Installs the change of the plan. If this succeeds, the caller no longer holds the rows.
 fn install_plan(table: &TreeTable, who: &mut Caller, plan: PlannedChange) -> bool
     ghost filling: { Filling }
-    requires same_table { who.old.token.view.table ≡ table.now.table }
-    requires caller { IsCaller who.old }
+    requires caller { IsAtTable table.now IsCaller who.old }
     requires refused { HasRefused who.old }
     requires rows { HasRows who.old plan }
     requires may_install { IsInstallable who.old.token.view plan.base filling }
@@ -291,8 +283,7 @@ fn install_plan(table: &TreeTable, who: &mut Caller, plan: PlannedChange) -> boo
 
 // Installs the change of the plan and helps it. Returns whether it took effect.
 fn carry_out(table: &TreeTable, who: &mut Caller, plan: PlannedChange) -> bool
-    requires same_table { who.old.token.view.table ≡ table.now.table }
-    requires caller { IsCaller who.old }
+    requires caller { IsAtTable table.now IsCaller who.old }
     requires refused { HasRefused who.old }
     requires rows { HasRows who.old plan }
     requires update { IsUpdate plan.row.kind }
@@ -320,8 +311,7 @@ pub(crate) fn change_slot(
     aim: Aim,
     way: SlotPlan,
 ) -> Result<bool, Full>
-    requires same_table { who.old.token.view.table ≡ table.now.table }
-    requires asked { IsAsked who.old (command_by aim.key way) }
+    requires asked { IsAtTable table.now (λ x. IsAsked x (command_by aim.key way)) who.old }
     requires at_slot { WasAtSlot who.old.token.view aim }
     requires room { MayReplace who.old.token.view aim.key aim.word way }
     ensures changed { HasChanged who.old aim way (word_count_of table.now) result who.new }
@@ -336,8 +326,7 @@ pub(crate) fn change_slot(
 
 // The same if its node was open, and no change of the caller there was decided no.
 fn change_open(table: &TreeTable, who: &mut Caller, aim: Aim, way: SlotPlan) -> Result<bool, Full>
-    requires same_table { who.old.token.view.table ≡ table.now.table }
-    requires asked { IsAsked who.old (command_by aim.key way) }
+    requires asked { IsAtTable table.now (λ x. IsAsked x (command_by aim.key way)) who.old }
     requires at_slot { WasAtSlot who.old.token.view aim }
     requires room { MayReplace who.old.token.view aim.key aim.word way }
     requires unrefused { IsUnrefused (now who.old.token.view) who.old.number aim.node }

@@ -7,7 +7,7 @@ ghost use Rattle.ist_core.specs.StartLayout.{start};
 ghost use Rattle.ist_rule.specs.Going.{WentOn};
 ghost use Rattle.ist_rule.specs.Watching.{number_of};
 ghost use Rattle.ist_rows.specs.Building.{HasRefused};
-ghost use Rattle.ist_rows.specs.Rows.{IsCaller};
+ghost use Rattle.ist_rows.specs.Rows.{IsCaller, IsAtTable};
 ghost use Rattle.ist_rows.specs.Going.{IsQuiet, StaysReady};
 ghost use Rattle.ist_updates.specs.Asking.{Updates};
 ghost use Rattle.ist_updates.specs.Walking.{MayCount, IsCountAt, HasCountedAt, HasStood, HasCounted};
@@ -45,8 +45,7 @@ pub(crate) fn count_update(
     row: u32,
     below: Applied,
 ) -> Applied
-    requires same_table { who.old.token.view.table ≡ table.now.table }
-    requires caller { IsCaller who.old }
+    requires caller { IsAtTable table.now IsCaller who.old }
     requires refused { HasRefused who.old }
     requires quiet { IsQuiet who.old }
     requires can { let v = who.old.token.view in

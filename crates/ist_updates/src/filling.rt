@@ -7,7 +7,7 @@ ghost use Rattle.ist_core.specs.Installing.{new_leaf, pair_row};
 ghost use Rattle.ist_rule.specs.Conditions.{StoredAll};
 ghost use Rattle.ist_rows.specs.CallerLaws.{AreBasesOf};
 ghost use Rattle.ist_rows.specs.Filling.{with_own, StandAt};
-ghost use Rattle.ist_rows.specs.Rows.{IsCaller, spares_of};
+ghost use Rattle.ist_rows.specs.Rows.{IsCaller, IsAtTable, spares_of};
 ghost use Rattle.ist_dcss.specs.Installing.{rows_of};
 ghost use Rattle.ist_updates.specs.Changing.{HasRows, AreGood, filling_of, fresh_rows, kinds_of};
 ghost use Rattle.ist_updates.specs.Filling.{KeepsOthers};
@@ -20,8 +20,7 @@ use ist_rule::{TreeTable, know};
 
 // Fills the row of a leaf, which no other caller knows yet.
 fn fill_leaf(table: &TreeTable, who: &mut Caller, base: u32, row: ChangeRow)
-    requires same_table { who.old.token.view.table ≡ table.now.table }
-    requires caller { IsCaller who.old }
+    requires caller { IsAtTable table.now IsCaller who.old }
     requires row { who.old.leaf ≡ Some base }
     ensures caller { IsCaller who.new }
     ensures same { who.new ≡ with_own who.old who.new.token.view.own }
@@ -42,8 +41,7 @@ fn fill_pair(
     other_key: u64,
     other: u32,
 )
-    requires same_table { who.old.token.view.table ≡ table.now.table }
-    requires caller { IsCaller who.old }
+    requires caller { IsAtTable table.now IsCaller who.old }
     requires row { who.old.pair ≡ Some base }
     requires leaf_good { IsGoodBase leaf }
     requires other_good { IsGoodBase other }
@@ -77,8 +75,7 @@ fn fill_pair(
 
 // Fills the row of the change.
 fn fill_change(table: &TreeTable, who: &mut Caller, base: u32, row: ChangeRow)
-    requires same_table { who.old.token.view.table ≡ table.now.table }
-    requires caller { IsCaller who.old }
+    requires caller { IsAtTable table.now IsCaller who.old }
     requires row { who.old.change ≡ Some base }
     ensures caller { IsCaller who.new }
     ensures same { who.new ≡ with_own who.old who.new.token.view.own }
@@ -102,8 +99,7 @@ fn fill_change(table: &TreeTable, who: &mut Caller, base: u32, row: ChangeRow)
 
 // Fills the rows that are published with the change.
 fn fill_fresh(table: &TreeTable, who: &mut Caller, row: ChangeRow, fresh: Fresh)
-    requires same_table { who.old.token.view.table ≡ table.now.table }
-    requires caller { IsCaller who.old }
+    requires caller { IsAtTable table.now IsCaller who.old }
     requires rows { let bases = bases_of (fresh_rows row fresh) in
         AreBasesOf (kinds_of fresh) (spares_of who.old) bases }
     requires good { AreGood fresh }
@@ -129,8 +125,7 @@ fn fill_fresh(table: &TreeTable, who: &mut Caller, row: ChangeRow, fresh: Fresh)
 
 /// Fills every word of every row of the plan, which the caller holds.
 pub(crate) fn fill_rows(table: &TreeTable, who: &mut Caller, plan: PlannedChange)
-    requires same_table { who.old.token.view.table ≡ table.now.table }
-    requires caller { IsCaller who.old }
+    requires caller { IsAtTable table.now IsCaller who.old }
     requires rows { HasRows who.old plan }
     requires good { AreGood plan.fresh }
     ensures caller { IsCaller who.new }

@@ -10,6 +10,7 @@ ghost use Rattle.ist_find.specs.Searches.{SeesLeaf};
 ghost use Rattle.ist_updates.specs.Answering.{HasTried, just_took};
 ghost use Rattle.ist_updates.specs.Changing.{WasAtSlot};
 ghost use Rattle.ist_rule.specs.Faces.{word_count_of};
+ghost use Rattle.ist_rows.specs.Rows.{IsAtTable};
 ghost use Rattle.ist_updates.specs.Asking.{command_for, IsAsked};
 ghost use Rattle.ist_updates.specs.Ending.{IsWalk};
 ghost use Rattle.ist_updates.specs.Meeting.{IsMetBy, IsMissedBy, RepliesWith, IsTryMet, HasMissed};
@@ -84,8 +85,8 @@ fn try_empty(
     aim: Aim,
     update: Update,
 ) -> Result<Option<Outcome>, Full>
-    requires same_table { who.old.token.view.table ≡ table.now.table }
-    requires asked { IsAsked who.old (command_for aim.key update.value) }
+    requires asked { IsAtTable table.now
+        (λ x. IsAsked x (command_for aim.key update.value)) who.old }
     requires at_slot { WasAtSlot who.old.token.view aim }
     requires empty { ref_of aim.word ≡ Some Empty }
     ensures tried { HasTried who.old aim update.value (word_count_of table.now) result who.new }
@@ -115,8 +116,8 @@ fn put_at(
     base: u32,
     leaf: LeafRow,
 ) -> Result<Option<Outcome>, Full>
-    requires same_table { who.old.token.view.table ≡ table.now.table }
-    requires asked { IsAsked who.old (command_for aim.key (Some value)) }
+    requires asked { IsAtTable table.now
+        (λ x. IsAsked x (command_for aim.key (Some value))) who.old }
     requires at_slot { WasAtSlot who.old.token.view aim }
     requires leaf { ref_of aim.word ≡ Some (LeafAt base) }
     requires stands { (now who.old.token.view).pieces base ≡ Some (Leaf leaf) }
@@ -144,8 +145,7 @@ fn remove_at(
     base: u32,
     leaf: LeafRow,
 ) -> Result<Option<Outcome>, Full>
-    requires same_table { who.old.token.view.table ≡ table.now.table }
-    requires asked { IsAsked who.old (command_for aim.key None) }
+    requires asked { IsAtTable table.now (λ x. IsAsked x (command_for aim.key None)) who.old }
     requires at_slot { WasAtSlot who.old.token.view aim }
     requires leaf { ref_of aim.word ≡ Some (LeafAt base) }
     requires stands { (now who.old.token.view).pieces base ≡ Some (Leaf leaf) }
@@ -169,8 +169,8 @@ fn try_leaf(
     update: Update,
     base: u32,
 ) -> Result<Option<Outcome>, Full>
-    requires same_table { who.old.token.view.table ≡ table.now.table }
-    requires asked { IsAsked who.old (command_for aim.key update.value) }
+    requires asked { IsAtTable table.now
+        (λ x. IsAsked x (command_for aim.key update.value)) who.old }
     requires at_slot { WasAtSlot who.old.token.view aim }
     requires leaf { ref_of aim.word ≡ Some (LeafAt base) }
     ensures tried { HasTried who.old aim update.value (word_count_of table.now) result who.new }
@@ -198,8 +198,8 @@ fn help_change(
     update: Update,
     base: u32,
 ) -> Option<Outcome>
-    requires same_table { who.old.token.view.table ≡ table.now.table }
-    requires asked { IsAsked who.old (command_for aim.key update.value) }
+    requires asked { IsAtTable table.now
+        (λ x. IsAsked x (command_for aim.key update.value)) who.old }
     requires at_slot { IsAtSlot who.old.token.view aim.key aim.node aim.index aim.word }
     requires change { ref_of aim.word ≡ Some (ChangeAt base) }
     ensures again { result ≡ None }
@@ -220,8 +220,8 @@ fn help_target(
     update: Update,
     base: u32,
 ) -> Result<Option<Outcome>, Full>
-    requires same_table { who.old.token.view.table ≡ table.now.table }
-    requires asked { IsAsked who.old (command_for aim.key update.value) }
+    requires asked { IsAtTable table.now
+        (λ x. IsAsked x (command_for aim.key update.value)) who.old }
     requires at_slot { IsAtSlot who.old.token.view aim.key aim.node aim.index aim.word }
     requires rebuild { ref_of aim.word ≡ Some (RebuildAt base) }
     ensures tried { HasTried who.old aim update.value (word_count_of table.now) result who.new }
@@ -247,8 +247,8 @@ pub(crate) fn try_slot(
     node: u32,
     child: Child,
 ) -> Result<Option<Outcome>, Full>
-    requires same_table { who.old.token.view.table ≡ table.now.table }
-    requires asked { IsAsked who.old (command_for update.key update.value) }
+    requires asked { IsAtTable table.now
+        (λ x. IsAsked x (command_for update.key update.value)) who.old }
     requires at_slot { IsAtSlot who.old.token.view update.key node child.index child.word }
     ensures walk { IsWalk who.old update.key update.value update.when node (word_count_of table.now)
         result who.new }

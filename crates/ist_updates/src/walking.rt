@@ -4,6 +4,7 @@ ghost use Rattle.ist_core.specs.References.{InnerAt, ref_of};
 ghost use Rattle.ist_core.specs.RowLayout.{anchor};
 ghost use Rattle.ist_rule.specs.Conditions.{MayWalk};
 ghost use Rattle.ist_rule.specs.Faces.{word_count_of};
+ghost use Rattle.ist_rows.specs.Rows.{IsAtTable};
 ghost use Rattle.ist_find.specs.Searches.{Came};
 ghost use Rattle.ist_updates.specs.Asking.{command_for, IsAsked};
 ghost use Rattle.ist_updates.specs.Ending.{IsWalk};
@@ -39,8 +40,8 @@ pub(crate) fn descend(
     update: Update,
     node: u32,
 ) -> Result<Option<Outcome>, Full>
-    requires same_table { who.old.token.view.table ≡ table.now.table }
-    requires asked { IsAsked who.old (command_for update.key update.value) }
+    requires asked { IsAtTable table.now
+        (λ x. IsAsked x (command_for update.key update.value)) who.old }
     requires came { Came who.old.token.view update.key node }
     requires top { node ≡ anchor → MayWalk who.old.token.view }
     ensures walk { IsWalk who.old update.key update.value update.when node (word_count_of table.now)

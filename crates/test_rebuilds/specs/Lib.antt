@@ -2,4 +2,3 @@
 pub mod Steps
 pub mod Late
 pub mod Races
-pub mod At

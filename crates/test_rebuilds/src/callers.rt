@@ -8,10 +8,10 @@ ghost use Rattle.ist_core.specs.Slots.{SlotHolds};
 ghost use Rattle.test_rebuilds.specs.Steps.{HasMarkedTarget};
 ghost use Rattle.ist_rebuild.specs.declared.answers.Started.TheVariants.{Yes};
 ghost use Rattle.ist_rows.specs.Going.{IsReady};
+ghost use Rattle.ist_rows.specs.Rows.{IsAtTable};
 ghost use Rattle.ist_rebuild.specs.Starting.{MayStart};
 ghost use Rattle.ist_core.specs.declared.events.Who.TheVariants.{Maker};
 ghost use Rattle.ist_rule.specs.Learning.{now};
-ghost use Rattle.test_rebuilds.specs.At.{IsAtTable};
 
 use ist_build::{fill_parts, set_root};
 use ist_core::Full;

@@ -1,8 +1,7 @@
 //! A caller that gives up its pair row, since another caller's put has published a higher one.
 ghost use Rattle.std.specs.Prelude.{◌≡◌};
-ghost use Rattle.ist_rows.specs.Rows.{IsCaller};
+ghost use Rattle.ist_rows.specs.Rows.{IsCaller, IsAtTable};
 ghost use Rattle.ist_tree.specs.Insides.{IsPass};
-ghost use Rattle.test_rebuilds.specs.At.{IsAtTable};
 
 use crate::judging::same;
 use crate::tables::{Opened, open};

@@ -6,9 +6,9 @@ ghost use Rattle.ist_core.specs.Rebuilding.{IsStarted};
 ghost use Rattle.ist_dcss.specs.declared.decisions.Installed.TheVariants.{Yes};
 ghost use Rattle.ist_dcss.specs.Helping.{MayHelp};
 ghost use Rattle.ist_rows.specs.Going.{IsReady};
+ghost use Rattle.ist_rows.specs.Rows.{IsAtTable};
 ghost use Rattle.ist_rule.specs.Learning.{now};
 ghost use Rattle.ist_tree.specs.Insides.{IsPass};
-ghost use Rattle.test_rebuilds.specs.At.{IsAtTable};
 
 use crate::callers::{enter_call, help_on, mark, see_rebuild};
 use crate::judging::same;

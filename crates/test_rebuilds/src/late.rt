@@ -10,7 +10,7 @@ ghost use Rattle.ist_dcss.specs.Installing.{rows_of, Filling};
 ghost use Rattle.ist_find.specs.Searches.{SeesLeaf};
 ghost use Rattle.ist_rows.specs.declared.callers.Caller.{Caller};
 ghost use Rattle.ist_rows.specs.Building.{HasRefused};
-ghost use Rattle.ist_rows.specs.Rows.{IsCaller, row_of, spares_of, with_spare};
+ghost use Rattle.ist_rows.specs.Rows.{IsCaller, IsAtTable, row_of, spares_of, with_spare};
 ghost use Rattle.ist_rule.specs.Conditions.{StoredAll};
 ghost use Rattle.ist_rule.specs.Learning.{now, GoesOnTo};
 ghost use Rattle.ist_tree.specs.Insides.{IsPass};
@@ -19,7 +19,6 @@ ghost use Rattle.ist_updates.specs.Changing.{Prepares};
 ghost use Rattle.ist_rows.specs.Going.{HasGone};
 ghost use Rattle.ist_rows.specs.Filling.{with_own};
 ghost use Rattle.ist_updates.specs.Trying.{IsAtSlot};
-ghost use Rattle.test_rebuilds.specs.At.{IsAtTable};
 
 use crate::updates::ask;
 use ist_core::{ChangeRow, Full};

@@ -3,8 +3,8 @@ ghost use Rattle.std.specs.Prelude.{◌≡◌, ◌≤◌, ◌<◌, IsTrue};
 ghost use Rattle.test_rebuilds.specs.Steps.{HasMarkedTarget};
 ghost use Rattle.ist_core.specs.Shapes.{share_from};
 ghost use Rattle.ist_rows.specs.Going.{IsReady};
+ghost use Rattle.ist_rows.specs.Rows.{IsAtTable};
 ghost use Rattle.ist_rule.specs.Learning.{now};
-ghost use Rattle.test_rebuilds.specs.At.{IsAtTable};
 
 use crate::callers::{Marked, begin, enter_call, mark, see_row};
 use crate::judging::same;

@@ -2,8 +2,8 @@
 ghost use Rattle.std.specs.Prelude.{◌≡◌};
 ghost use Rattle.ist_core.specs.Rebuilding.{IsStarted};
 ghost use Rattle.ist_rows.specs.Going.{IsReady};
+ghost use Rattle.ist_rows.specs.Rows.{IsAtTable};
 ghost use Rattle.ist_rule.specs.Learning.{now};
-ghost use Rattle.test_rebuilds.specs.At.{IsAtTable};
 
 use crate::callers::{enter_call, mark, see_rebuild};
 use crate::judging::same;

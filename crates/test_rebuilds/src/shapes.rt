@@ -1,8 +1,8 @@
 //! Trees whose top row has pair rows, another rebuild and plain leaves in its slots, and the map of what they hold.
 ghost use Rattle.std.specs.Prelude.{◌≡◌, true, Ok};
 ghost use Rattle.ist_core.specs.declared.events.Who.TheVariants.{Maker};
+ghost use Rattle.ist_rows.specs.Rows.{IsAtTable};
 ghost use Rattle.ist_tree.specs.Insides.{IsPass};
-ghost use Rattle.test_rebuilds.specs.At.{IsAtTable};
 
 use crate::callers::help_on;
 use crate::updates::{enter_idle, start_after, update_all};

@@ -3,8 +3,8 @@
 ghost use Rattle.std.specs.Prelude.{◌≡◌, IfSome};
 ghost use Rattle.ist_core.specs.Rebuilding.{IsStarted};
 ghost use Rattle.ist_rows.specs.Going.{IsReady};
+ghost use Rattle.ist_rows.specs.Rows.{IsAtTable};
 ghost use Rattle.ist_rule.specs.Learning.{now};
-ghost use Rattle.test_rebuilds.specs.At.{IsAtTable};
 
 use crate::callers::{begin, enter_call, fill_all, help_on, mark, see_rebuild, see_row, set};
 use crate::judging::same;

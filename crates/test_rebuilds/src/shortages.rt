@@ -1,7 +1,7 @@
 //! Starts and rebuilds that are refused, at each number of words.
 ghost use Rattle.std.specs.Prelude.{◌≡◌};
 ghost use Rattle.ist_rows.specs.Going.{IsReady};
-ghost use Rattle.test_rebuilds.specs.At.{IsAtTable};
+ghost use Rattle.ist_rows.specs.Rows.{IsAtTable};
 
 use crate::callers::{begin, enter_call, help_on, see_row};
 use crate::judging::same;

@@ -1,7 +1,7 @@
 //! Two callers that start one rebuild, of which the other ends it.
 ghost use Rattle.std.specs.Prelude.{◌≡◌};
 ghost use Rattle.ist_rows.specs.Going.{IsReady};
-ghost use Rattle.test_rebuilds.specs.At.{IsAtTable};
+ghost use Rattle.ist_rows.specs.Rows.{IsAtTable};
 
 use crate::callers::{begin, enter_call, help_on, mark, see_rebuild, see_row};
 use crate::judging::same;

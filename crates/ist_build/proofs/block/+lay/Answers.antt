@@ -40,10 +40,10 @@ lay-word-requires t c =
     c.loop-j-test.true c.degree-degree.ensures.value p.start p.len p.some) c.requires.fresh
     c.requires.leaves c.requires.keys c.requires.many in
     let few = a.long in
-    let here = ap (λ (x : Caller). x.token.view.table) m.written.same ∙ c.requires.same_table in
+    let here = ap (λ (x : Caller). x.token.view.table) m.written.same ∙ c.requires.caller.1 in
     let caller = m.written.caller in (
       search (rules, counting),
-      (here, (caller, (a.held, (a.fresh, (a.leaves, (a.keys, (a.many, (omega arith, m.low)))))))),
+      ((caller, here), (a.held, (a.fresh, (a.leaves, (a.keys, (a.many, (omega arith, m.low))))))),
     )
 
 -- one part more is laid

@@ -20,7 +20,7 @@ ready : (c : After-from-next)
     → BlockReady c.args.who.now c.reserve_shape.new.who c.args.leaves.now c.args.keys.now
     c.from-next.result
 ready c =
-    block_ready _ _ _ _ _ _ c.from-next.ensures c.know.ensures.sound c.requires.caller c.if-leaves-lt2.false
+    block_ready _ _ _ _ _ _ c.from-next.ensures c.know.ensures.sound c.requires.caller.0 c.if-leaves-lt2.false
     c.in-Some.ensures.same c.in-Some.ensures.reserved c.in-Some.ensures.taken c.requires.leaves c.requires.keys
 
 pub lay-requires-clause-held : goal.lay-requires-clause-held
@@ -61,10 +61,9 @@ build-requires-in-None c =
     let g = c.in-None.ensures.none refl in
     let b = loads_built _ _ g in
     record {
-      same_table = ap (λ (v : View). v.table) g.same ∙ c.requires.same_table;
-      caller = c.reserve_shape.ensures.caller;
+      caller = (c.reserve_shape.ensures.caller, ap (λ (v : View). v.table) g.same ∙ c.requires.caller.1);
       due = λ two. subst (λ x. AreNextRows x (length c.args.leaves.now)) (sym c.in-None.ensures.same)
-          (due_on c.args.who.now _ _ c.requires.caller g (c.requires.due two));
+          (due_on c.args.who.now _ _ c.requires.caller.0 g (c.requires.due two));
       leaves = (c.requires.leaves.0, placed_on _ _ b _ _ c.requires.leaves.1);
       keys = keys_on _ _ (built_grow _ _ b) c.args.leaves.now c.args.keys.now c.requires.keys;
       many = c.requires.many;
@@ -76,8 +75,8 @@ returns-in-None c =
     let e = c.build-in-None.ensures in
     let f = c.in-None.ensures in
     let o = later_built c.args.who.now c.reserve_shape.new.who c.build-in-None.new.who
-    (word_count_of c.args.table.now) c.args.leaves.now c.requires.caller
-    (sym (c.know.ensures.words ∙ ap (λ t. t.words) c.requires.same_table)) (f.full refl) f.same (f.none refl)
+    (word_count_of c.args.table.now) c.args.leaves.now c.requires.caller.0
+    (sym (c.know.ensures.words ∙ ap (λ t. t.words) c.requires.caller.1)) (f.full refl) f.same (f.none refl)
     e.built c.build-in-None.result e.laid e.taken e.full in
     record {
       caller = e.caller;

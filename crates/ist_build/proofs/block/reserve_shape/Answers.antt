@@ -15,9 +15,9 @@ pub reserve_block-requires : goal.reserve_block-requires
 reserve_block-requires g c =
     let is = c.ideal_words.ensures.value ∙ ideal_words_is c.args.size in
     let rows = ap sum c.requires.0 in
-    let next = shape_next c.args.who.now c.args.size g.sizes c.requires.0 c.requires.1.1.1.0
-    c.requires.1.1.1.1.0 in
-    (c.requires.1.0, (c.requires.1.1.0, (next.0, (next.1, (omega arith, omega arith)))))
+    let next = shape_next c.args.who.now c.args.size g.sizes c.requires.0 c.requires.1.1.0
+    c.requires.1.1.1.0 in
+    (c.requires.1.0, (next.0, (next.1, (omega arith, omega arith))))
 
 -- they are taken in the order of the shape
 pub returns-clause-taken : goal.returns-clause-taken

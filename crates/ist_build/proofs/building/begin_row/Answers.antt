@@ -24,7 +24,7 @@ open_row-requires-clause-held c =
 pub returns-clause-begun : goal.returns-clause-begun
 returns-clause-begun c =
     midway_opened c.args.who.now c.reserve_inner.new.who c.open_row.new.who c.args.leaves.now
-    c.in_ok-base.base c.args.degree c.know.ensures.sound c.requires.caller.mine c.requires.several
+    c.in_ok-base.base c.args.degree c.know.ensures.sound c.requires.caller.0.mine c.requires.several
     c.requires.degree_is c.reserve_inner.ensures.number c.reserve_inner.ensures.rows
     c.in_ok-base.ensures.reserved c.in_ok-base.ensures.taken c.open_row.ensures.stored
     c.open_row.ensures.caller c.open_row.ensures.sound

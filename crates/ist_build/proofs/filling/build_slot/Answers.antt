@@ -26,7 +26,7 @@ returns c =
     let p = c.part-share.ensures in
     let b = slot_built c.args.who.now c.build_share.new.who c.args.shared c.args.i _ _ _
     record {
-      ready = c.requires.ready;
+      ready = c.requires.ready.0;
       sound = c.know.ensures.sound;
       number = e.number;
       rows = e.rows;

@@ -10,9 +10,9 @@ use Rattle.ist_build.proofs.filling.shared_root.Goals as goal
 pub load-root-requires : goal.load-root-requires
 load-root-requires c =
     let told = c.requires.told in
-    let there = word_there c.know.ensures.sound c.know.ensures.words c.requires.same_table _ _ told.published 3
+    let there = word_there c.know.ensures.sound c.know.ensures.words c.requires.ready.1 _ _ told.published 3
     (c.from.result + 3) (omega arith) (omega (arith, c.from.ensures)) in
-    record { same_table = c.requires.same_table; within = there.0; no_walk = there.1 }
+    record { same_table = c.requires.ready.1; within = there.0; no_walk = there.1 }
 
 pub overflow_cast-result : goal.overflow_cast-result
 overflow_cast-result c =
@@ -31,8 +31,8 @@ returns c =
     let n = names_root _ _ _ _ _ _ _ c.requires.told c.requires.target c.requires.rooted c.requires.many
     (omega (arith, c.from.ensures)) c.load-root.ensures.looked in
     record {
-      back = back_loads c.args.who.now _ c.requires.ready g;
-      none = none_loads c.args.who.now _ c.requires.ready.caller.mine g;
+      back = back_loads c.args.who.now _ c.requires.ready.0 g;
+      none = none_loads c.args.who.now _ c.requires.ready.0.caller.mine g;
       shared = record { is = n.shared; degree_is = c.degree.ensures.value };
       rebuild = search rules;
       keys = search rules;

@@ -12,9 +12,9 @@ slot_place-requires-clause-fits c =
 
 pub load-requires : goal.load-requires
 load-requires c =
-    let there = slot_there c.know.ensures.sound c.know.ensures.words c.requires.same_table _ _ _ _
+    let there = slot_there c.know.ensures.sound c.know.ensures.words c.requires.ready.1 _ _ _ _
     (shared_slots _ _ c.requires.shared) c.requires.within c.slot_place.ensures.value in
-    record { same_table = c.requires.same_table; within = there.0; no_walk = there.1 }
+    record { same_table = c.requires.ready.1; within = there.0; no_walk = there.1 }
 
 pub returns : goal.returns
 returns c =
@@ -22,8 +22,8 @@ returns c =
     let slots = shared_slots _ _ c.requires.shared in
     let at = c.slot_place.ensures.value in
     record {
-      back = back_loads c.args.who.now _ c.requires.ready (looked_goes_on _ _ _ _ l);
-      none = none_loads c.args.who.now _ c.requires.ready.caller.mine (looked_goes_on _ _ _ _ l);
+      back = back_loads c.args.who.now _ c.requires.ready.0 (looked_goes_on _ _ _ _ l);
+      none = none_loads c.args.who.now _ c.requires.ready.0.caller.mine (looked_goes_on _ _ _ _ l);
       set = slot_looked _ _ _ _ _ _ _ slots c.requires.within at l;
       vacant = slot_open _ _ _ _ _ _ _ slots c.requires.within at l;
       unset = slot_unset _ _ c.know.ensures.sound _ _ _ _ _ _ slots c.requires.within at l;

@@ -10,7 +10,7 @@ keys_of-keys-requires-clause-finished c =
 pub returns : goal.returns
 returns c =
     let f = found_so c.args.who.now c.target_of-base.new.token c.keys_of-keys.new.token
-    c.requires.ready c.target_of-base.ensures.seen c.keys_of-keys.ensures.seen c.args.rebuild _
+    c.requires.ready.0 c.target_of-base.ensures.seen c.keys_of-keys.ensures.seen c.args.rebuild _
     c.requires.buildable.k _ c.requires.buildable.told c.target_of-base.ensures.target
     c.keys_of-keys.ensures.finished in
     record {

@@ -17,8 +17,8 @@ returns-in_err-base c =
     let f = c.in_err-base.ensures in
     let r = row_refused c.args.who.now c.reserve_inner.new.who _ _ _ _ (many_two _ c.requires.many)
     c.requires.degree_is e.caller e.number e.rows f.full f.refused in
-    let out = full_out _ c.reserve_inner.new.who c.requires.caller _ _ _
-    (sym (c.know.ensures.words ∙ ap (λ t. t.words) c.requires.same_table)) f.full in
+    let out = full_out _ c.reserve_inner.new.who c.requires.caller.0 _ _ _
+    (sym (c.know.ensures.words ∙ ap (λ t. t.words) c.requires.caller.1)) f.full in
     record { begun = search rules; few = search rules; refused = search rules }
 
 pub open_row-requires-clause-held : goal.open_row-requires-clause-held
@@ -35,6 +35,6 @@ returns c =
       begun = top_opened _ c.reserve_inner.new.who c.args.target c.args.keys c.args.degree _
           c.know.ensures.sound c.requires.refused c.requires.target c.requires.many c.requires.degree_is
           r.number r.rows b.reserved b.taken c.open_row.new.who e.stored e.caller e.sound;
-      few = rw e.stored (few_reserved c.args.who.now c.reserve_inner.new.who c.requires.caller _ _ b.reserved);
+      few = rw e.stored (few_reserved c.args.who.now c.reserve_inner.new.who c.requires.caller.0 _ _ b.reserved);
       refused = tt;
     }

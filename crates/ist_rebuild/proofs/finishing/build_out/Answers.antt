@@ -28,7 +28,7 @@ pub returns : goal.returns
 returns c =
     let e = c.set_root.ensures in
     let f = c.fill_parts.ensures in
-    let root = built_helped _ _ c.requires.ready e.caller e.refused e.number e.rows e.went in
+    let root = built_helped _ _ c.requires.ready.0 e.caller e.refused e.number e.rows e.went in
     let parts = built_helped _ _ (still_ready root.on) f.caller f.refused f.number f.rows f.went in
     record {
       helped = helped_more _ _ _ root parts;

@@ -14,13 +14,13 @@ returns-in-Yes c = search (rules, helped_same, none_same)
 -- the slot held a change, which may be helped
 pub help-requires-clause-may_help : goal.help-requires-clause-may_help
 help-requires-clause-may_help c =
-    met_change _ c.know.ensures.sound _ c.requires.ready.caller.mine _ _ _ _
+    met_change _ c.know.ensures.sound _ c.requires.ready.0.caller.mine _ _ _ _
     (c.requires.other _ c.in-Other.is) (c.in-Change.ensures.change _ refl)
 
 pub returns-in-Change : goal.returns-in-Change
 returns-in-Change c =
-    let helped = help_helped _ c.help.new.token _ c.requires.ready c.help.ensures.went in
-    let none = none_helped c.args.who.now c.help.new.token _ c.requires.ready.caller.mine c.help.ensures.went in
+    let helped = help_helped _ c.help.new.token _ c.requires.ready.0 c.help.ensures.went in
+    let none = none_helped c.args.who.now c.help.new.token _ c.requires.ready.0.caller.mine c.help.ensures.went in
     let further = helped_further _ _ _ c.know.ensures.sound c.help.ensures.went _ _ _ _
     (c.requires.other _ c.in-Other.is) (c.in-Change.ensures.change _ refl) c.help.ensures.out.resolved in
     search rules

@@ -7,7 +7,7 @@ use Rattle.ist_rebuild.proofs.SiteLemmas.{plan_went}
 use Rattle.ist_rebuild.proofs.finishing.finish.Goals as goal
 
 pub turns-init : goal.turns-init
-turns-init c = turn_first c.args.who.now c.requires.ready c.know.ensures.sound _
+turns-init c = turn_first c.args.who.now c.requires.ready.0 c.know.ensures.sound _
 
 pub try_finish-requires-clause-plan : goal.try_finish-requires-clause-plan
 try_finish-requires-clause-plan c = search (rules, plan_went)

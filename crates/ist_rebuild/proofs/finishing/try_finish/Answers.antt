@@ -14,7 +14,8 @@ is_open-requires-clause-node c = parent_node _ c.know.ensures.sound c.args.plan 
 
 -- if the parent isn't open, the slot decides
 pub settle-requires-clause-ready : goal.settle-requires-clause-ready
-settle-requires-clause-ready c = tried_ready c.args.who.now _ c.requires.ready c.is_open.ensures.seen
+settle-requires-clause-ready c =
+    (tried_ready c.args.who.now _ c.requires.ready.0 c.is_open.ensures.seen, search rules)
 
 pub settle-requires-clause-plan : goal.settle-requires-clause-plan
 settle-requires-clause-plan c = search (rules, plan_on)
@@ -23,8 +24,8 @@ pub returns-then-not-is_open : goal.returns-then-not-is_open
 returns-then-not-is_open c =
     let e = c.settle.ensures in
     record {
-      helped = tried_helped c.args.who.now _ c.requires.ready c.is_open.ensures.seen _ e.helped;
-      few = tried_none c.args.who.now _ c.requires.ready c.is_open.ensures.seen _ e.helped _ e.none;
+      helped = tried_helped c.args.who.now _ c.requires.ready.0 c.is_open.ensures.seen _ e.helped;
+      few = tried_none c.args.who.now _ c.requires.ready.0 c.is_open.ensures.seen _ e.helped _ e.none;
       held = λ is. absurd (cc (none_of _ is));
       replaced = search rules;
       left = search rules;
@@ -35,7 +36,7 @@ returns-then-not-is_open c =
 -- if it is open, no change of the caller's on it was refused
 pub prepare-requires : goal.prepare-requires
 prepare-requires c =
-    let ready = tried_ready c.args.who.now _ c.requires.ready c.is_open.ensures.seen in
+    let ready = tried_ready c.args.who.now _ c.requires.ready.0 c.is_open.ensures.seen in
     search (rules, plan_on, c.is_open.ensures.unrefused)
 
 -- a change row that was refused
@@ -49,7 +50,7 @@ returns-in_err-change-clause-full c =
 
 pub returns-in_err-change-clause-few : goal.returns-in_err-change-clause-few
 returns-in_err-change-clause-few c =
-    let few = tried_few c.args.who.now _ c.requires.ready c.is_open.ensures.seen c.prepare.new.who
+    let few = tried_few c.args.who.now _ c.requires.ready.0 c.is_open.ensures.seen c.prepare.new.who
     c.prepare.ensures.helped c.prepare.result _ 0 c.prepare.ensures.few in
     search rules
 
@@ -65,7 +66,7 @@ pub returns : goal.returns
 returns c =
     let t = c.carry-tried.ensures in
     let e = c.conclude.ensures in
-    let all = tried_all c.args.who.now _ c.requires.ready c.is_open.ensures.seen c.prepare.new.who
+    let all = tried_all c.args.who.now _ c.requires.ready.0 c.is_open.ensures.seen c.prepare.new.who
     c.prepare.ensures.helped _ _ t.helped e.helped t.none e.none
     (wanting c.args.who.now.change change_words) c.in_ok-change.ensures.few in
     record {
@@ -75,7 +76,7 @@ returns c =
           (e.held ∙ t.held again.0 again.1 ∙ c.in_ok-change.ensures.prepared.row);
       replaced = search rules;
       left = search rules;
-      further = λ is. tried_further c.args.who.now _ c.requires.ready c.is_open.ensures.seen c.prepare.new.who
+      further = λ is. tried_further c.args.who.now _ c.requires.ready.0 c.is_open.ensures.seen c.prepare.new.who
           c.prepare.ensures.helped _ _ t.helped e.helped (e.further (none_of _ is));
       full = tt;
     }

@@ -26,7 +26,8 @@ pub plan_of-plan-requires-clause-started : goal.plan_of-plan-requires-clause-sta
 plan_of-plan-requires-clause-started c = search (rules, started_went)
 
 pub finish-requires-clause-ready : goal.finish-requires-clause-ready
-finish-requires-clause-ready c = ready_loads _ _ _ c.build_out.ensures.helped c.plan_of-plan.ensures.seen
+finish-requires-clause-ready c =
+    (ready_loads _ _ _ c.build_out.ensures.helped c.plan_of-plan.ensures.seen, search rules)
 
 -- the steps were steps of help
 pub returns : goal.returns

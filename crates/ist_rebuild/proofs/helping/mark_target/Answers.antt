@@ -15,7 +15,7 @@ target_of-target-requires-clause-published c =
 -- its target may be marked
 pub mark_and_count_from-requires-clause-may_mark : goal.mark_and_count_from-requires-clause-may_mark
 mark_and_count_from-requires-clause-may_mark c =
-    may_mark c.args.who.now c.target_of-target.new.token c.args.rebuild _ c.requires.ready
+    may_mark c.args.who.now c.target_of-target.new.token c.args.rebuild _ c.requires.ready.0
     c.requires.started c.target_of-target.ensures.seen c.target_of-target.ensures.target
 
 -- the target is then finished, and no word was taken
@@ -26,8 +26,8 @@ returns c =
     let new = record who { token = c.mark_and_count_from.new.token } in
     let loads = c.target_of-target.ensures.seen in
     let went = c.mark_and_count_from.ensures.went in
-    let mine = c.requires.ready.caller.mine in
-    let marked = has_marked who mid.token new.token c.args.rebuild _ _ c.requires.ready c.requires.started
+    let mine = c.requires.ready.0.caller.mine in
+    let marked = has_marked who mid.token new.token c.args.rebuild _ _ c.requires.ready.0 c.requires.started
     loads c.target_of-target.ensures.target went c.mark_and_count_from.ensures.finished in
     record {
       helped = marked.helped;

@@ -9,7 +9,7 @@ use Rattle.ist_rebuild.proofs.sites.settle.Goals as goal
 
 -- before the first turn nothing was done
 pub turns-init : goal.turns-init
-turns-init c = (helped_same _ c.requires.ready c.know.ensures.sound, none_same c.args.who.now, refl)
+turns-init c = (helped_same _ c.requires.ready.0 c.know.ensures.sound, none_same c.args.who.now, refl)
 
 -- the plan is still a plan, and its parent isn't the anchor, which is always open
 pub slot_word-word-requires-clause-plan : goal.slot_word-word-requires-clause-plan

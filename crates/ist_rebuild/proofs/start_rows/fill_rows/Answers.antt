@@ -6,5 +6,5 @@ pub to_word-to-requires : goal.to_word-to-requires
 to_word-to-requires c =
     record {
       good = rebuild_good c.args.who.now c.args.rows.rebuild c.args.rows.change c.requires.rows
-          c.requires.caller c.know.ensures.sound;
+          c.requires.caller.0 c.know.ensures.sound;
     }

@@ -26,6 +26,6 @@ returns-clause-ready c =
     c.requires.may_start c.reserve_rows.new.who c.fill_rows.new.who c.in_ok-rows.rows.rebuild
     c.in_ok-rows.rows.change c.in_ok-rows.ensures.rows r.caller r.went r.quiet
     (subst (λ n. IsUnrefused (now c.reserve_rows.new.who.token.view) n c.args.parent) (sym r.number)
-    (unrefused_reserving _ _ r.went c.args.who.now.number c.args.parent c.requires.caller.mine
+    (unrefused_reserving _ _ r.went c.args.who.now.number c.args.parent c.requires.caller.0.mine
     c.requires.quiet.resolved c.requires.unrefused))
     c.fill_rows.ensures.filled c.fill_rows.ensures.caller c.know.ensures.sound

@@ -12,14 +12,14 @@ first : (c : After-reserve) → HasReserved c.args.who.now c.reserve.new.who
 first c =
     let e = c.reserve.ensures in
     row_reserved _ _ _ _ _ e.held e.reserved e.full rebuild_of_start (λ base own. (refl, refl))
-    c.know.ensures.sound c.requires.caller c.requires.quiet e.caller e.number
+    c.know.ensures.sound c.requires.caller.0 c.requires.quiet e.caller.0 e.number
 
 both : (c : After-reserve-2) → HasReserved c.args.who.now c.reserve-2.new.who
 both c =
     let one = first (goal.at.After-reserve-2 c).After-reserve in
     let e = c.reserve-2.ensures in
     reserved_more _ _ _ one (row_reserved _ _ _ _ _ e.held e.reserved e.full change_of_start
-    (λ base own. (refl, refl)) one.went.sound one.caller one.quiet e.caller e.number)
+    (λ base own. (refl, refl)) one.went.sound one.caller one.quiet e.caller.0 e.number)
 
 pub returns-in_err-rebuild : goal.returns-in_err-rebuild
 returns-in_err-rebuild c =

@@ -10,7 +10,7 @@ is_open-requires-clause-node c =
 -- the caller only made a load
 pub returns-clause-reserved : goal.returns-clause-reserved
 returns-clause-reserved c =
-    loads_reserved c.args.who.now c.is_open.new.token c.requires.caller c.requires.quiet
+    loads_reserved c.args.who.now c.is_open.new.token c.requires.caller.0 c.requires.quiet
     c.is_open.ensures.seen
 
 pub returns-clause-may_start : goal.returns-clause-may_start

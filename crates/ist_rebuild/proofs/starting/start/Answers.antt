@@ -13,7 +13,7 @@ returns-then-parent_is_open c =
     let test = c.parent_is_open.ensures.reserved in
     let e = c.start_open.ensures in
     let begun = begun_more _ _ _ _ (reserved_begun c.args.target old mid test) e.begun in
-    let told = told_after old mid c.requires.caller c.requires.quiet test _ _ _ _ _ e.told in
+    let told = told_after old mid c.requires.caller.0 c.requires.quiet test _ _ _ _ _ e.told in
     let new = c.start_open.new.who in
     let few = few_begun old mid new test e.begun e.few in
     let full = err_map _ _ c.start_open.result (λ full h. refused_after _ _ _ _ full test.went h) e.full in
@@ -24,7 +24,7 @@ pub returns-else-parent_is_open : goal.returns-else-parent_is_open
 returns-else-parent_is_open c =
     let test = c.parent_is_open.ensures.reserved in
     let begun = reserved_begun c.args.target _ _ test in
-    let told = closed_told c.args.who.now _ c.requires.caller c.requires.quiet test c.args.parent
+    let told = closed_told c.args.who.now _ c.requires.caller.0 c.requires.quiet test c.args.parent
     c.args.index c.args.target (c.parent_is_open.ensures.closed c.if-parent_is_open.false) in
     let few = few_needed _ _ test in
     search rules

@@ -11,7 +11,7 @@ returns-in_err-rows-clause-begun c =
 
 pub returns-in_err-rows-clause-told : goal.returns-in_err-rows-clause-told
 returns-in_err-rows-clause-told c =
-    refused_told _ _ c.requires.caller c.requires.quiet c.in_err-rows.ensures.reserved _ _ _ _
+    refused_told _ _ c.requires.caller.0 c.requires.quiet c.in_err-rows.ensures.reserved _ _ _ _
     c.from_residual.ensures.0
 
 pub returns-in_err-rows-clause-few : goal.returns-in_err-rows-clause-few
@@ -20,7 +20,7 @@ returns-in_err-rows-clause-few c = few_needed _ _ c.in_err-rows.ensures.reserved
 -- the rows are filled
 pub put_in-requires : goal.put_in-requires
 put_in-requires c = (
-  ap (λ (v : View). v.table) c.in_ok-rows.ensures.reserved.went.same ∙ c.requires.same_table,
+  ap (λ (v : View). v.table) c.in_ok-rows.ensures.reserved.went.same ∙ c.requires.caller.1,
   (c.in_ok-rows.ensures.ready, refl),
 )
 
@@ -30,7 +30,7 @@ returns-clause-begun c =
 
 pub returns-clause-told : goal.returns-clause-told
 returns-clause-told c =
-    told_after _ _ c.requires.caller c.requires.quiet c.in_ok-rows.ensures.reserved _ _ _ _
+    told_after _ _ c.requires.caller.0 c.requires.quiet c.in_ok-rows.ensures.reserved _ _ _ _
     (Ok c.put_in.result) c.put_in.ensures.told
 
 pub returns-clause-few : goal.returns-clause-few

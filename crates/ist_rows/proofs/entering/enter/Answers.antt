@@ -1,4 +1,4 @@
-use Rattle.std.proofs.Common.{refl, ap, arith}
+use Rattle.std.proofs.Common.{refl, ap, rules, arith}
 use Rattle.ist_rows.proofs.EnterLemmas.{can_enter, new_caller, Parts, parts}
 use Rattle.ist_rows.proofs.entering.enter.Goals as goal
 
@@ -12,9 +12,11 @@ add-number-requires c =
 
 -- the token that the maker gives is a caller's
 pub returns-clause-caller : goal.returns-clause-caller
-returns-clause-caller c =
-    new_caller _ _ _ c.know.ensures.sound c.requires.maker c.requires.given c.add-number.ensures.added.logged
-    c.know-2.ensures.sound _ c.split-token.ensures.new refl refl
+returns-clause-caller c = (
+  new_caller _ _ _ c.know.ensures.sound c.requires.maker c.requires.given c.add-number.ensures.added.logged
+      c.know-2.ensures.sound _ c.split-token.ensures.new refl refl,
+  search rules,
+)
 
 -- what both tokens are then
 split : (c : goal.After-split-token)

@@ -8,7 +8,7 @@ use Rattle.ist_rows.proofs.filling.fill_row.Goals as goal
 
 -- before the first word nothing was done
 pub loop-word-init : goal.loop-word-init
-loop-word-init c = (refl, refl, c.requires.caller)
+loop-word-init c = (refl, refl, c.requires.caller.0)
 
 -- the next one is stored
 pub loop-word-preserved : goal.loop-word-preserved
@@ -25,9 +25,11 @@ fill-requires-clause-held c =
     let held = c.loop-word.invariant.2.rows c.args.kind c.args.base (same ∙ c.requires.row) in
     record { size = _; held = held; within = omega arith }
 
-pub fill-requires-clause-same_table : goal.fill-requires-clause-same_table
-fill-requires-clause-same_table c =
-    ap (λ (x : Caller). x.token.view.table) c.loop-word.invariant.1 ∙ c.requires.same_table
+pub fill-requires-clause-caller : goal.fill-requires-clause-caller
+fill-requires-clause-caller c = (
+  c.loop-word.invariant.2,
+  ap (λ (x : Caller). x.token.view.table) c.loop-word.invariant.1 ∙ c.requires.caller.1,
+)
 
 -- after the last one all are stored
 pub returns-clause-stored : goal.returns-clause-stored

@@ -1,16 +1,17 @@
 -- What is below the anchor is looked at until it is met.
-use Rattle.std.proofs.Common.{arith}
+use Rattle.std.proofs.Common.{rules, arith}
 use Rattle.ist_tree.proofs.FreezeGoingLemmas.{idle_same}
 use Rattle.ist_tree.proofs.SearchCountLemmas.{look_few, look_met, look_on, look_ready, look_smaller, look_stopped}
 use Rattle.ist_tree.proofs.freezing.look_below.Goals as goal
 
 -- before the first look nothing was done
 pub turns-init : goal.turns-init
-turns-init c = (idle_same _ c.know.ensures.sound c.requires.ready, omega arith)
+turns-init c = (idle_same _ c.know.ensures.sound c.requires.ready.0, omega arith)
 
 -- a look begins
 pub look-requires-clause-ready : goal.look-requires-clause-ready
-look-requires-clause-ready c = look_ready c.args.who.now c.turns.invariant c.begin_search.ensures.begun
+look-requires-clause-ready c =
+    (look_ready c.args.who.now c.turns.invariant c.begin_search.ensures.begun, search rules)
 
 pub returns-in_err-site-clause-full : goal.returns-in_err-site-clause-full
 returns-in_err-site-clause-full c =

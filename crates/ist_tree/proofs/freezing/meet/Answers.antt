@@ -37,12 +37,12 @@ returns-in-Some-Change-clause-further c _ =
 pub returns-in-Some-Leaf-clause-met : goal.returns-in-Some-Leaf-clause-met
 returns-in-Some-Leaf-clause-met c =
     let is = c.in-Some-Leaf in let r = c.requires in
-    met_leaf c.args.who.now c.know.ensures.sound r.holds c.from_word.ensures.value is.is r.ready is.field-0-is
+    met_leaf c.args.who.now c.know.ensures.sound r.holds c.from_word.ensures.value is.is r.ready.0 is.field-0-is
 
 pub returns-in-Some-Empty-clause-met : goal.returns-in-Some-Empty-clause-met
 returns-in-Some-Empty-clause-met c =
     let is = c.in-Some-Empty in let r = c.requires in
-    met_empty c.args.who.now c.know.ensures.sound r.holds c.from_word.ensures.value is.is r.ready is.field-0-is
+    met_empty c.args.who.now c.know.ensures.sound r.holds c.from_word.ensures.value is.is r.ready.0 is.field-0-is
 
 -- neither of these is ever there
 pub returns-in-Some-Unset : goal.returns-in-Some-Unset

@@ -12,7 +12,7 @@ pub returns : goal.returns
 returns c =
     record {
       met = stood_met c.args.who.now c.target_of-target.new.token c.args.rebuild
-          c.target_of-target.result c.know.ensures.sound c.requires.ready
+          c.target_of-target.result c.know.ensures.sound c.requires.ready.0
           c.target_of-target.ensures.seen c.requires.row.started
           c.target_of-target.ensures.target c.requires.row.below c.requires.row.top;
     }

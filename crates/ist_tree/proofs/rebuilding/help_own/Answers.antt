@@ -10,7 +10,7 @@ pub returns-in-Ok : goal.returns-in-Ok
 returns-in-Ok c =
     record {
       helped = own_helped _ _ c.args.due _ _ c.help_rebuild.ensures.helped c.requires.started
-          c.requires.ready (helped_either c.in-Ok.field-0 _ _ c.in-Ok.ensures.replaced
+          c.requires.ready.0 (helped_either c.in-Ok.field-0 _ _ c.in-Ok.ensures.replaced
           c.in-Ok.ensures.parent_marked);
     }
 

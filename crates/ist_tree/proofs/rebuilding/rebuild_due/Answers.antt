@@ -8,7 +8,7 @@ use Rattle.ist_tree.proofs.RebuildLemmas.{may_start_went}
 use Rattle.ist_tree.proofs.rebuilding.rebuild_due.Goals as goal
 
 pub turns-init : goal.turns-init
-turns-init c = (goes_none _ _ c.know.ensures.sound c.requires.ready, λ first done. done)
+turns-init c = (goes_none _ _ c.know.ensures.sound c.requires.ready.0, λ first done. done)
 
 pub try_due-requires-clause-may_start : goal.try_due-requires-clause-may_start
 try_due-requires-clause-may_start c =

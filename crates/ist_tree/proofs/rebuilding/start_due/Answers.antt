@@ -9,7 +9,7 @@ use Rattle.ist_tree.proofs.rebuilding.start_due.Goals as goal
 
 pub returns-clause-on : goal.returns-clause-on
 returns-clause-on c =
-    begins_for _ _ _ c.requires.ready c.start.ensures.caller c.start.ensures.refused
+    begins_for _ _ _ c.requires.ready.0 c.start.ensures.caller c.start.ensures.refused
     c.start.ensures.quiet c.start.ensures.went c.start.ensures.number c.start.ensures.aims
 
 pub returns-clause-full : goal.returns-clause-full
@@ -18,5 +18,5 @@ returns-clause-full c =
     (λ full r lacks. start_refused (now c.args.who.now.token.view) c.args.who.now.token.view
     c.args.due (word_count_of c.args.table.now) full c.start.new.who.token.view r
     (lacks_now c.start.new.who c.start.ensures.went.sound c.start.ensures.caller
-    (c.start.ensures.refused c.requires.ready.refused) full.asked lacks))
+    (c.start.ensures.refused c.requires.ready.0.refused) full.asked lacks))
     c.start.ensures.full c.start.ensures.lacks

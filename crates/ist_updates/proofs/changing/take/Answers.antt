@@ -5,9 +5,9 @@ use Rattle.ist_updates.proofs.changing.take.Goals as goal
 -- the caller has gone so, with the row or refused
 pub returns : goal.returns
 returns c =
-    let it = taken _ _ c.args.kind (word_count_of c.args.table.now) c.requires.caller
+    let it = taken _ _ c.args.kind (word_count_of c.args.table.now) c.requires.caller.0
     c.requires.refused c.know.ensures.sound _ record {
-      caller = c.reserve-taken.ensures.caller;
+      caller = c.reserve-taken.ensures.caller.0;
       number = c.reserve-taken.ensures.number;
       held = c.reserve-taken.ensures.held;
       fresh = c.reserve-taken.ensures.reserved;

@@ -8,7 +8,7 @@ use Rattle.ist_updates.proofs.filling.fill_change.Goals as goal
 pub returns : goal.returns
 returns c =
     let it = row_filled _ _ Change c.args.base (words_of (ChangePiece c.args.row))
-    c.know.ensures.sound c.requires.caller c.requires.row
+    c.know.ensures.sound c.requires.caller.0 c.requires.row
     (omega arith) c.fill_row.ensures.stored in
     record {
       caller = c.fill_row.ensures.caller;

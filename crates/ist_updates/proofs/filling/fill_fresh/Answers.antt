@@ -14,7 +14,7 @@ returns-in-Pair-clause-stored c =
     (bases_of (fresh_rows c.args.row f))) c.in-Pair.is c.requires.rows in
     subst (λ f. StoredAll c.fill_pair.new.who.token.view (fresh_rows c.args.row f)) (sym c.in-Pair.is)
     (pair_stored c.args.who.now c.fill_leaf-in-Pair.new.who c.fill_pair.new.who
-    c.know.ensures.sound c.requires.caller c.fill_leaf-in-Pair.ensures.caller
+    c.know.ensures.sound c.requires.caller.0 c.fill_leaf-in-Pair.ensures.caller
     c.fill_leaf-in-Pair.ensures.same c.args.row c.in-Pair.base c.in-Pair.leaf c.in-Pair.other
     c.in-Pair.other_key rows.0 rows.1.0 c.fill_pair.ensures.others c.fill_leaf-in-Pair.ensures.stands
     c.fill_pair.ensures.stands)

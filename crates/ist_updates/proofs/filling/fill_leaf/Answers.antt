@@ -7,7 +7,7 @@ use Rattle.ist_updates.proofs.filling.fill_leaf.Goals as goal
 pub returns : goal.returns
 returns c =
     let it = row_filled _ _ Leaf c.args.base (c.args.row.key ∷ c.args.row.value ∷ [])
-    c.know.ensures.sound c.requires.caller c.requires.row
+    c.know.ensures.sound c.requires.caller.0 c.requires.row
     (omega arith) c.fill_row.ensures.stored in
     record {
       caller = c.fill_row.ensures.caller;

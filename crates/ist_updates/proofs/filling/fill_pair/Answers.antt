@@ -8,12 +8,12 @@ pub returns-then-other_key-key-clause-others : goal.returns-then-other_key-key-c
 returns-then-other_key-key-clause-others c =
     (row_filled _ _ Pair c.args.base
     (0 ∷ 0 ∷ 2 ∷ 2 ∷ c.args.key ∷ c.to_word-that.result ∷ c.to_word-this.result ∷ [])
-    c.know.ensures.sound c.requires.caller c.requires.row (omega arith)
+    c.know.ensures.sound c.requires.caller.0 c.requires.row (omega arith)
     c.fill_row.ensures.stored).others
 
 pub returns-clause-others : goal.returns-clause-others
 returns-clause-others c =
     (row_filled _ _ Pair c.args.base
     (0 ∷ 0 ∷ 2 ∷ 2 ∷ c.args.other_key ∷ c.to_word-this.result ∷ c.to_word-that.result ∷ [])
-    c.know.ensures.sound c.requires.caller c.requires.row (omega arith)
+    c.know.ensures.sound c.requires.caller.0 c.requires.row (omega arith)
     c.fill_row-2.ensures.stored).others

@@ -20,7 +20,7 @@ help_rebuild-requires-clause-started c =
 pub returns-in_err-help_rebuild-clause-tried : goal.returns-in_err-help_rebuild-clause-tried
 returns-in_err-help_rebuild-clause-tried c =
     let on = c.help_rebuild.ensures.helped.on in
-    let still = asked_served _ _ _ c.requires.asked on.gone on.quiet.resolved in
+    let still = asked_served _ _ _ c.requires.asked.0 on.gone on.quiet.resolved in
     let h = refused_tried _ _ c.args.aim c.args.update.value _ _
     (gone_all ServesRebuild Tries serves_tries _ _ on.gone) (refused_still c.args.who.now c.help_rebuild.new.who c.args.aim.key c.args.update.value _ _ still
     (help_refused _ c.know.ensures.sound c.args.aim.key c.args.aim.node c.args.aim.index
@@ -34,7 +34,7 @@ returns-clause-tried c =
     let h = c.help_rebuild.ensures in let on = h.helped.on in
     let was = c.in_ok-help_rebuild.was in
     again_tried _ _ c.args.aim c.args.update.value _ (gone_all ServesRebuild Tries serves_tries _ _ on.gone)
-    (asked_served _ _ _ c.requires.asked on.gone on.quiet.resolved)
+    (asked_served _ _ _ c.requires.asked.0 on.gone on.quiet.resolved)
     (λ first aimed. target_further first _ _ _ _ _ aimed (after_went ServesRebuild _ _ on.gone.went)
     on.gone.went.sound c.args.base c.requires.rebuild c.in_ok-help_rebuild.field-0
     (λ e. h.replaced (was ∙ ap Ok e)) (λ e. h.parent_marked (was ∙ ap Ok e)))

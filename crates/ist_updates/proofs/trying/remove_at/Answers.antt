@@ -8,7 +8,7 @@ use Rattle.ist_updates.proofs.trying.remove_at.Goals as goal
 -- the slot holds a leaf of another key
 pub returns-then-leaf-aim-clause-tried : goal.returns-then-leaf-aim-clause-tried
 returns-then-leaf-aim-clause-tried c =
-    nothing_tried _ c.args.aim None _ c.know.ensures.sound c.requires.asked refl
+    nothing_tried _ c.args.aim None _ c.know.ensures.sound c.requires.asked.0 refl
     (found_other _ c.args.aim c.requires.at_slot c.args.base c.args.leaf c.requires.leaf
     c.requires.stands c.if-leaf-aim.true)
 

@@ -11,7 +11,7 @@ use Rattle.ist_updates.proofs.trying.try_empty.Goals as goal
 -- the key has no value, but the update requires one
 pub returns-then-not-meets-clause-tried : goal.returns-then-not-meets-clause-tried
 returns-then-not-meets-clause-tried c =
-    unmet_tried _ c.args.aim c.args.update.value _ c.know.ensures.sound c.requires.asked
+    unmet_tried _ c.args.aim c.args.update.value _ c.know.ensures.sound c.requires.asked.0
 
 pub returns-then-not-meets-clause-missed : goal.returns-then-not-meets-clause-missed
 returns-then-not-meets-clause-missed c e =
@@ -33,5 +33,5 @@ returns-in_ok-taken-in-Some-clause-tried c =
 -- nothing is there to remove
 pub returns-in-None-clause-tried : goal.returns-in-None-clause-tried
 returns-in-None-clause-tried c =
-    nothing_tried _ c.args.aim c.args.update.value _ c.know.ensures.sound c.requires.asked c.in-None.is
+    nothing_tried _ c.args.aim c.args.update.value _ c.know.ensures.sound c.requires.asked.0 c.in-None.is
     (found_nothing _ c.args.aim c.requires.at_slot c.requires.empty)

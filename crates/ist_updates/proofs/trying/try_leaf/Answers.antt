@@ -14,9 +14,9 @@ read_leaf-leaf-requires-clause-leaf c = slot_leaf _ c.args.aim c.requires.at_slo
 pub returns-then-not-meets : goal.returns-then-not-meets
 returns-then-not-meets c =
     let seen = c.read_leaf-leaf.ensures.seen in
-    let a = loads_asked _ _ c.args.aim.key c.args.update.value c.requires.asked seen in
+    let a = loads_asked _ _ c.args.aim.key c.args.update.value c.requires.asked.0 seen in
     record {
-      tried = loads_tried c.requires.asked seen refl (unmet_tried _ _ c.args.update.value _ seen.sound a);
+      tried = loads_tried c.requires.asked.0 seen refl (unmet_tried _ _ c.args.update.value _ seen.sound a);
       met = tt;
       missed = λ _. leaf_missed _ _ seen c.args.aim (slot_loads _ c.args.aim c.requires.at_slot _ seen) _ _ _
           c.requires.leaf c.read_leaf-leaf.ensures.published _ c.had_in.ensures.value
@@ -27,12 +27,12 @@ returns-then-not-meets c =
 pub returns-in-Some : goal.returns-in-Some
 returns-in-Some c =
     let had = c.put_at.ensures.had in let met = rw c.had_in.ensures.value at (c.if-not-meets.ensures.met refl) in
-    let t = loads_tried c.requires.asked c.read_leaf-leaf.ensures.seen c.in-Some.is c.put_at.ensures.tried in
+    let t = loads_tried c.requires.asked.0 c.read_leaf-leaf.ensures.seen c.in-Some.is c.put_at.ensures.tried in
     record { tried = t; met = replied_met _ _ _ met had; missed = λ is. absurd (replied_unmissed _ _ had is) }
 
 -- a remove
 pub returns-in-None : goal.returns-in-None
 returns-in-None c =
     let had = c.remove_at.ensures.had in let met = rw c.had_in.ensures.value at (c.if-not-meets.ensures.met refl) in
-    let t = loads_tried c.requires.asked c.read_leaf-leaf.ensures.seen c.in-None.is c.remove_at.ensures.tried in
+    let t = loads_tried c.requires.asked.0 c.read_leaf-leaf.ensures.seen c.in-None.is c.remove_at.ensures.tried in
     record { tried = t; met = replied_met _ _ _ met had; missed = λ is. absurd (replied_unmissed _ _ had is) }

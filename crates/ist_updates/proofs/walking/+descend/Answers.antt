@@ -17,7 +17,7 @@ down : (t : ℕ) (c : After-step_down-child t) → IsDown c.args.who.now c.step_
 down t c =
     let e = c.step_down-child.ensures in
     record {
-      asked = asked_went c.args.who.now c.step_down-child.new.token _ c.requires.asked
+      asked = asked_went c.args.who.now c.step_down-child.new.token _ c.requires.asked.0
           (goes_on_went NoEvent _ _ e.seen);
       came = c.requires.came;
       seen = e.seen;
@@ -32,8 +32,10 @@ down t c =
 -- ---- if the walk ends here
 
 pub try_slot-requires-clause-asked : goal.try_slot-requires-clause-asked
-try_slot-requires-clause-asked t c =
-    (down t (goal.at.try_slot-requires-clause-asked t c).After-step_down-child).asked
+try_slot-requires-clause-asked t c = (
+  (down t (goal.at.try_slot-requires-clause-asked t c).After-step_down-child).asked,
+  search rules,
+)
 
 pub try_slot-requires-clause-at_slot : goal.try_slot-requires-clause-at_slot
 try_slot-requires-clause-at_slot t c =
@@ -59,14 +61,11 @@ descend-requires t c =
     let top = c.decreases in (
       search (rules, counting),
       (
-        ap (λ (v : View). v.table) c.step_down-child.ensures.seen.same ∙ c.requires.same_table,
+        (d.asked, ap (λ (v : View). v.table) c.step_down-child.ensures.seen.same ∙ c.requires.asked.1),
         (
-          d.asked,
-          (
-            (_, d.down d.came.0 c.in-Some.row d.came.1 is),
-            λ same. absurd (not_anchor _ c.step_down-child.ensures.seen.sound c.in-Some.row
-                (subst (Names c.step_down-child.new.token.view) is c.step_down-child.ensures.named) same),
-          ),
+          (_, d.down d.came.0 c.in-Some.row d.came.1 is),
+          λ same. absurd (not_anchor _ c.step_down-child.ensures.seen.sound c.in-Some.row
+              (subst (Names c.step_down-child.new.token.view) is c.step_down-child.ensures.named) same),
         ),
       ),
     )

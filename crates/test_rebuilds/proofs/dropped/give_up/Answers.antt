@@ -25,7 +25,7 @@ returns-in_default-2 c =
 
 pub drop_pair-requires-clause-caller : goal.drop_pair-requires-clause-caller
 drop_pair-requires-clause-caller c =
-    still (goal.at.drop_pair-requires-clause-caller c).After-load_top-word
+    (still (goal.at.drop_pair-requires-clause-caller c).After-load_top-word, search rules)
 
 -- its pair row lies below the row in the slot
 pub drop_pair-requires-clause-below : goal.drop_pair-requires-clause-below

@@ -7,7 +7,7 @@ pub returns-clause-gone : goal.returns-clause-gone
 returns-clause-gone c =
     (taken _ _ c.args.kind (word_count_of c.args.table.now) c.requires.caller.0 c.requires.refused
     c.know.ensures.sound _ record {
-      caller = c.reserve-taken.ensures.caller;
+      caller = c.reserve-taken.ensures.caller.0;
       number = c.reserve-taken.ensures.number;
       held = c.reserve-taken.ensures.held;
       fresh = c.reserve-taken.ensures.reserved;

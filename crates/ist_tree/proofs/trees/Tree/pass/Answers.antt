@@ -7,7 +7,7 @@ use Rattle.ist_tree.proofs.trees.Tree.pass.Goals as goal
 
 pub invariant_of-result : goal.invariant_of-result
 invariant_of-result c =
-    new_pass_with c.enter-caller.result c.enter-caller.ensures.caller
+    new_pass_with c.enter-caller.result c.enter-caller.ensures.caller.0
     c.enter-caller.ensures.holds_none c.enter-caller.ensures.in_none c.know.ensures.sound
     c.enter-caller.ensures.idle
 
