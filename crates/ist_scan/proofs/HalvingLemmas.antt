@@ -59,8 +59,8 @@ module _ (pairs : List Pair) (rising : IsStrictlyIncreasing (map (λ p. p.key) p
 -- ---- how many looks it takes
 
 -- at first no look was made
-pub none_made : (keys : ℕ) → IsHalved keys 0 (keys - 0)
-none_made keys = record { shrunk = omega arith; few = omega arith }
+pub none_made : (keys high : ℕ) → high ≡ keys → IsHalved keys 0 (high - 0)
+none_made keys high all = record { shrunk = omega arith; few = omega arith }
 
 -- a power of two is above its exponent
 power_above : (looks : ℕ) → looks < 2 ^ looks
@@ -78,18 +78,18 @@ power_within keys looks left some h =
     omega (arith, once, shrunk)
 
 -- one look more leaves no more than half
-pub one_more : (keys looks left less : ℕ) → 0 < left → IsHalved keys looks left
-    → less + less ≤ left → IsHalved keys (looks + 1) less
-one_more keys looks left less some h half =
-    let within = power_within keys looks left some h in
+pub one_more : (keys looks low high less : ℕ) → low < high → IsHalved keys looks (high - low)
+    → less + less ≤ high - low → IsHalved keys (looks + 1) less
+one_more keys looks low high less some h half =
+    let within = power_within keys looks (high - low) (omega arith) h in
     let shrunk = h.shrunk in
     let next : 2 ^ (looks + 1) ≡ 2 ^ looks * 2 = ap (λ n. 2 ^ n) (add-one looks) ∙ pow-suc 2 looks in
-    let double = mul-le-mul_left {m = less + less} {n = left} (2 ^ looks) half in
+    let double = mul-le-mul_left {m = less + less} {n = high - low} (2 ^ looks) half in
     record { shrunk = rw next (omega (arith, double, shrunk)); few = omega (arith, within, next) }
 
 -- the number of looks stays below the number of keys
-pub looks_fit : (keys looks left : ℕ) → 0 < left → IsHalved keys looks left → looks + 1 ≤ keys
-looks_fit keys looks left some h =
-    let within = power_within keys looks left some h in
+pub looks_fit : (keys looks low high : ℕ) → low < high → IsHalved keys looks (high - low) → looks + 1 ≤ keys
+looks_fit keys looks low high some h =
+    let within = power_within keys looks (high - low) (omega arith) h in
     let above = power_above looks in
     omega (arith, within, above)

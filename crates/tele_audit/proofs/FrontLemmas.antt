@@ -5,6 +5,7 @@ use Rattle.std.proofs.Common.{None, IfSome, refl, sym, ap, ◌∙◌, subst, ari
 use Rattle.std.proofs.Common.{⊎_elim}
 use Rattle.std.specs.List.{starts_with}
 use Rattle.std.proofs.lemmas.Bool.Decides.{nat_tests}
+use Rattle.std.proofs.lemmas.Option.{IfSome_then}
 use Rattle.std.proofs.lemmas.List.{take-append-le, length-append, append-nil}
 use Rattle.ist_core.specs.RowLayout.{first_row, place_limit}
 use Rattle.tele_audit.specs.declared.flaws.Flaw.{Flaw}
@@ -222,8 +223,8 @@ pub record Reaches (mid now : Option (List ℕ)) (taken more first second : List
   pub second_is : second ≡ more
   pub found_is : found ≡ length_flaw second
 
-module _ (mid now : Option (List ℕ)) (taken more first second : List ℕ) (used : ℕ)
-    (found : Option Flaw) (h : Reaches mid now taken more first second used found) where
+module _ {mid now : Option (List ℕ)} {taken more first second : List ℕ} {used : ℕ}
+    {found : Option Flaw} (h : Reaches mid now taken more first second used found) where
   head_more : head_flaw more ≡ None
   head_more = extended_head taken more h.extends h.head
 
@@ -244,8 +245,16 @@ module _ (mid now : Option (List ℕ)) (taken more first second : List ℕ) (use
       (ap length_flaw (sym h.second_is) ∙ sym h.found_is ∙ is)
 
   -- if no flaw was found, all bytes were taken
-  pub reached_all : found ≡ None
-      → IfSome mid (λ left. (more ≡ taken ++ left) × (now ≡ Some []))
+  reached_all : found ≡ None → IfSome mid (λ left. (more ≡ taken ++ left) × (now ≡ Some []))
   reached_all is =
       all_of_length mid now taken more h.takes enough_more
       (ap length_flaw (sym h.second_is) ∙ sym h.found_is ∙ is)
+
+  -- then what is so of the bytes that were taken is so of all
+  pub reached_so : (Q : List ℕ → Type 0) → found ≡ None → Q more → IfSome mid (λ left. Q (taken ++ left))
+  reached_so Q is q =
+      IfSome_then _ {Q = λ left. Q (taken ++ left)} (reached_all is) (λ left p. subst Q p.0 q)
+
+  -- and nothing is left
+  pub reached_end : found ≡ None → IfSome mid (λ _. now ≡ Some [])
+  reached_end is = IfSome_then _ {Q = λ _. now ≡ Some []} (reached_all is) (λ left p. p.1)

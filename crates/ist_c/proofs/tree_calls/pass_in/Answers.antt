@@ -20,19 +20,16 @@ returns-in-Ok-pass c =
     }
 
 pub returns-in-Ok : goal.returns-in-Ok
-returns-in-Ok c =
-    let e = c.in-Err-pass.ensures in
-    record {
-      makes = made_none c.args.held.now c.in-Owner.owner c.pass.new.self c.args.out.now c.in-Owner.is
-          (e.tree, e.unmade) c.if-out.false;
-    }
+returns-in-Ok c = record {
+  makes = made_none c.args.held.now c.in-Owner.owner c.pass.new.self c.args.out.now c.in-Owner.is
+      (c.in-Err-pass.ensures.tree, c.in-Err-pass.ensures.unmade) c.if-out.false;
+}
 
 pub returns-in-Owner : goal.returns-in-Owner
-returns-in-Owner c =
-    record {
-      makes = made_none c.args.held.now c.in-Owner.owner c.in-Owner.owner c.args.out.now c.in-Owner.is
-          (refl, refl) c.if-out.false;
-    }
+returns-in-Owner c = record {
+  makes = made_none c.args.held.now c.in-Owner.owner c.in-Owner.owner c.args.out.now c.in-Owner.is
+      (refl, refl) c.if-out.false;
+}
 
 pub returns : goal.returns
 returns c = record { makes = no_maker c.args.held.now c.args.out.now (inr c.in_default.not-Owner) }

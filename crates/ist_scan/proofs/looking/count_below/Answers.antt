@@ -1,14 +1,12 @@
-use Rattle.std.proofs.Common.{◌-◌, arith, subst, sym, ◌∙◌}
+use Rattle.std.proofs.Common.{arith, sym, ◌∙◌}
 use Rattle.std.proofs.Math.Facts.{Fits-of_lt}
-use Rattle.ist_scan.specs.Cuts.{IsHalved}
 use Rattle.ist_scan.proofs.HalvingLemmas.{between_all, go_up, go_down, none_made, one_more, looks_fit}
 use Rattle.ist_scan.proofs.ShotLemmas.{looked_not, looked_more}
 use Rattle.ist_scan.proofs.looking.count_below.Goals as goal
 
 pub overflow_add-looks : goal.overflow_add-looks
 overflow_add-looks c =
-    let few = looks_fit _ c.loop-low.looks _ (omega (arith, c.loop-low-test.true)) c.loop-low.invariant.halved in
-    Fits-of_lt (omega (arith, few, c.keys_of-high.type_inv, c.keys_of-high.ensures.value))
+    let few = looks_fit _ _ _ _ c.loop-low-test.true c.loop-low.invariant.halved in Fits-of_lt (omega arith)
 
 pub loop-low-init : goal.loop-low-init
 loop-low-init c = record {
@@ -16,7 +14,7 @@ loop-low-init c = record {
   order = omega arith;
   within = omega (arith, c.keys_of-high.ensures.value);
   between = λ pairs h. between_all pairs _ _ (h.number ∙ sym c.keys_of-high.ensures.value);
-  halved = subst (λ n. IsHalved c.args.shot.keys 0 (n - 0)) (sym c.keys_of-high.ensures.value) (none_made _);
+  halved = none_made _ _ c.keys_of-high.ensures.value;
 }
 
 -- the middle pair is below the bound
@@ -26,10 +24,8 @@ loop-low-preserved-then-from-bound c = record {
   order = omega (arith, c.loop-low-test.true);
   within = c.loop-low.invariant.within;
   between = λ pairs h. go_up pairs h.rising _ _ _ _ _ (c.loop-low.invariant.between pairs h)
-      (c.pair_at.ensures.pair pairs (c.loop-low.invariant.looked.pairs _ pairs h))
-      (omega (arith, c.from.ensures, c.if-from-bound.true));
-  halved = one_more _ _ (c.loop-low.high - c.loop-low.low) _ (omega (arith, c.loop-low-test.true))
-      c.loop-low.invariant.halved (omega (arith, c.loop-low-test.true));
+      (c.pair_at.ensures.pair pairs (c.loop-low.invariant.looked.pairs _ pairs h)) (omega arith);
+  halved = one_more _ _ _ _ _ c.loop-low-test.true c.loop-low.invariant.halved (omega arith);
 }
 
 -- the middle pair isn't below the bound
@@ -39,8 +35,6 @@ loop-low-preserved c = record {
   order = omega (arith, c.loop-low-test.true);
   within = omega (arith, c.loop-low.invariant.within, c.loop-low-test.true);
   between = λ pairs h. go_down pairs h.rising _ _ _ _ _ (c.loop-low.invariant.between pairs h)
-      (c.pair_at.ensures.pair pairs (c.loop-low.invariant.looked.pairs _ pairs h))
-      (omega (arith, c.from.ensures, c.if-from-bound.false));
-  halved = one_more _ _ (c.loop-low.high - c.loop-low.low) _ (omega (arith, c.loop-low-test.true))
-      c.loop-low.invariant.halved (omega (arith, c.loop-low-test.true));
+      (c.pair_at.ensures.pair pairs (c.loop-low.invariant.looked.pairs _ pairs h)) (omega arith);
+  halved = one_more _ _ _ _ _ c.loop-low-test.true c.loop-low.invariant.halved (omega arith);
 }

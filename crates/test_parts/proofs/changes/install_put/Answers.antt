@@ -23,9 +23,9 @@ install-requires g c = (
       (sym c.requires.1.0)
       (put_filled c.args.who.now c.fill_row.new.who c.fill_row-2.new.who _ _ _ _ _ _
       c.requires.1.1.1.1.0 c.requires.1.1.1.1.1.0.0 c.requires.1.1.1.1.1.0.1 c.to_word-from.ensures.value
-      c.to_word-to.ensures.value c.from-owner.ensures c.requires.1.1.0 c.requires.1.1.1.0 c.requires.1.1.1.1.1.1
-      c.fill_row.ensures.stored c.fill_row-2.ensures.stored c.fill_row-2.ensures.caller
-      c.know.ensures.sound _ c.begin_call.ensures.begun).0,
+      c.to_word-to.ensures.value c.from-owner.ensures c.requires.1.1.0 c.requires.1.1.1.0
+      c.requires.1.1.1.1.1.1 c.fill_row.ensures.stored c.fill_row-2.ensures.stored
+      c.fill_row-2.ensures.caller c.know.ensures.sound _ c.begin_call.ensures.begun),
 )
 
 -- if it is installed, its caller may help it
@@ -33,11 +33,8 @@ pub returns-clause-may_help : goal.returns-clause-may_help
 returns-clause-may_help g c is =
     put_helps _ _ _ c.args.who.now.number c.args.leaf _ c.args.value
     (omega (arith, c.requires.1.1.1.1.0, c.requires.1.1.1.1.1.0.0)) c.requires.1.1.1.1.1.0.1
-    (put_filled c.args.who.now c.fill_row.new.who c.fill_row-2.new.who _ _ _ _ _ _ c.requires.1.1.1.1.0
-    c.requires.1.1.1.1.1.0.0 c.requires.1.1.1.1.1.0.1 c.to_word-from.ensures.value
-    c.to_word-to.ensures.value c.from-owner.ensures c.requires.1.1.0 c.requires.1.1.1.0 c.requires.1.1.1.1.1.1
-    c.fill_row.ensures.stored c.fill_row-2.ensures.stored c.fill_row-2.ensures.caller
-    c.know.ensures.sound _ c.begin_call.ensures.begun).1
+    (ap (λ (x : Caller). x.token.view.who) c.fill_row-2.ensures.stored
+    ∙ ap (λ (x : Caller). x.token.view.who) c.fill_row.ensures.stored ∙ c.requires.1.1.0.mine)
     c.begin_call.ensures.begun
     (subst (λ (f : Filling). IsInstalled c.begin_call.new.token.view c.args.change f
     c.install.new.token.view) c.requires.1.0 (c.install.ensures.yes is))

@@ -8,32 +8,29 @@ use Rattle.ist_rows.proofs.CallerLawLemmas.{caller_went, caller_begun}
 use Rattle.ist_dcss.proofs.HelperLemmas.{serves_keep}
 use Rattle.test_parts.proofs.PutLemmas.{put_met}
 use Rattle.test_parts.proofs.helping.help_met.Goals as goal
-use Rattle.test_parts.proofs.helping.help_met.Goals.{After-begin_search}
+use Rattle.test_parts.proofs.helping.help_met.Goals.{After-load_top-met}
 
--- a caller that began a search is still a caller
-begun : (c : After-begin_search) → IsCaller (record c.args.who.now { token = c.begin_search.new.token })
-begun c =
-    caller_begun c.args.who.now c.begin_search.new.token c.requires.caller c.begin_search.ensures.begun
+-- a caller that began a search and made a load is still a caller
+still : (c : After-load_top-met) → IsCaller (record c.args.who.now { token = c.load_top-met.new.token })
+still c = caller_goes_on _ c.load_top-met.new.token (caller_begun c.args.who.now c.begin_search.new.token
+    c.requires.caller c.begin_search.ensures.begun) (looked_goes_on _ _ _ _ c.load_top-met.ensures.looked)
 
 -- the caller has met the change
 pub help-requires-clause-may_help : goal.help-requires-clause-may_help
 help-requires-clause-may_help c =
-    put_met _ _ _ _ (begun (goal.at.help-requires-clause-may_help c).After-begin_search).mine c.load_top-met.ensures.looked
+    put_met _ _ _ _ (caller_begun c.args.who.now c.begin_search.new.token c.requires.caller
+    c.begin_search.ensures.begun).mine c.load_top-met.ensures.looked
     (c.if-met-to_word.true ∙ c.to_word.ensures.value)
 
 -- a caller that made a load is still a caller
 pub returns-clause-caller : goal.returns-clause-caller
-returns-clause-caller c =
-    caller_goes_on _ c.load_top-met.new.token (begun (goal.at.returns-clause-caller c).After-begin_search)
-    (looked_goes_on _ _ _ _ c.load_top-met.ensures.looked)
+returns-clause-caller c = still (goal.at.returns-clause-caller c).After-load_top-met
 
 -- and so it is when it has helped
 pub returns-then-met-to_word-clause-caller : goal.returns-then-met-to_word-clause-caller
 returns-then-met-to_word-clause-caller c =
     caller_went _ c.help.new.token
-    (caller_goes_on _ c.load_top-met.new.token
-    (begun (goal.at.returns-then-met-to_word-clause-caller c).After-begin_search)
-    (looked_goes_on _ _ _ _ c.load_top-met.ensures.looked))
+    (still (goal.at.returns-then-met-to_word-clause-caller c).After-load_top-met)
     (went_all _ _ (serves_keep 6) _ _ c.help.ensures.went)
 
 -- it is in the same call

@@ -25,15 +25,13 @@ marked c =
     c.mark_and_count-keys.ensures.went c.mark_and_count-keys.ensures.finished
 
 pub returns-clause-ready : goal.returns-clause-ready
-returns-clause-ready c =
-    (still_ready (marked c).helped.on, search rules)
+returns-clause-ready c = (still_ready (marked c).helped.on, search rules)
 
 pub returns-clause-marked : goal.returns-clause-marked
 returns-clause-marked c =
     is_marked c.args.who.now c.target_of-target.new.token c.mark_and_count-keys.new.token _ _ _
-    c.requires.ready.0 c.requires.started c.target_of-target.ensures.seen
-    c.target_of-target.ensures.target c.mark_and_count-keys.ensures.went
-    c.mark_and_count-keys.ensures.finished
+    c.requires.ready.0 c.requires.started c.target_of-target.ensures.seen c.target_of-target.ensures.target
+    c.mark_and_count-keys.ensures.went c.mark_and_count-keys.ensures.finished
 
 pub returns-clause-started : goal.returns-clause-started
 returns-clause-started c = (returns-clause-marked c).started

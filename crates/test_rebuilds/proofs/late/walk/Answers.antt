@@ -10,26 +10,21 @@ step_down-top-requires-clause-come c = ([], begun_comes _ _ c.args.key c.begin_s
 
 -- and reaches the row below it
 pub step_down-child-requires-clause-come : goal.step_down-child-requires-clause-come
-step_down-child-requires-clause-come c = (
-  _,
-  c.step_down-top.ensures.down [] c.in-Some.node
-      (begun_comes _ _ c.args.key c.begin_search.ensures.begun)
-      (c.inner_in.ensures.inner c.in-Some.node c.in-Some.is),
-)
+step_down-child-requires-clause-come c =
+    let come = c.step_down-top.ensures.down [] _ (begun_comes _ _ c.args.key c.begin_search.ensures.begun)
+    (c.inner_in.ensures.inner _ c.in-Some.is) in
+    (_, come)
 
 -- which isn't the anchor
 pub step_down-child-requires-clause-top : goal.step_down-child-requires-clause-top
 step_down-child-requires-clause-top c is =
-    let up = c.step_down-top.ensures.above c.in-Some.node (c.inner_in.ensures.inner c.in-Some.node c.in-Some.is)
-    in
-    absurd (omega arith)
+    let up = c.step_down-top.ensures.above _ (c.inner_in.ensures.inner _ c.in-Some.is) in absurd (omega arith)
 
 -- whose slot holds no row
 pub returns-in-None-clause-walked : goal.returns-in-None-clause-walked
 returns-in-None-clause-walked c =
-    let come = c.step_down-top.ensures.down [] c.in-Some.node
-    (begun_comes _ _ c.args.key c.begin_search.ensures.begun)
-    (c.inner_in.ensures.inner c.in-Some.node c.in-Some.is) in
+    let come = c.step_down-top.ensures.down [] _ (begun_comes _ _ c.args.key c.begin_search.ensures.begun)
+    (c.inner_in.ensures.inner _ c.in-Some.is) in
     record {
       went = searched_more _ _ _ _ (searching_on _ _ _ c.begin_search.ensures.begun)
           (went_searched _ _ _ (went_more _ _ _ _ (goes_on_went _ _ _ c.step_down-top.ensures.seen)

@@ -8,9 +8,8 @@ use Rattle.ist_map.proofs.scripts.ScriptWorker.work.Goals as goal
 -- one command more has its reply, and a rebuild was refused
 pub returns-in-Some-clause-told : goal.returns-in-Some-clause-told
 returns-in-Some-clause-told c =
-    told_more _ c.loop-self.self-inside.replies.items _ _ c.index-command.result.now _ _ _
-    c.push_reserved.ensures.items (search rules) (search rules) c.loop-self.invariant.told
-    c.in_ok-reply.ensures.added
+    told_more _ _ _ _ c.index-command.result.now _ _ _ c.push_reserved.ensures.items (search rules)
+    (search rules) c.loop-self.invariant.told c.in_ok-reply.ensures.added
 
 -- one command more has its reply
 pub loop-self-preserved : goal.loop-self-preserved
@@ -20,9 +19,8 @@ loop-self-preserved c = record {
   commands = search rules;
   few = search rules;
   room = search rules;
-  told = told_more _ c.loop-self.self-inside.replies.items _ _ c.index-command.result.now _ _ _
-      c.push_reserved.ensures.items (search rules) (search rules) c.loop-self.invariant.told
-      c.in_ok-reply.ensures.added;
+  told = told_more _ _ _ _ c.index-command.result.now _ _ _ c.push_reserved.ensures.items (search rules)
+      (search rules) c.loop-self.invariant.told c.in_ok-reply.ensures.added;
 }
 
 -- no call yet
