@@ -7,13 +7,6 @@ pub mod WholeLemmas
 pub mod WorkLemmas
 pub mod ReverseLemmas
 pub mod ListingLemmas
-pub mod MarkLemmas
-pub mod TaskLemmas
-pub mod ClaimLemmas
-pub mod ExamineLemmas
-pub mod AuditLemmas
-pub mod ZeroLemmas
-pub mod AlikeLemmas
 pub mod RowLemmas
 pub mod SettleLemmas
 pub mod SlotReadLemmas

@@ -2,11 +2,9 @@
 pub mod WordRows
 pub mod Walks
 pub mod RestingWords
-pub mod WordLaws
 pub mod Readings
 pub mod Steps
 pub mod Listing
-pub mod Auditing
 pub mod Standings
 pub mod Settling
 pub mod Laws

@@ -12,7 +12,7 @@ use Rattle.std.proofs.lemmas.List.{get_or_append_left}
 use Rattle.ist_core.specs.declared.pairs.Pair.{Pair}
 use Rattle.ist_core.specs.RowLayout.{first_row, place_limit, next_place, anchor_status_place}
 use Rattle.ist_rest.specs.WordRows.{word_at}
-use Rattle.ist_rest.specs.WordLaws.{ZerosChangeNothing}
+use Rattle.tele_audit.specs.WordLaws.{ZerosChangeNothing}
 use Rattle.ist_rest.specs.RestingWords.{HasGoodBounds, AreLawful, BreaksFirstAt}
 use Rattle.ist_rest.specs.Walks.{first_visit}
 use Rattle.tele_audit.specs.declared.flaws.Flaw.TheVariants.{Magic, Short, Size, Used, Long, Anchor}

@@ -11,7 +11,7 @@ use Rattle.ist_core.specs.declared.pairs.Pair.{Pair}
 use Rattle.ist_core.specs.Map.{pairs_between}
 use Rattle.ist_core.specs.RowLayout.{first_row, place_limit, next_place, anchor_status_place}
 use Rattle.ist_rest.specs.WordRows.{word_at}
-use Rattle.ist_rest.specs.WordLaws.{PairsAreOne, LawfulWordsBreakNowhere, BreaksAreOne}
+use Rattle.tele_audit.specs.WordLaws.{PairsAreOne, LawfulWordsBreakNowhere, BreaksAreOne}
 use Rattle.ist_rest.specs.RestingWords.{HasGoodBounds, AreLawful, AreListed, BreaksFirstAt}
 use Rattle.ist_rest.specs.Walks.{first_visit}
 use Rattle.tele_audit.specs.declared.flaws.Flaw.{Flaw}

@@ -17,7 +17,7 @@ use Rattle.ist_core.specs.StartLayout.{start}
 use Rattle.ist_core.proofs.MapLemmas.{adds_one_key, length-pairs_of}
 use Rattle.laws_links.proofs.QuietLemmas.{start_quiet}
 use Rattle.ist_rest.specs.Laws.{StandingWordsAreLawful}
-use Rattle.ist_rest.specs.WordLaws.{PairsAreOne, LawfulWordsBreakNowhere}
+use Rattle.tele_audit.specs.WordLaws.{PairsAreOne, LawfulWordsBreakNowhere}
 use Rattle.ist_rest.specs.RestingWords.{AreLawful}
 use Rattle.ist_rest.specs.WordRows.{word_at}
 use Rattle.plain_map.specs.Rising.{IsRising}

@@ -4,7 +4,7 @@ use Rattle.std.proofs.Common.{subst, sym, arith}
 use Rattle.ist_core.specs.declared.pairs.Pair.{Pair}
 use Rattle.ist_core.specs.RowLayout.{anchor_status_place}
 use Rattle.ist_rest.specs.WordRows.{word_at}
-use Rattle.ist_rest.specs.WordLaws.{ZerosChangeNothing}
+use Rattle.tele_audit.specs.WordLaws.{ZerosChangeNothing}
 use Rattle.ist_rest.specs.RestingWords.{HasGoodBounds, AreLawful, BreaksFirstAt}
 use Rattle.ist_rest.specs.Walks.{first_visit}
 use Rattle.plain_map.specs.Rising.{IsRising}

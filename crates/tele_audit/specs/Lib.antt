@@ -4,7 +4,9 @@ pub mod Flaws
 pub mod Jobs
 pub mod Packing
 pub mod Runs
+pub mod WordLaws
 pub mod Laws
 -- what the functions inside this crate promise each other
 pub mod Taking
 pub mod Pieces
+pub mod Auditing

@@ -5,15 +5,16 @@ ghost use Rattle.tele_io.specs.Bytes.{HaveRisen};
 ghost use Rattle.tele_audit.specs.Dumps.{IsLawfulDump};
 ghost use Rattle.tele_audit.specs.Flaws.{IsFirstFlaw, head_flaw, length_flaw, used_told, count_told};
 
+use crate::auditing::audit_words;
 use crate::flaws::{AuditFault, Flaw};
 use crate::heads::{HEAD, head_flaw, length_flaw};
 use crate::numbers::{know_bytes, number_at};
 use crate::tables::DumpWords;
 use crate::taking::take_bytes;
+use crate::word_laws::zeros_change_nothing;
 use ist_core::Pair;
 use ist_layout::ANCHOR_STATUS_PLACE;
-use ist_rest::word_laws::zeros_change_nothing;
-use ist_rest::{WordList, audit_words};
+use ist_rest::WordList;
 use plain_map::Plain;
 use std::alloc::{AllocError, Global};
 use std::marker::Model;

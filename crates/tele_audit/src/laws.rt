@@ -3,8 +3,8 @@ ghost use Rattle.tele_audit.specs.Laws.{LawfulDumpsHaveNoFlaw, FirstFlawsAreOne}
 ghost use Rattle.tele_audit.specs.Laws.{DumpsTellOneThing, DumpsTellTheList};
 ghost use Rattle.tele_audit.specs.Laws.{PackedDumpsTellTheMap, PackedLinesAreListed};
 
+use crate::word_laws::{lawful_words_break_nowhere, pairs_are_one};
 use ist_rest::laws::standing_words_hold_the_map;
-use ist_rest::word_laws::{lawful_words_break_nowhere, pairs_are_one};
 
 /// A dump of lawful words has no flaw, and any bytes have at most one first flaw.
 pub fn lawful_dumps_have_no_flaw()
