@@ -33,9 +33,8 @@ finish-requires-clause-ready c =
 pub returns : goal.returns
 returns c =
     let m = c.mark_target.ensures in
-    let f = c.finish.ensures in
     let plan = helped_loads _ _ c.plan_of-plan.new.token c.build_out.ensures.helped c.plan_of-plan.ensures.seen in
     let i = rebuilt _ _ _ c.args.rebuild m.none m.helped c.build_out.ensures.helped c.finish.result _
-    c.finish.new.who _ _ c.in_ok-build_out.ensures.few c.plan_of-plan.ensures.seen f.helped f.few
-    c.plan_of-plan.ensures.rebuild f.full in
+    c.finish.new.who _ _ c.in_ok-build_out.ensures.few c.plan_of-plan.ensures.seen c.finish.ensures.helped
+    c.finish.ensures.few c.plan_of-plan.ensures.rebuild c.finish.ensures.full in
     search (rules, buildable_went)

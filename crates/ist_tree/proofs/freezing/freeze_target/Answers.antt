@@ -11,8 +11,7 @@ pub mark_and_count-keys-requires-clause-may_mark : goal.mark_and_count-keys-requ
 mark_and_count-keys-requires-clause-may_mark c =
     target_may_mark c.args.who.now c.args.rebuild c.args.target c.requires.ready.0 c.requires.of
 
--- ---- the caller may help still
-
+-- the caller may help still
 pub help_rebuild-requires-clause-ready : goal.help_rebuild-requires-clause-ready
 help_rebuild-requires-clause-ready c = (
   still_ready (marked c.args.who.now c.mark_and_count-keys.new.token c.args.target c.requires.ready.0
@@ -24,8 +23,6 @@ pub help_rebuild-requires-clause-started : goal.help_rebuild-requires-clause-sta
 help_rebuild-requires-clause-started c =
     (rebuild_on (Marks c.mark_and_count-keys.new.token.view c.args.target) _ _
     c.mark_and_count-keys.ensures.went c.args.rebuild c.args.target c.requires.of).started
-
--- ---- what it results in
 
 pub returns : goal.returns
 returns c =

@@ -8,7 +8,6 @@ use Rattle.ist_tree.proofs.freezing.look_below.Goals as goal
 pub turns-init : goal.turns-init
 turns-init c = (idle_same _ c.know.ensures.sound c.requires.ready.0, omega arith)
 
--- a look begins
 pub look-requires-clause-ready : goal.look-requires-clause-ready
 look-requires-clause-ready c =
     (look_ready c.args.who.now c.turns.invariant c.begin_search.ensures.begun, search rules)

@@ -7,10 +7,9 @@ turns-init c = turns_begin _ _ c.know.ensures.sound c.requires.asked.0
 
 -- a walk begins, at the anchor
 pub descend-requires-clause-asked : goal.descend-requires-clause-asked
-descend-requires-clause-asked c = (
-  (turn_begun (is_turn c.requires.asked.0 c.turns.invariant c.begin_search.ensures.begun)).asked,
-  search rules,
-)
+descend-requires-clause-asked c =
+    let b = is_turn c.requires.asked.0 c.turns.invariant c.begin_search.ensures.begun in
+    ((turn_begun b).asked, search rules)
 
 pub descend-requires-clause-came : goal.descend-requires-clause-came
 descend-requires-clause-came c =
@@ -27,7 +26,6 @@ turns-smaller c =
     let b = is_turn c.requires.asked.0 c.turns.invariant c.begin_search.ensures.begun in
     again_smaller b c.in_default.is c.in_ok-outcome.ensures.walk
 
--- if it was refused
 pub returns-in_err-outcome : goal.returns-in_err-outcome
 returns-in_err-outcome c =
     let b = is_turn c.requires.asked.0 c.turns.invariant c.begin_search.ensures.begun in

@@ -16,7 +16,6 @@ returns-then-not-is_open c =
           (λ is. not_true _ c.if-not-is_open.true (c.is_open.ensures.open.1 is));
     }
 
--- or is
 pub change_open-requires-clause-asked : goal.change_open-requires-clause-asked
 change_open-requires-clause-asked c =
     (loads_still _ c.args.aim c.args.way c.requires.asked.0 _ c.is_open.ensures.seen, search rules)

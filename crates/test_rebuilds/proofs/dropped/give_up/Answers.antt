@@ -25,7 +25,6 @@ pub drop_pair-requires-clause-caller : goal.drop_pair-requires-clause-caller
 drop_pair-requires-clause-caller c =
     (still (goal.at.drop_pair-requires-clause-caller c).After-load_top-word, search rules)
 
--- its pair row lies below the row in the slot
 pub drop_pair-requires-clause-below : goal.drop_pair-requires-clause-below
 drop_pair-requires-clause-below c =
     below_row_in_slot (record c.args.who.now { token = c.begin_search.new.token }) c.load_top-word.new.token
