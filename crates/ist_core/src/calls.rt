@@ -3,7 +3,7 @@ use crate::commands::{Command, Reply};
 
 /// A call that got its reply. `position` is how many changes of the map precede it, and `stamp` its
 /// place among the calls that its caller knows of.
-#[derive(Clone, Copy, Debug, PartialEq, Eq, Drop)]
+#[derive(Clone, Copy, Drop)]
 pub struct Call {
     pub command: Command,
     pub reply: Reply,

@@ -132,7 +132,7 @@ impl Rows {
 }
 
 /// A row that a caller reserved and has neither published nor lost.
-#[derive(Clone, Copy, Debug, PartialEq, Eq, Drop)]
+#[derive(Clone, Copy, Drop)]
 pub struct HeldRow {
     pub caller: u64,
     pub base: u64,

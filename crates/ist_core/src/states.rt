@@ -24,7 +24,7 @@ pub struct InnerRow {
 /// A change: the descriptor of one double-compare single-swap. If slot `index` of `node` holds the
 /// word `from` and the node isn't marked, it puts the word `to` there. `owner` is the caller that
 /// filled it.
-#[derive(Clone, Copy, Debug, PartialEq, Eq, Drop)]
+#[derive(Clone, Copy, Drop)]
 pub struct ChangeRow {
     pub decision: u64,
     pub kind: u64,
@@ -39,7 +39,7 @@ pub struct ChangeRow {
 
 /// A rebuild of the node `target`, which hangs in slot `index` of `parent`. `root` is the word of
 /// the subtree that will replace it, and `draw` the number of its parts that were drawn.
-#[derive(Clone, Copy, Debug, PartialEq, Eq, Drop)]
+#[derive(Clone, Copy, Drop)]
 pub struct RebuildRow {
     pub target: u64,
     pub parent: u64,

@@ -23,7 +23,7 @@ pub struct Child {
 }
 
 /// What some steps of a search returned, and how many loads they made.
-#[derive(Clone, Copy, Debug, PartialEq, Eq, Drop)]
+#[derive(Clone, Copy, Drop)]
 pub struct Counted<T> {
     /// What they returned.
     pub value: T,
@@ -32,7 +32,7 @@ pub struct Counted<T> {
 }
 
 /// What a look at a slot of a node found.
-#[derive(Clone, Copy, Debug, PartialEq, Eq, Drop)]
+#[derive(Clone, Copy, Drop)]
 pub(crate) struct Look {
     /// The number of the slot.
     pub index: u64,
@@ -41,7 +41,7 @@ pub(crate) struct Look {
 }
 
 /// A slot of a node, and how many keys the node has.
-#[derive(Clone, Copy, Debug, PartialEq, Eq, Drop)]
+#[derive(Clone, Copy, Drop)]
 pub(crate) struct Place {
     /// How many keys the node has.
     pub count: u64,
@@ -61,7 +61,7 @@ pub struct Span {
 }
 
 /// Two keys and all keys between them.
-#[derive(Clone, Copy, Debug, PartialEq, Eq, Drop)]
+#[derive(Clone, Copy, Drop)]
 pub(crate) struct KeyRange {
     /// The least of these keys.
     pub first: u64,
@@ -70,7 +70,7 @@ pub(crate) struct KeyRange {
 }
 
 /// What a look at a slot found, for all keys of that slot.
-#[derive(Clone, Copy, Debug, PartialEq, Eq, Drop)]
+#[derive(Clone, Copy, Drop)]
 pub(crate) struct SharedSlot {
     /// The number of the slot.
     pub index: u64,

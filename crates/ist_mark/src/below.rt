@@ -1,7 +1,7 @@
 //! What hangs below a slot.
 
 /// What hangs below a slot that was passed.
-#[derive(Clone, Copy, Debug, PartialEq, Eq, Drop)]
+#[derive(Clone, Copy, Drop)]
 pub(crate) enum PassedChild {
     /// This many keys, and no inner row.
     Keys(u64),

@@ -34,7 +34,7 @@ pub fn guess(first: u64, last: u64, m: u64, x: u64) -> u64
 }
 
 /// A child, and how many keys were looked at to find it.
-#[derive(Clone, Copy, Debug, PartialEq, Eq, Drop)]
+#[derive(Clone, Copy, Drop)]
 pub struct ChildFound {
     /// The number of the child, from 0.
     pub child: usize,

@@ -12,7 +12,7 @@ ghost use Rattle.ist_math.specs.Gallops.{probe_of, next_step_of, Gallops};
 ///
 /// Source: Bentley and Yao, "An almost optimal algorithm for unbounded searching", Information
 /// Processing Letters, 1976.
-#[derive(Clone, Copy, Debug, PartialEq, Eq, Drop)]
+#[derive(Clone, Copy, Drop)]
 pub struct Gallop {
     /// The number of a key that is at most the key that is sought.
     pub low: u64,

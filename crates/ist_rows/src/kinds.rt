@@ -5,7 +5,7 @@ ghost use Rattle.ist_rows.specs.Kinds.{kind_words};
 use ist_layout::{CHANGE_WORDS, LEAF_WORDS, PAIR_WORDS, REBUILD_WORDS};
 
 /// A kind of row. A pair row is an inner row of degree 2.
-#[derive(Clone, Copy, Debug, PartialEq, Eq, Drop)]
+#[derive(Clone, Copy, Drop)]
 pub enum Kind {
     Leaf,
     Pair,

@@ -6,7 +6,7 @@ ghost use Rattle.ist_updates.specs.Meeting.{due_in, reply_in};
 use ist_core::{Command, Reply};
 
 /// At which value of its key an update should take effect.
-#[derive(Clone, Copy, Debug, PartialEq, Eq, Drop)]
+#[derive(Clone, Copy, Drop)]
 pub enum When {
     /// At any value, and also if the key has no value.
     Always,
@@ -15,7 +15,7 @@ pub enum When {
 }
 
 /// One put or remove of a key.
-#[derive(Clone, Copy, Debug, PartialEq, Eq, Drop)]
+#[derive(Clone, Copy, Drop)]
 pub struct Update {
     pub key: u64,
     /// The value to put, or `None` to remove the key.
@@ -47,7 +47,7 @@ pub struct Due {
 }
 
 /// What an update that took effect leaves.
-#[derive(Clone, Copy, Debug, PartialEq, Eq, Drop)]
+#[derive(Clone, Copy, Drop)]
 pub struct Applied {
     /// The value that the key had before.
     pub reply: Reply,
@@ -56,7 +56,7 @@ pub struct Applied {
 }
 
 /// How an update ended.
-#[derive(Clone, Copy, Debug, PartialEq, Eq, Drop)]
+#[derive(Clone, Copy, Drop)]
 pub enum Outcome {
     /// It took effect, and was counted at the rows on its way.
     Took(Applied),

@@ -10,7 +10,7 @@ use std::marker::Model;
 use tele_lanes::{Answer, Answers};
 
 /// The refusals of the tables that ran full, in order. Contracts see them as a list.
-#[derive(Debug, Drop)]
+#[derive(Drop)]
 pub struct Fulls {
     items: Vec<Full>,
 }

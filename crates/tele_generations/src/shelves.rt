@@ -16,7 +16,7 @@ pub trait Shelf<C> {
 }
 
 /// A shelf that drops each table and reports nothing.
-#[derive(Clone, Copy, Debug, Drop)]
+#[derive(Clone, Copy, Drop)]
 pub struct NoShelf;
 
 impl<C: Drop> Shelf<C> for NoShelf {

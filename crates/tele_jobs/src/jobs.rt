@@ -10,7 +10,7 @@ use std::alloc::{AllocError, Global};
 pub const LINE_LIMIT: u64 = 16_777_216;
 
 /// What a run has to do, by its command line.
-#[derive(Clone, Copy, Debug, PartialEq, Eq, Drop)]
+#[derive(Clone, Copy, Drop)]
 pub enum Job {
     /// To report that the command line is refused.
     Refuse,
@@ -22,7 +22,7 @@ pub enum Job {
 
 /// What a run has to do, with how many workers, with how many words at most in the first table of a
 /// round, and whether the workers steal lanes from one another.
-#[derive(Clone, Copy, Debug, PartialEq, Eq, Drop)]
+#[derive(Clone, Copy, Drop)]
 pub struct Plan {
     pub job: Job,
     pub workers: u32,

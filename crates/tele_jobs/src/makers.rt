@@ -13,7 +13,7 @@ const STEP: u64 = 1_442_695_040_888_963_407;
 
 /// Makes commands from a number. Contracts see the number from which the last command was made; at
 /// first this is the seed.
-#[derive(Debug, Drop)]
+#[derive(Drop)]
 pub struct CommandMaker {
     number: u64,
 }

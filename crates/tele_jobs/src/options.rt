@@ -6,7 +6,7 @@ use crate::command::read;
 use std::alloc::Global;
 
 /// What a command line asks for.
-#[derive(Clone, Copy, Debug, PartialEq, Eq, Drop)]
+#[derive(Clone, Copy, Drop)]
 pub struct Options {
     /// How many threads work in parallel, from 1 to 64.
     pub workers: u64,
@@ -22,7 +22,7 @@ pub struct Options {
 }
 
 /// Why arguments give no options.
-#[derive(Clone, Copy, Debug, PartialEq, Eq, Drop)]
+#[derive(Clone, Copy, Drop)]
 pub enum OptionsRefusal {
     /// They aren't valid arguments of the command.
     Usage,

@@ -8,7 +8,7 @@ use std::alloc::{AllocError, Global};
 use tele_io::{Sink, SinkFault, write_whole};
 
 /// What made lines did to a map.
-#[derive(Clone, Copy, Debug, PartialEq, Eq, Drop)]
+#[derive(Clone, Copy, Drop)]
 pub struct Summary {
     /// How many lines there were.
     pub made: u64,

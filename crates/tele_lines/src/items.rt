@@ -53,7 +53,7 @@ pub enum LineFault {
 }
 
 /// What one line says.
-#[derive(Clone, Copy, Debug, PartialEq, Eq, Drop)]
+#[derive(Clone, Copy, Drop)]
 pub(crate) enum Said {
     /// Nothing: it has no word, or is a comment.
     Skips,
