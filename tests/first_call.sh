@@ -19,6 +19,7 @@ expect "the README's lines, by an unproved build" "$answer" "$(printf '%s\n' '1 
 expect "the proof goes on" "$([ -e "$all/copy/out/tele" ] || kill -0 "$(cat "$all/leader")" 2>&1)" ""
 kill -TERM "$(cat "$all/leader")"
 while kill -0 "$(cat "$all/leader")" 2>/dev/null; do sleep 0.2; done
+expect "no work of a check is kept" "$(find "$all/build" -name incremental)" ""
 expect "nothing is left in its folder of unproved builds" "$(ls "$all/build" | grep '^unproved-')" ""
 
 [ "$failed" = 0 ] || tail -n 5 "$all/said"

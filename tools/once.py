@@ -1,6 +1,11 @@
 #!/usr/bin/env python3
-"""Runs the kit's command `rt` over folders in which nothing is edited meanwhile, so that it sums up the files of a crate once. By
-itself it does so each time that it asks for the sum, some three times for each crate below.
+"""Runs the kit's command `rt` over folders in which nothing is edited meanwhile, and in which each library is built once, below what stands
+on it. So it spares what `rt` does for the work of an editor:
+
+- the files of a crate are summed up once, and not some three times for each crate below;
+- a library holds what it states, as those that `rt ci` makes, and not its proofs, which those above it would read;
+- no work of a check is kept to go on from, which `rattle` refuses beside that;
+- `rt try` doesn't look at names that a proof would refuse, since the proof is begun beside it.
 
     python3 tools/once.py RT WORDS..
 
@@ -10,11 +15,12 @@ known here, it runs as it is.
 import importlib.machinery
 import importlib.util
 import os
+import shutil
 import sys
 
 
 def module_of(path):
-    """Returns the program as a module whose sums can be kept, if it has this form."""
+    """Returns the program as a module that can be changed here, if it has this form."""
     with open(path, "rb") as file:
         if b"python" not in file.readline():
             return None
@@ -23,7 +29,8 @@ def module_of(path):
     found = importlib.util.module_from_spec(importlib.util.spec_from_loader("kit_rt", loader))
     loader.exec_module(found)
     crate = getattr(getattr(found, "rtlib", None), "Crate", None)
-    return found if callable(getattr(crate, "stamp", None)) and callable(getattr(found, "main", None)) else None
+    known = all(callable(getattr(crate, it, None)) for it in ("stamp", "call", "makes_rlib"))
+    return found if known and isinstance(getattr(found.rtlib, "RATTLE", None), str) and callable(getattr(found, "main", None)) else None
 
 
 def keep_sums(crate):
@@ -38,6 +45,19 @@ def keep_sums(crate):
     crate.stamp = stamp
 
 
+def build_statements(crate, rattle):
+    """Has a library built with its statements alone, and nothing with work that is kept."""
+    plain = crate.call
+
+    def call(self, *words):
+        if words[:2] == (rattle, "build"):
+            at = words.index("--incremental") if "--incremental" in words else len(words)
+            words = (*words[:at], *words[at + 2 :], *["--statements"] * self.makes_rlib())
+        return plain(self, *words)
+
+    crate.call = call
+
+
 def main(rt, *words):
     sys.dont_write_bytecode = True
     path = os.path.realpath(rt)
@@ -48,6 +68,9 @@ def main(rt, *words):
     if found is None:
         os.execv(rt, [rt, *words])
     keep_sums(found.rtlib.Crate)
+    build_statements(found.rtlib.Crate, found.rtlib.RATTLE)
+    if words[:1] == ("try",):
+        found.rtlib.RATTLE = shutil.which("true") or found.rtlib.RATTLE
     sys.argv = [path, *words]
     sys.exit(found.main([*words]))
 

@@ -166,7 +166,7 @@ def compile_to(made, folder, source, kit, log):
     lay_program(folder / "repository", source, exports)
     (folder / "kit").mkdir()
     rt = lay_kit(folder / "kit", kit)
-    run([rt, "try"], log, None, cwd=folder / "repository" / "crates" / CRATE)
+    run([*kit.command()[:-1], rt, "try"], log, None, cwd=folder / "repository" / "crates" / CRATE)
     module, text = folder / "kit" / "module.bc", folder / "kit" / "module.ll"
     if not module.exists():
         raise build.NotBuilt(f"the unproved build: `rt try` made no module; all that was said: {log.name}")
