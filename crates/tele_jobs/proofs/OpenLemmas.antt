@@ -13,7 +13,7 @@ use Rattle.tele_jobs.specs.Rounds.{Team}
 use Rattle.tele_jobs.specs.Open.{Open, IsOpenBefore, fresh_round, with_task}
 
 -- lines below a line are below a later one
-each_below : (low high : ℕ) (tasks : List Task) → low ≤ high → Each (λ task. task.line < low) tasks
+pub each_below : (low high : ℕ) (tasks : List Task) → low ≤ high → Each (λ task. task.line < low) tasks
     → Each (λ task. task.line < high) tasks
 each_below low high [] le h = tt
 each_below low high (task ∷ tasks) le h =

@@ -1,11 +1,19 @@
-use Rattle.std.proofs.Common.{[], ◌∷◌, ap, refl, sym, subst}
+use Rattle.std.proofs.Common.{[], ◌∷◌, ap, arith, refl, sym, subst}
 use Rattle.std.specs.Prelude.{Err, IsSome}
 use Rattle.tele_io.specs.Bytes.{AppendsPart}
 use Rattle.tele_lines.specs.Answer.{Bad}
 use Rattle.tele_jobs.specs.Open.{map_in}
+use Rattle.tele_jobs.proofs.OpenLemmas.{each_below}
 use Rattle.tele_jobs.proofs.StepLemmas.{at_end}
 use Rattle.tele_jobs.proofs.StepKindLemmas.{line_taken, line_cut, input_done, bad_done, read_done, last_cut, none_cut}
 use Rattle.tele_jobs.proofs.steps.step.Goals as goal
+
+-- the lines before have lower numbers
+pub take-requires-clause-before : goal.take-requires-clause-before
+take-requires-clause-before g c =
+    let b = c.requires.before in
+    let past = (rw c.in-Ok-Some.field-0-is at c.in-Ok-Some.ensures.number).0 in
+    record { rises = b.rises; below = each_below _ _ _ (omega arith) b.below; few = omega (arith, b.few) }
 
 -- a line was taken
 pub returns-in-Ok-clause-goes_on : goal.returns-in-Ok-clause-goes_on
