@@ -1,6 +1,5 @@
 //! A caller that reserves, tokens that part and meet, and two threads that reserve until the table is full.
-ghost use Rattle.std.specs.Prelude.{◌≡◌};
-ghost use Rattle.ist_rows.specs.Rows.{IsCaller};
+ghost use Rattle.ist_rows.specs.Rows.{IsCaller, IsAtTable};
 
 use crate::judging::same;
 use crate::tables::empty_table;
@@ -13,10 +12,8 @@ use std::thread::{Threads, join};
 
 // What the caller is told that reserves a leaf row twice.
 fn reserve_twice(table: &TreeTable, who: &mut Caller) -> (Result<u32, Full>, Result<u32, Full>)
-    requires same_table { who.old.token.view.table ≡ table.now.table }
-    requires caller { IsCaller who.old }
-    ensures same_table { who.new.token.view.table ≡ table.now.table }
-    ensures caller { IsCaller who.new }
+    requires caller { IsAtTable table.now IsCaller who.old }
+    ensures caller { IsAtTable table.now IsCaller who.new }
 {
     let leaf = reserve(table, who, Kind::Leaf);
     (leaf, reserve(table, who, Kind::Leaf))
@@ -24,8 +21,7 @@ fn reserve_twice(table: &TreeTable, who: &mut Caller) -> (Result<u32, Full>, Res
 
 // What the caller is told that reserves a change row. If it holds a leaf row, it puts 9 at the key 1 there.
 fn reserve_and_fill(table: &TreeTable, who: &mut Caller) -> Result<u32, Full>
-    requires same_table { who.old.token.view.table ≡ table.now.table }
-    requires caller { IsCaller who.old }
+    requires caller { IsAtTable table.now IsCaller who.old }
 {
     let change = reserve(table, who, Kind::Change);
     if let Some(base) = who.leaf {
@@ -94,8 +90,7 @@ type Reserved = (Option<u32>, u64);
 
 // Reserves one row of each kind, as far as there are words.
 fn reserve_each(table: &TreeTable, who: Caller) -> [Reserved; 4]
-    requires same_table { who.token.view.table ≡ table.now.table }
-    requires caller { IsCaller who }
+    requires caller { IsAtTable table.now IsCaller who }
 {
     let mut who = who;
     let leaf = reserve(table, &mut who, Kind::Leaf).ok();
@@ -153,12 +148,10 @@ fn reserve_beside<R: Threads + Sync>(
     let (left, right) = join(
         rt,
         ||
-            requires same_table { one.token.view.table ≡ table.table }
-            requires caller { IsCaller one }
+            requires caller { IsAtTable table IsCaller one }
         { reserve_each(&table, one) },
         ||
-            requires same_table { two.token.view.table ≡ table.table }
-            requires caller { IsCaller two }
+            requires caller { IsAtTable table IsCaller two }
         { reserve_each(&table, two) },
     );
     let next = load(&table, &mut maker, NEXT_PLACE);

@@ -1,7 +1,7 @@
 //! Puts that are installed.
 ghost use Rattle.std.specs.Prelude.{◌≡◌, ◌+◌, ◌<◌, ◌≤◌, None, Some, true};
 ghost use Rattle.ist_core.specs.RowLayout.{place_limit};
-ghost use Rattle.ist_rows.specs.Rows.{IsCaller, spares_of, no_spares};
+ghost use Rattle.ist_rows.specs.Rows.{IsCaller, IsAtTable, spares_of, no_spares};
 ghost use Rattle.ist_dcss.specs.declared.decisions.Installed.TheVariants.{Yes};
 ghost use Rattle.ist_dcss.specs.Helping.{MayHelp};
 ghost use Rattle.ist_dcss.specs.Installing.{Filling};
@@ -23,15 +23,14 @@ pub(crate) fn install_put(
     value: u64,
 ) -> Installed
     ghost filling: { Filling }
-    requires same_table { who.old.token.view.table ≡ table.now.table }
+    requires caller { IsAtTable table.now IsCaller who.old }
     requires is_put { filling ≡ sample_put who.old.number leaf value }
-    requires caller { IsCaller who.old }
     requires rows { (who.old.leaf ≡ Some leaf) × (who.old.change ≡ Some change) }
     requires apart { leaf + 2 ≤ change }
     requires within { (4 ≤ leaf) × (change < place_limit) }
     requires in_none { who.old.token.view.pending ≡ None }
-    ensures same_table { who.new.token.view.table ≡ table.now.table }
-    ensures may_help { result ≡ Yes → MayHelp who.new.token.view change }
+    ensures may_help { result ≡ Yes
+        → IsAtTable table.now (λ x. MayHelp x.token.view change) who.new }
 {
     let from = Ref::Empty.to_word();
     let to = Ref::Leaf { base: leaf }.to_word();
@@ -52,12 +51,10 @@ pub(crate) fn install_put(
 /// Reserves a leaf row and a change row, and installs a put with them, if the caller is the first
 /// and the rows lie at 4 and 6. Returns whether it is installed.
 pub(crate) fn begin_put(table: &TreeTable, who: &mut Caller) -> bool
-    requires same_table { who.old.token.view.table ≡ table.now.table }
-    requires caller { IsCaller who.old }
+    requires caller { IsAtTable table.now IsCaller who.old }
     requires no_rows { spares_of who.old ≡ no_spares }
     requires in_none { who.old.token.view.pending ≡ None }
-    ensures same_table { who.new.token.view.table ≡ table.now.table }
-    ensures may_help { result ≡ true → MayHelp who.new.token.view 6 }
+    ensures may_help { result ≡ true → IsAtTable table.now (λ x. MayHelp x.token.view 6) who.new }
 {
     if reserve(table, who, Kind::Leaf) != Ok(4) {
         return false;

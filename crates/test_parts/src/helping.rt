@@ -1,13 +1,12 @@
 //! One caller installs a put, and others help it, one after another and on threads of their own.
 ghost use Rattle.std.specs.Prelude.{◌≡◌, None};
-ghost use Rattle.ist_rows.specs.Rows.{IsCaller, spares_of, no_spares};
+ghost use Rattle.ist_rows.specs.Rows.{IsCaller, IsAtTable, spares_of, no_spares};
 
 use crate::changes::{begin_put, install_put};
 use crate::judging::same;
-use crate::samples::word_at;
 use crate::tables::empty_table;
 use ist_dcss::{Decision, Installed, help};
-use ist_layout::{ANCHOR_SLOT_PLACE, Ref};
+use ist_layout::Ref;
 use ist_rows::{Caller, Kind, enter, reserve};
 use ist_rule::{TreeTable, TreeToken, begin_search, load_top};
 use std::alloc::{AllocError, Global};
@@ -15,10 +14,8 @@ use std::thread::{Threads, join};
 
 /// Helps the change at 6 if the anchor's slot holds it.
 pub(crate) fn help_met(table: &TreeTable, who: &mut Caller) -> Option<Decision>
-    requires same_table { who.old.token.view.table ≡ table.now.table }
-    requires caller { IsCaller who.old }
-    ensures same_table { who.new.token.view.table ≡ table.now.table }
-    ensures caller { IsCaller who.new }
+    requires caller { IsAtTable table.now IsCaller who.old }
+    ensures caller { IsAtTable table.now IsCaller who.new }
     ensures same_rows { spares_of who.new ≡ spares_of who.old }
     ensures in_same_call { who.new.token.view.pending ≡ who.old.token.view.pending }
 {
@@ -33,8 +30,7 @@ pub(crate) fn help_met(table: &TreeTable, who: &mut Caller) -> Option<Decision>
 // Has a caller that holds no rows try to install a put into the anchor's empty slot. Returns the word
 // that stood there.
 fn put_late(table: &TreeTable, who: &mut Caller) -> Option<u64>
-    requires same_table { who.old.token.view.table ≡ table.now.table }
-    requires caller { IsCaller who.old }
+    requires caller { IsAtTable table.now IsCaller who.old }
     requires no_rows { spares_of who.old ≡ no_spares }
     requires in_none { who.old.token.view.pending ≡ None }
 {
@@ -48,6 +44,15 @@ fn put_late(table: &TreeTable, who: &mut Caller) -> Option<u64>
         Installed::Yes => None,
         Installed::Other(word) => Some(word),
     }
+}
+
+// Returns the word in the anchor's slot.
+fn slot_word(table: &TreeTable, token: &mut TreeToken) -> u64
+    requires same_table { token.old.view.table ≡ table.now.table }
+    ensures same_table { token.new.view.table ≡ table.now.table }
+{
+    begin_search(table, token);
+    load_top(table, token)
 }
 
 #[derive(Clone, Copy, Debug, PartialEq, Eq, Drop)]
@@ -68,23 +73,21 @@ fn help_in_turn(
     second: &mut Caller,
 ) -> Option<HelpedTwice>
     requires maker_table { maker.old.view.table ≡ table.now.table }
-    requires first_table { first.old.token.view.table ≡ table.now.table }
-    requires second_table { second.old.token.view.table ≡ table.now.table }
-    requires first { IsCaller first.old }
+    requires first { IsAtTable table.now IsCaller first.old }
     requires no_rows { spares_of first.old ≡ no_spares }
     requires in_none { first.old.token.view.pending ≡ None }
-    requires second { IsCaller second.old }
+    requires second { IsAtTable table.now IsCaller second.old }
     requires no_more_rows { spares_of second.old ≡ no_spares }
     requires in_none_either { second.old.token.view.pending ≡ None }
 {
     if !begin_put(table, first) {
         return None;
     }
-    let installed = word_at(table, maker, ANCHOR_SLOT_PLACE);
+    let installed = slot_word(table, maker);
     let by_second = help_met(table, second);
-    let left = word_at(table, maker, ANCHOR_SLOT_PLACE);
+    let left = slot_word(table, maker);
     let by_first = help(table, &mut first.token, 6);
-    let again = word_at(table, maker, ANCHOR_SLOT_PLACE);
+    let again = slot_word(table, maker);
     Some(HelpedTwice {
         words: [installed, left, again],
         by_second,
@@ -117,8 +120,7 @@ fn a_put_is_decided_once_and_leaves_its_slot(rt: HostRuntime) {
 
 // Helps the change at 6, if the anchor's slot holds it, by a caller that has no more to do.
 fn help_moved(table: &TreeTable, who: Caller) -> Option<Decision>
-    requires same_table { who.token.view.table ≡ table.now.table }
-    requires caller { IsCaller who }
+    requires caller { IsAtTable table.now IsCaller who }
 {
     let mut who = who;
     help_met(table, &mut who)
@@ -143,19 +145,17 @@ fn help_on_threads<R: Threads + Sync>(rt: &R, alloc: Global) -> Result<Helped, A
     let (left, right) = join(
         rt,
         ||
-            requires same_table { second.token.view.table ≡ table.table }
-            requires caller { IsCaller second }
+            requires caller { IsAtTable table IsCaller second }
         { help_moved(&table, second) },
         ||
-            requires same_table { third.token.view.table ≡ table.table }
-            requires caller { IsCaller third }
+            requires caller { IsAtTable table IsCaller third }
         { help_moved(&table, third) },
     );
     Ok(Helped {
         installed,
         left,
         right,
-        slot: word_at(&table, &mut maker, ANCHOR_SLOT_PLACE),
+        slot: slot_word(&table, &mut maker),
     })
 }
 

@@ -1,7 +1,6 @@
 //! Searches of small tables, one of them with a put that waits to be decided, and the loads of searches.
 ghost use Rattle.std.specs.Prelude.{◌≡◌, ◌<◌, ◌^◌, None, IfOk};
-ghost use Rattle.ist_rows.specs.Rows.{IsCaller, spares_of, no_spares};
-ghost use Rattle.ist_find.specs.Searches.{IsRow};
+ghost use Rattle.ist_rows.specs.Rows.{IsCaller, IsAtTable, spares_of, no_spares};
 
 use crate::changes::begin_put;
 use crate::helping::help_met;
@@ -16,19 +15,12 @@ use ist_rows::{Caller, enter};
 use ist_rule::{TreeTable, TreeToken, begin_search, open_table};
 use std::alloc::{AllocError, Global};
 
-// A table of 20 words with the pairs (5, 7) and (9, 1): an inner row at 4, and two leaves.
-fn two_pairs(alloc: Global) -> Result<(TreeTable, TreeToken), AllocError>
-    ensures same_table { IfOk result (λ t. t.1.view.table ≡ t.0.table) }
-    ensures row { IfOk result (λ t. IsRow t.1.view 4) }
-{
+// Returns the child for a key in the row of a table of 20 words with the pairs (5, 7) and (9, 1), an
+// inner row at 4 and two leaves, and what is found at the key.
+fn found_in_two(alloc: Global, key: u64) -> Result<(Child, Found), AllocError> {
     let pairs = vec![in alloc; Pair { key: 5, value: 7 }, Pair { key: 9, value: 1 }]?;
     let image = lay_image(alloc, 20, pairs.as_slice())?;
-    open_table(alloc, image, &pairs)
-}
-
-// Returns the child for a key in the row of the table of two pairs, and what is found at the key.
-fn found_in_two(alloc: Global, key: u64) -> Result<(Child, Found), AllocError> {
-    let (table, mut token) = two_pairs(alloc)?;
+    let (table, mut token) = open_table(alloc, image, &pairs)?;
     let child = child_at(&table, &mut token, 4, key);
     let found = find_from_anchor(&table, &mut token, key);
     Ok((child, found))
@@ -149,21 +141,14 @@ fn a_span_reaches_from_its_pair_to_before_the_next_one(rt: HostRuntime) {
     }
 }
 
-// A table of this many pairs, with the keys from 0 on.
-fn numbers(alloc: Global, count: u64) -> Result<(TreeTable, TreeToken), AllocError>
-    requires few { count < 2 ^ 20 }
-    ensures same_table { IfOk result (λ t. t.1.view.table ≡ t.0.table) }
-{
-    let pairs = pairs_of(alloc, count)?;
-    let image = lay_image(alloc, 9 * count + 10, pairs.as_slice())?;
-    open_table(alloc, image, &pairs)
-}
-
-// Returns what is found at a key in a table of this many pairs, and the loads of the search.
+// Returns what is found at a key in a table of this many pairs, with the keys from 0 on, and the loads
+// of the search.
 fn search_of(alloc: Global, count: u64, key: u64) -> Result<(Option<u64>, u64), AllocError>
     requires few { count < 2 ^ 20 }
 {
-    let (table, mut token) = numbers(alloc, count)?;
+    let pairs = pairs_of(alloc, count)?;
+    let image = lay_image(alloc, 9 * count + 10, pairs.as_slice())?;
+    let (table, mut token) = open_table(alloc, image, &pairs)?;
     let found = find_and_loads(&table, &mut token, key);
     Ok((found.value.value, found.loads))
 }
@@ -217,12 +202,10 @@ fn find_beside(
     second: &mut Caller,
 ) -> Option<Beside>
     requires maker_table { maker.old.view.table ≡ table.now.table }
-    requires first_table { first.old.token.view.table ≡ table.now.table }
-    requires second_table { second.old.token.view.table ≡ table.now.table }
-    requires first { IsCaller first.old }
+    requires first { IsAtTable table.now IsCaller first.old }
     requires no_rows { spares_of first.old ≡ no_spares }
     requires in_none { first.old.token.view.pending ≡ None }
-    requires second { IsCaller second.old }
+    requires second { IsAtTable table.now IsCaller second.old }
 {
     let before = find_from_anchor(table, maker, 1).value;
     if !begin_put(table, first) {

@@ -10,7 +10,6 @@ use std::alloc::{AllocError, Global};
 pub(crate) fn empty_table(alloc: Global, words: usize) -> Result<(TreeTable, TreeToken), AllocError>
     requires enough { 4 ≤ words }
     requires within { words ≤ place_limit }
-    ensures same_table { IfOk result (λ t. t.1.view.table ≡ t.0.table) }
     ensures token { IfOk result (λ t. t.1.view ≡ opened_view t.0.table [] words) }
 {
     let pairs = Vec::new(alloc);

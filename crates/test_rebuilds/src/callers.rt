@@ -5,12 +5,11 @@ ghost use Rattle.ist_core.specs.Enabled.{caller_limit};
 ghost use Rattle.ist_core.specs.Rebuilding.{IsStarted};
 ghost use Rattle.ist_core.specs.RowLayout.{anchor};
 ghost use Rattle.ist_core.specs.Slots.{SlotHolds};
-ghost use Rattle.test_rebuilds.specs.Steps.{HasMarkedTarget};
+ghost use Rattle.test_rebuilds.specs.Steps.{IsMakerAt, HasMarkedTarget};
 ghost use Rattle.ist_rebuild.specs.declared.answers.Started.TheVariants.{Yes};
 ghost use Rattle.ist_rows.specs.Going.{IsReady};
 ghost use Rattle.ist_rows.specs.Rows.{IsAtTable};
 ghost use Rattle.ist_rebuild.specs.Starting.{MayStart};
-ghost use Rattle.ist_core.specs.declared.events.Who.TheVariants.{Maker};
 ghost use Rattle.ist_rule.specs.Learning.{now};
 
 use ist_build::{fill_parts, set_root};
@@ -31,14 +30,10 @@ pub(crate) struct Marked {
 
 /// The next caller, in a call of its own.
 pub(crate) fn enter_call(table: &TreeTable, maker: &mut TreeToken) -> Caller
-    requires same_table { maker.old.view.table ≡ table.now.table }
-    requires maker { maker.old.view.who ≡ Maker }
-    requires given { maker.old.view.given ≡ maker.old.view.made }
+    requires maker { IsMakerAt table.now maker.old.view.made maker.old }
     requires few { maker.old.view.made < caller_limit }
     ensures ready { IsAtTable table.now IsReady result }
-    ensures maker_table { maker.new.view.table ≡ table.now.table }
-    ensures made { (maker.new.view.who ≡ Maker) × (maker.new.view.made ≡ maker.old.view.made + 1) }
-    ensures given { maker.new.view.given ≡ maker.new.view.made }
+    ensures maker { IsMakerAt table.now (maker.old.view.made + 1) maker.new }
 {
     let mut who = enter(table, maker);
     know(&who.token);

@@ -1,5 +1,4 @@
 //! A caller that gives up its pair row, since another caller's put has published a higher one.
-ghost use Rattle.std.specs.Prelude.{◌≡◌};
 ghost use Rattle.ist_rows.specs.Rows.{IsCaller, IsAtTable};
 ghost use Rattle.ist_tree.specs.Insides.{IsPass};
 
@@ -38,8 +37,7 @@ type DroppedRow = (Result<u32, Full>, Option<u32>, Result<u32, Full>);
 
 fn reserve_again(table: &TreeTable, low: &mut Caller, other: &mut Caller) -> Option<DroppedRow>
     requires caller { IsAtTable table.now IsCaller low.old }
-    requires other_table { other.old.token.view.table ≡ table.now.table }
-    requires other_pass { IsPass other.old }
+    requires other_pass { IsAtTable table.now IsPass other.old }
 {
     let held = reserve(table, low, Kind::Pair);
     if !update_all(table, other, &[(9, Some(1))]) {

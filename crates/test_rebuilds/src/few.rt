@@ -1,6 +1,7 @@
 //! Rebuilds of a row that holds two leaves, one, or none.
 ghost use Rattle.std.specs.Prelude.{◌≡◌};
 ghost use Rattle.ist_rows.specs.Going.{IsReady};
+ghost use Rattle.ist_rows.specs.Rows.{IsAtTable};
 ghost use Rattle.ist_tree.specs.Insides.{IsPass};
 
 use crate::callers::{enter_call, help_on, mark};
@@ -33,10 +34,8 @@ fn see_in(
     removes: &[(u64, Option<u64>)],
 ) -> Option<RebuiltRow>
     requires maker_table { maker.old.view.table ≡ table.now.table }
-    requires most_table { most.old.token.view.table ≡ table.now.table }
-    requires most_pass { IsPass most.old }
-    requires who_table { who.old.token.view.table ≡ table.now.table }
-    requires who_ready { IsReady who.old }
+    requires most_pass { IsAtTable table.now IsPass most.old }
+    requires who_ready { IsAtTable table.now IsReady who.old }
 {
     if !update_all(table, most, removes) {
         return None;

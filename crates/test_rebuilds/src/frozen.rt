@@ -1,7 +1,7 @@
 //! Rebuilds of a row whose slots hold pair rows, another rebuild, and the change of a put that came too late.
 ghost use Rattle.std.specs.Prelude.{◌≡◌, Some, IfSome};
-ghost use Rattle.ist_core.specs.declared.events.Who.TheVariants.{Maker};
 ghost use Rattle.test_rebuilds.specs.Late.{IsFilled};
+ghost use Rattle.test_rebuilds.specs.Steps.{IsMakerAt};
 ghost use Rattle.ist_core.specs.Rebuilding.{IsStarted};
 ghost use Rattle.ist_dcss.specs.declared.decisions.Installed.TheVariants.{Yes};
 ghost use Rattle.ist_dcss.specs.Helping.{MayHelp};
@@ -46,18 +46,6 @@ struct FrozenRow {
     late: Option<Decision>,
 }
 
-// The tags of the first three slots of the row over all pairs, which lies at 4 and has 14 of them.
-fn tags(table: &TreeTable, token: &mut TreeToken) -> (u64, u64, u64)
-    requires same_table { token.old.view.table ≡ table.now.table }
-    ensures same_table { token.new.view.table ≡ table.now.table }
-{
-    (
-        word_at(table, token, 21) % 8,
-        word_at(table, token, 22) % 8,
-        word_at(table, token, 23) % 8,
-    )
-}
-
 // What the builder finds: are the leaves below the finished target the pairs, and is what it builds over them
 // the tree of the image?
 fn build_over(
@@ -81,22 +69,6 @@ fn build_over(
     Ok((leaves, part))
 }
 
-// Helps the late put, if it was installed.
-fn end_late(
-    table: &TreeTable,
-    who: &mut Caller,
-    put: LatePut,
-    installed: Option<Installed>,
-) -> Option<Decision>
-    requires same_table { who.old.token.view.table ≡ table.now.table }
-    requires helped { installed ≡ Some Yes → MayHelp who.old.token.view put.change }
-{
-    match installed {
-        Some(Installed::Yes) => Some(help(table, &mut who.token, put.change)),
-        _ => None,
-    }
-}
-
 // The builder builds a tree of its own over the leaves, and the helper helps the rebuild until it
 // is done.
 fn rebuild_over(
@@ -109,11 +81,9 @@ fn rebuild_over(
     map: &Plain,
 ) -> Result<Rebuilt, OpenFault>
     requires maker_table { maker.old.view.table ≡ table.now.table }
-    requires helper_table { helper.old.token.view.table ≡ table.now.table }
-    requires helper { IsReady helper.old }
+    requires helper { IsAtTable table.now IsReady helper.old }
     requires started { IsStarted (now helper.old.token.view) rebuild }
-    requires builder_table { builder.old.token.view.table ≡ table.now.table }
-    requires builder { IsReady builder.old }
+    requires builder { IsAtTable table.now IsReady builder.old }
 {
     let pairs = map.pairs();
     let image = open(alloc, pairs, 20_000)?.image;
@@ -130,10 +100,9 @@ fn rebuild_over(
 
 // Installs the late put, if there is one.
 fn may_install(table: &TreeTable, who: &mut Caller, put: LatePut, late: bool) -> Option<Installed>
-    requires same_table { who.old.token.view.table ≡ table.now.table }
-    requires filled { IsFilled who.old put.change put.leaf put.row }
-    ensures same_table { who.new.token.view.table ≡ table.now.table }
-    ensures may_help { result ≡ Some Yes → MayHelp who.new.token.view put.change }
+    requires filled { IsAtTable table.now (λ x. IsFilled x put.change put.leaf put.row) who.old }
+    ensures may_help { result ≡ Some Yes
+        → IsAtTable table.now (λ x. MayHelp x.token.view put.change) who.new }
 {
     if late {
         Some(install_late(table, who, put))
@@ -149,15 +118,11 @@ fn freeze(
     helper: &mut Caller,
     late: bool,
 ) -> Option<(LatePut, Option<Installed>, u32)>
-    requires last_table { last.old.token.view.table ≡ table.now.table }
-    requires last_pass { IsPass last.old }
-    requires helper_table { helper.old.token.view.table ≡ table.now.table }
-    requires helper_ready { IsReady helper.old }
-    ensures last_table { last.new.token.view.table ≡ table.now.table }
+    requires last_pass { IsAtTable table.now IsPass last.old }
+    requires helper_ready { IsAtTable table.now IsReady helper.old }
     ensures may_help { IfSome result (λ frozen. frozen.1 ≡ Some Yes
-        → MayHelp last.new.token.view frozen.0.change) }
-    ensures helper_table { helper.new.token.view.table ≡ table.now.table }
-    ensures helper_ready { IsReady helper.new }
+        → IsAtTable table.now (λ x. MayHelp x.token.view frozen.0.change) last.new) }
+    ensures helper_ready { IsAtTable table.now IsReady helper.new }
     ensures started { IfSome result (λ frozen. IsStarted (now helper.new.token.view) frozen.2) }
 {
     let Some(put) = prepare(table, last, 31, 9) else {
@@ -182,20 +147,25 @@ fn see_late(
     shape: Shape,
 ) -> Result<Option<FrozenRow>, OpenFault>
     requires maker_table { maker.old.view.table ≡ table.now.table }
-    requires last_table { last.old.token.view.table ≡ table.now.table }
-    requires last_pass { IsPass last.old }
-    requires helper_table { helper.old.token.view.table ≡ table.now.table }
-    requires helper_ready { IsReady helper.old }
-    requires builder_table { builder.old.token.view.table ≡ table.now.table }
-    requires builder_ready { IsReady builder.old }
+    requires last_pass { IsAtTable table.now IsPass last.old }
+    requires helper_ready { IsAtTable table.now IsReady helper.old }
+    requires builder_ready { IsAtTable table.now IsReady builder.old }
 {
     let Some((put, installed, rebuild)) = freeze(table, last, helper, shape.late) else {
         return Ok(None);
     };
-    let tags = tags(table, maker);
+    // the row over all pairs lies at 4, and the first of its 14 slots at 21
+    let tags = (
+        word_at(table, maker, 21) % 8,
+        word_at(table, maker, 22) % 8,
+        word_at(table, maker, 23) % 8,
+    );
     let map = map_of(alloc, shape)?;
     let rebuilt = rebuild_over(table, alloc, maker, helper, builder, rebuild, &map)?;
-    let late = end_late(table, last, put, installed);
+    let late = match installed {
+        Some(Installed::Yes) => Some(help(table, &mut last.token, put.change)),
+        _ => None,
+    };
     Ok(Some(FrozenRow {
         tags,
         rebuilt,
@@ -210,10 +180,7 @@ fn see_in(
     maker: &mut TreeToken,
     shape: Shape,
 ) -> Result<Option<FrozenRow>, OpenFault>
-    requires same_table { maker.old.view.table ≡ table.now.table }
-    requires maker { maker.old.view.who ≡ Maker }
-    requires given { maker.old.view.given ≡ maker.old.view.made }
-    requires made { maker.old.view.made ≡ 0 }
+    requires maker { IsMakerAt table.now 0 maker.old }
 {
     if !bring_in(table, alloc, maker, shape)? {
         return Ok(None);

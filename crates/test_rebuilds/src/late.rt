@@ -59,7 +59,6 @@ fn inner_in(word: u64) -> Option<u32>
 // below it.
 fn walk(table: &TreeTable, token: &mut TreeToken, key: u64) -> Option<Slot>
     requires same_table { token.old.view.table ≡ table.now.table }
-    ensures same_table { token.new.view.table ≡ table.now.table }
     ensures walked { IfSome result (λ slot.
         HasReachedSlot token.old.view key slot.node slot.index slot.word token.new.view) }
 {
@@ -134,7 +133,6 @@ fn plan(
 ) -> Result<LatePut, Full>
     requires caller { IsAtTable table.now IsCaller who.old }
     requires refused { HasRefused who.old }
-    ensures same_table { who.new.token.view.table ≡ table.now.table }
     ensures gone { IfOk result (λ put. HasGone Prepares who.old who.new) }
     ensures rows { IfOk result (λ put. HasBoth who.new put.change put.leaf) }
     ensures good { IfOk result (λ put. IsGoodBase put.leaf) }
@@ -192,12 +190,11 @@ fn fill_for(
     key: u64,
     value: u64,
 ) -> Option<LatePut>
-    requires same_table { who.old.token.view.table ≡ table.now.table }
-    requires asked { IsAsked who.old (Put key value) }
+    requires asked { IsAtTable table.now (λ x. IsAsked x (Put key value)) who.old }
     requires at_slot { WasAt who.old.token.view key slot.node slot.index slot.word }
     requires room { HasRoomFor (now who.old.token.view) key slot.word }
-    ensures same_table { who.new.token.view.table ≡ table.now.table }
-    ensures filled { IfSome result (λ put. IsFilled who.new put.change put.leaf put.row) }
+    ensures filled { IfSome result (λ put.
+        IsAtTable table.now (λ x. IsFilled x put.change put.leaf put.row) who.new) }
 {
     if !is_open(table, &mut who.token, slot.node) {
         return None;
@@ -214,8 +211,8 @@ fn fill_for(
 /// steps before the install, and no further step.
 pub(crate) fn prepare(table: &TreeTable, who: &mut Caller, key: u64, value: u64) -> Option<LatePut>
     requires pass { IsAtTable table.now IsPass who.old }
-    ensures same_table { who.new.token.view.table ≡ table.now.table }
-    ensures filled { IfSome result (λ put. IsFilled who.new put.change put.leaf put.row) }
+    ensures filled { IfSome result (λ put.
+        IsAtTable table.now (λ x. IsFilled x put.change put.leaf put.row) who.new) }
 {
     ask(table, who, key, Some(value));
     let Some(slot) = walk(table, &mut who.token, key) else {
@@ -231,11 +228,10 @@ pub(crate) fn prepare(table: &TreeTable, who: &mut Caller, key: u64, value: u64)
 /// Installs the change.
 pub(crate) fn install_late(table: &TreeTable, who: &mut Caller, put: LatePut) -> Installed
     ghost filling: { Filling }
-    requires same_table { who.old.token.view.table ≡ table.now.table }
     requires is_put { filling ≡ put_of put.leaf put.row }
-    requires filled { IsFilled who.old put.change put.leaf put.row }
-    ensures same_table { who.new.token.view.table ≡ table.now.table }
-    ensures may_help { result ≡ Yes → MayHelp who.new.token.view put.change }
+    requires filled { IsAtTable table.now (λ x. IsFilled x put.change put.leaf put.row) who.old }
+    ensures may_help { result ≡ Yes
+        → IsAtTable table.now (λ x. MayHelp x.token.view put.change) who.new }
 {
     know(&who.token);
     install(table, &mut who.token, put.change)

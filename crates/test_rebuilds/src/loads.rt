@@ -1,5 +1,5 @@
 //! How many words are loaded on the way to a leaf of a large finished row.
-ghost use Rattle.std.specs.Prelude.{◌≡◌, ◌<◌};
+ghost use Rattle.std.specs.Prelude.{◌<◌};
 ghost use Rattle.test_rebuilds.specs.Steps.{HasMarkedTarget};
 ghost use Rattle.ist_rows.specs.Going.{IsReady};
 ghost use Rattle.ist_rows.specs.Rows.{IsAtTable};

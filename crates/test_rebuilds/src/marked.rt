@@ -6,6 +6,7 @@ ghost use Rattle.test_rebuilds.specs.Late.{IsFilled};
 ghost use Rattle.test_rebuilds.specs.Steps.{HasDue};
 ghost use Rattle.ist_tree.specs.Insides.{IsPass};
 ghost use Rattle.ist_rows.specs.Going.{IsReady};
+ghost use Rattle.ist_rows.specs.Rows.{IsAtTable};
 
 use crate::callers::{begin, enter_call, help_on, mark, see_rebuild, see_row};
 use crate::judging::same;
@@ -58,14 +59,6 @@ struct Late {
     is_as_before: bool,
 }
 
-// The status and the count of the row over both pairs.
-fn top_words(table: &TreeTable, token: &mut TreeToken) -> (u64, u64)
-    requires same_table { token.old.view.table ≡ table.now.table }
-    ensures same_table { token.new.view.table ≡ table.now.table }
-{
-    (word_at(table, token, 4), word_at(table, token, 5))
-}
-
 // Installs the put into the slot at the place, and helps it.
 fn put_late(
     table: &TreeTable,
@@ -74,9 +67,8 @@ fn put_late(
     put: LatePut,
     place: u64,
 ) -> Late
-    requires same_table { who.old.token.view.table ≡ table.now.table }
     requires maker_table { maker.old.view.table ≡ table.now.table }
-    requires filled { IsFilled who.old put.change put.leaf put.row }
+    requires filled { IsAtTable table.now (λ x. IsFilled x put.change put.leaf put.row) who.old }
     ensures maker_table { maker.new.view.table ≡ table.now.table }
 {
     let before = word_at(table, maker, place);
@@ -104,10 +96,8 @@ fn start_both(
     due: Due,
     target: u32,
 ) -> (Result<Started, Full>, Result<Started, Full>)
-    requires first_table { first.old.token.view.table ≡ table.now.table }
-    requires due { HasDue first.old due }
-    requires second_table { second.old.token.view.table ≡ table.now.table }
-    requires second_ready { IsReady second.old }
+    requires due { IsAtTable table.now (λ x. HasDue x due) first.old }
+    requires second_ready { IsAtTable table.now IsReady second.old }
     requires may_start { MayStart second.old.token.view anchor 0 target }
 {
     (start_due(table, first, due), begin(table, second, target))
@@ -126,16 +116,15 @@ fn freeze_and_put(
     place: u64,
 ) -> Option<Frozen>
     requires maker_table { maker.old.view.table ≡ table.now.table }
-    requires third_table { third.old.token.view.table ≡ table.now.table }
-    requires third_ready { IsReady third.old }
-    requires fourth_table { fourth.old.token.view.table ≡ table.now.table }
-    requires filled { IsFilled fourth.old put.change put.leaf put.row }
+    requires third_ready { IsAtTable table.now IsReady third.old }
+    requires filled { IsAtTable table.now (λ x. IsFilled x put.change put.leaf put.row) fourth.old }
 {
     let Some(rebuild) = see_rebuild(table, third) else {
         return None;
     };
     let keys = mark(table, third, rebuild).keys;
-    let row = top_words(table, maker);
+    // the row over both pairs lies at 4
+    let row = (word_at(table, maker, 4), word_at(table, maker, 5));
     let late = put_late(table, maker, fourth, put, place);
     Some((keys, row, late, help_on(table, third, rebuild)))
 }
@@ -151,14 +140,10 @@ fn see_in(
     at: (u64, u64),
 ) -> Option<MarkedStarts>
     requires maker_table { maker.old.view.table ≡ table.now.table }
-    requires first_table { first.old.token.view.table ≡ table.now.table }
-    requires second_table { second.old.token.view.table ≡ table.now.table }
-    requires third_table { third.old.token.view.table ≡ table.now.table }
-    requires fourth_table { fourth.old.token.view.table ≡ table.now.table }
-    requires first_pass { IsPass first.old }
-    requires second_ready { IsReady second.old }
-    requires third_ready { IsReady third.old }
-    requires fourth_pass { IsPass fourth.old }
+    requires first_pass { IsAtTable table.now IsPass first.old }
+    requires second_ready { IsAtTable table.now IsReady second.old }
+    requires third_ready { IsAtTable table.now IsReady third.old }
+    requires fourth_pass { IsAtTable table.now IsPass fourth.old }
 {
     let target = see_row(table, second)?;
     if !update_all(table, first, &SEVEN) {

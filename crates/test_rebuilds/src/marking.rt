@@ -29,11 +29,9 @@ fn mark_in_turn(
     rebuilds: (u32, u32),
 ) -> Turns
     requires maker_table { maker.old.view.table ≡ table.now.table }
-    requires first_table { first.old.token.view.table ≡ table.now.table }
-    requires first_ready { IsReady first.old }
+    requires first_ready { IsAtTable table.now IsReady first.old }
     requires first_started { IsStarted (now first.old.token.view) rebuilds.0 }
-    requires second_table { second.old.token.view.table ≡ table.now.table }
-    requires second_ready { IsReady second.old }
+    requires second_ready { IsAtTable table.now IsReady second.old }
     requires second_started { IsStarted (now second.old.token.view) rebuilds.1 }
 {
     let clear = word_at(table, maker, 4);
@@ -90,24 +88,20 @@ fn mark_beside<R: Threads + Sync>(
     second: Caller,
     rebuilds: (u32, u32),
 ) -> (u64, u64)
-    requires first_table { first.token.view.table ≡ table.now.table }
-    requires first_ready { IsReady first }
+    requires first_ready { IsAtTable table.now IsReady first }
     requires first_started { IsStarted (now first.token.view) rebuilds.0 }
-    requires second_table { second.token.view.table ≡ table.now.table }
-    requires second_ready { IsReady second }
+    requires second_ready { IsAtTable table.now IsReady second }
     requires second_started { IsStarted (now second.token.view) rebuilds.1 }
 {
     let (one, two) = rebuilds;
     join(
         rt,
         ||
-            requires same_table { first.token.view.table ≡ table.now.table }
-            requires ready { IsReady first }
+            requires ready { IsAtTable table.now IsReady first }
             requires started { IsStarted (now first.token.view) one }
         { mark_moved(table, first, one) },
         ||
-            requires same_table { second.token.view.table ≡ table.now.table }
-            requires ready { IsReady second }
+            requires ready { IsAtTable table.now IsReady second }
             requires started { IsStarted (now second.token.view) two }
         { mark_moved(table, second, two) },
     )

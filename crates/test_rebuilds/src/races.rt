@@ -21,15 +21,15 @@ use ist_rebuild::Helped;
 use ist_rows::Caller;
 use ist_rule::{TreeTable, TreeToken, exchange_or_lose, know, load};
 use ist_tree::OpenFault;
-use std::alloc::{AllocError, Global};
+use std::alloc::Global;
 
 // Builds the root over two keys, in a row of the caller's own, and then looks whether the rebuild
 // has a root. If it has none yet, returns the word of what was built.
 fn build(table: &TreeTable, who: &mut Caller, rebuild: u32, marked: Marked) -> Option<u64>
     requires ready { IsAtTable table.now IsReady who.old }
     requires marked { HasMarkedTarget (now who.old.token.view) rebuild marked.target marked.keys }
-    ensures same_table { who.new.token.view.table ≡ table.now.table }
-    ensures built { IfSome result (HoldsRoot who.new.token.view who.new.number rebuild) }
+    ensures built { IfSome result (λ word.
+        IsAtTable table.now (λ x. HoldsRoot x.token.view x.number rebuild word) who.new) }
 {
     know(&who.token);
     if marked.keys != 2 {
@@ -54,8 +54,7 @@ fn build(table: &TreeTable, who: &mut Caller, rebuild: u32, marked: Marked) -> O
 // Gives the rebuild the root that was built, if it has none, and otherwise loses the row. Returns
 // the word found there.
 fn root_or_lose(table: &TreeTable, who: &mut Caller, rebuild: u32, word: u64) -> u64
-    requires same_table { who.old.token.view.table ≡ table.now.table }
-    requires built { HoldsRoot who.old.token.view who.old.number rebuild word }
+    requires built { IsAtTable table.now (λ x. HoldsRoot x.token.view x.number rebuild word) who.old }
     ensures rooted_or_lost { let v = who.old.token.view in
         let place = rebuild + rebuild_root_offset in
         let events = racing_at v place word in
@@ -83,10 +82,8 @@ fn race(
     rebuild: u32,
     again: u32,
 ) -> Option<Raced>
-    requires first_table { first.old.token.view.table ≡ table.now.table }
-    requires second_table { second.old.token.view.table ≡ table.now.table }
-    requires first_ready { IsReady first.old }
-    requires second_ready { IsReady second.old }
+    requires first_ready { IsAtTable table.now IsReady first.old }
+    requires second_ready { IsAtTable table.now IsReady second.old }
     requires first_started { IsStarted (now first.old.token.view) rebuild }
     requires second_started { IsStarted (now second.old.token.view) again }
 {
@@ -116,23 +113,6 @@ fn end(table: &TreeTable, who: &mut Caller, rebuild: u32) -> (Option<Ref>, bool)
     (root, help_on(table, who, rebuild) == Ok(Helped::Replaced))
 }
 
-// Does some word of the table name the row that the second of the two built?
-fn names_lost(
-    table: &TreeTable,
-    alloc: Global,
-    maker: &mut TreeToken,
-    raced: Option<Raced>,
-) -> Result<bool, AllocError>
-    requires same_table { maker.old.view.table ≡ table.now.table }
-{
-    let lost = match raced {
-        Some(raced) => raced.built.1,
-        None => 0,
-    };
-    let words = all_words(alloc, table, maker)?;
-    Ok(words.as_slice().contains(&lost))
-}
-
 // What is seen if two callers each build a root for a rebuild that a third has started: the
 // rebuilds that all found; the result of the race; the root that the starter gets, and whether the
 // target is then replaced; the used words and the root below the anchor afterwards, and whether the
@@ -157,12 +137,9 @@ fn see_in(
     image: &[u64],
 ) -> Result<Option<RootRace>, OpenFault>
     requires maker_table { maker.old.view.table ≡ table.now.table }
-    requires starter_table { starter.old.token.view.table ≡ table.now.table }
-    requires first_table { first.old.token.view.table ≡ table.now.table }
-    requires second_table { second.old.token.view.table ≡ table.now.table }
-    requires starter_ready { IsReady starter.old }
-    requires first_ready { IsReady first.old }
-    requires second_ready { IsReady second.old }
+    requires starter_ready { IsAtTable table.now IsReady starter.old }
+    requires first_ready { IsAtTable table.now IsReady first.old }
+    requires second_ready { IsAtTable table.now IsReady second.old }
 {
     let Some(rebuild) = begin_top(table, starter) else {
         return Ok(None);
@@ -173,7 +150,12 @@ fn see_in(
     let raced = race(table, first, second, one, two);
     let ended = end(table, starter, rebuild);
     let words = root_in(table, alloc, maker, image)?;
-    let names_lost = names_lost(table, alloc, maker, raced)?;
+    let lost = match raced {
+        Some(raced) => raced.built.1,
+        None => 0,
+    };
+    let all = all_words(alloc, table, maker)?;
+    let names_lost = all.as_slice().contains(&lost);
     Ok(Some(RootRace {
         rebuilds: (rebuild, one, two),
         raced,

@@ -1,6 +1,6 @@
 //! Trees whose top row has pair rows, another rebuild and plain leaves in its slots, and the map of what they hold.
 ghost use Rattle.std.specs.Prelude.{◌≡◌, true, Ok};
-ghost use Rattle.ist_core.specs.declared.events.Who.TheVariants.{Maker};
+ghost use Rattle.test_rebuilds.specs.Steps.{IsMakerAt};
 ghost use Rattle.ist_rows.specs.Rows.{IsAtTable};
 ghost use Rattle.ist_tree.specs.Insides.{IsPass};
 
@@ -79,8 +79,7 @@ fn shrink(
     first: u64,
 ) -> Result<bool, AllocError>
     requires pass { IsAtTable table.now IsPass most.old }
-    requires its_table { rest.old.token.view.table ≡ table.now.table }
-    requires its_pass { IsPass rest.old }
+    requires its_pass { IsAtTable table.now IsPass rest.old }
     ensures pass { result ≡ Ok true → IsAtTable table.now IsPass most.new }
 {
     let last = first.saturating_add(14);
@@ -100,8 +99,7 @@ fn start_second(
     starter: &mut Caller,
 ) -> Result<bool, AllocError>
     requires pass { IsAtTable table.now IsPass most.old }
-    requires its_table { starter.old.token.view.table ≡ table.now.table }
-    requires its_pass { IsPass starter.old }
+    requires its_pass { IsAtTable table.now IsPass starter.old }
     ensures pass { result ≡ Ok true → IsAtTable table.now IsPass most.new }
 {
     let updates = puts(alloc, 16, 7)?;
@@ -148,12 +146,9 @@ fn bring(
     shape: Shape,
 ) -> Result<bool, OpenFault>
     requires pass { IsAtTable table.now IsPass most.old }
-    requires first_table { first.old.token.view.table ≡ table.now.table }
-    requires first_pass { IsPass first.old }
-    requires second_table { second.old.token.view.table ≡ table.now.table }
-    requires second_pass { IsPass second.old }
-    requires third_table { third.old.token.view.table ≡ table.now.table }
-    requires third_pass { IsPass third.old }
+    requires first_pass { IsAtTable table.now IsPass first.old }
+    requires second_pass { IsAtTable table.now IsPass second.old }
+    requires third_pass { IsAtTable table.now IsPass third.old }
 {
     if !shrink(table, alloc, most, first, 1)? || !shrink(table, alloc, most, third, 31)? {
         return Ok(false);
@@ -172,14 +167,8 @@ pub(crate) fn bring_in(
     maker: &mut TreeToken,
     shape: Shape,
 ) -> Result<bool, OpenFault>
-    requires same_table { maker.old.view.table ≡ table.now.table }
-    requires maker { maker.old.view.who ≡ Maker }
-    requires given { maker.old.view.given ≡ maker.old.view.made }
-    requires made { maker.old.view.made ≡ 0 }
-    ensures same_table { maker.new.view.table ≡ table.now.table }
-    ensures maker { maker.new.view.who ≡ Maker }
-    ensures given { maker.new.view.given ≡ maker.new.view.made }
-    ensures made { maker.new.view.made ≡ 4 }
+    requires maker { IsMakerAt table.now 0 maker.old }
+    ensures maker { IsMakerAt table.now 4 maker.new }
 {
     let mut most = enter_idle(table, maker);
     let mut first = enter_idle(table, maker);

@@ -89,10 +89,8 @@ fn share_in(
     image: &[u64],
 ) -> Result<Option<Shared>, OpenFault>
     requires maker_table { maker.old.view.table ≡ table.now.table }
-    requires first_table { first.old.token.view.table ≡ table.now.table }
-    requires first_ready { IsReady first.old }
-    requires second_table { second.old.token.view.table ≡ table.now.table }
-    requires second_ready { IsReady second.old }
+    requires first_ready { IsAtTable table.now IsReady first.old }
+    requires second_ready { IsAtTable table.now IsReady second.old }
 {
     let Some(rebuild) = begin_top(table, first) else {
         return Ok(None);
@@ -185,24 +183,20 @@ fn help_beside<R: Threads + Sync>(
     second: Caller,
     rebuilds: (u32, u32),
 ) -> (bool, bool)
-    requires first_table { first.token.view.table ≡ table.now.table }
-    requires first_ready { IsReady first }
+    requires first_ready { IsAtTable table.now IsReady first }
     requires first_started { IsStarted (now first.token.view) rebuilds.0 }
-    requires second_table { second.token.view.table ≡ table.now.table }
-    requires second_ready { IsReady second }
+    requires second_ready { IsAtTable table.now IsReady second }
     requires second_started { IsStarted (now second.token.view) rebuilds.1 }
 {
     let (one, two) = rebuilds;
     join(
         rt,
         ||
-            requires same_table { first.token.view.table ≡ table.now.table }
-            requires ready { IsReady first }
+            requires ready { IsAtTable table.now IsReady first }
             requires started { IsStarted (now first.token.view) one }
         { help_moved(table, first, one) },
         ||
-            requires same_table { second.token.view.table ≡ table.now.table }
-            requires ready { IsReady second }
+            requires ready { IsAtTable table.now IsReady second }
             requires started { IsStarted (now second.token.view) two }
         { help_moved(table, second, two) },
     )

@@ -40,10 +40,8 @@ fn still_in(
     second: &mut Caller,
 ) -> Still
     requires maker_table { maker.old.view.table ≡ table.now.table }
-    requires first_table { first.old.token.view.table ≡ table.now.table }
-    requires first_ready { IsReady first.old }
-    requires second_table { second.old.token.view.table ≡ table.now.table }
-    requires second_pass { IsPass second.old }
+    requires first_ready { IsAtTable table.now IsReady first.old }
+    requires second_pass { IsAtTable table.now IsPass second.old }
 {
     let rebuild = begin_top(table, first);
     let updated = update_all(table, second, &[(10, Some(7)), (20, None)]);
@@ -139,11 +137,9 @@ fn help_both(
     rebuilds: (u32, u32),
     early: bool,
 ) -> (Option<Result<Helped, Full>>, u64, Result<Helped, Full>)
-    requires low_table { low.old.token.view.table ≡ table.now.table }
-    requires low_ready { IsReady low.old }
+    requires low_ready { IsAtTable table.now IsReady low.old }
     requires low_started { IsStarted (now low.old.token.view) rebuilds.0 }
-    requires high_table { high.old.token.view.table ≡ table.now.table }
-    requires high_ready { IsReady high.old }
+    requires high_ready { IsAtTable table.now IsReady high.old }
     requires high_started { IsStarted (now high.old.token.view) rebuilds.1 }
 {
     let (below, above) = rebuilds;
@@ -165,12 +161,9 @@ fn rebuild_both(
     early: bool,
 ) -> Result<Option<Both>, OpenFault>
     requires maker_table { maker.old.view.table ≡ table.now.table }
-    requires most_table { most.old.token.view.table ≡ table.now.table }
-    requires most_pass { IsPass most.old }
-    requires low_table { low.old.token.view.table ≡ table.now.table }
-    requires low_pass { IsPass low.old }
-    requires high_table { high.old.token.view.table ≡ table.now.table }
-    requires high_ready { IsReady high.old }
+    requires most_pass { IsAtTable table.now IsPass most.old }
+    requires low_pass { IsAtTable table.now IsPass low.old }
+    requires high_ready { IsAtTable table.now IsReady high.old }
 {
     let Some((due, below)) = start_after(table, most, low, &SEVEN, 16, Some(8)) else {
         return Ok(None);

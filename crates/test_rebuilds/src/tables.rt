@@ -1,7 +1,7 @@
 //! Tables of a given number of pairs, and what their words hold.
 ghost use Rattle.std.specs.Prelude.{◌≡◌, ◌≤◌, ◌<◌, ◌^◌, length, map, IfOk};
 ghost use Rattle.std.specs.List.Sorted.{IsStrictlyIncreasing};
-ghost use Rattle.ist_core.specs.declared.events.Who.TheVariants.{Maker};
+ghost use Rattle.test_rebuilds.specs.Steps.{IsMakerAt};
 ghost use Rattle.ist_core.specs.RowLayout.{place_limit};
 
 use ist_core::{Command, Pair};
@@ -25,10 +25,7 @@ fn open_rising(alloc: Global, pairs: &[Pair], words: u64) -> Result<Opened, Open
     requires rising { IsStrictlyIncreasing (map (λ pair. pair.key) pairs.now) }
     requires few { length pairs.now < 2 ^ 32 }
     requires within { words ≤ place_limit }
-    ensures same_table { IfOk result (λ o. o.maker.view.table ≡ o.table.table) }
-    ensures maker { IfOk result (λ o. o.maker.view.who ≡ Maker) }
-    ensures given { IfOk result (λ o. o.maker.view.given ≡ o.maker.view.made) }
-    ensures made { IfOk result (λ o. o.maker.view.made ≡ 0) }
+    ensures maker { IfOk result (λ o. IsMakerAt o.table 0 o.maker) }
 {
     let needed = needed_words(pairs.len() as u64);
     if words < needed {
@@ -47,10 +44,7 @@ fn open_rising(alloc: Global, pairs: &[Pair], words: u64) -> Result<Opened, Open
 /// A table of these pairs.
 pub(crate) fn open(alloc: Global, pairs: &[Pair], words: u64) -> Result<Opened, OpenFault>
     requires within { words ≤ place_limit }
-    ensures same_table { IfOk result (λ o. o.maker.view.table ≡ o.table.table) }
-    ensures maker { IfOk result (λ o. o.maker.view.who ≡ Maker) }
-    ensures given { IfOk result (λ o. o.maker.view.given ≡ o.maker.view.made) }
-    ensures made { IfOk result (λ o. o.maker.view.made ≡ 0) }
+    ensures maker { IfOk result (λ o. IsMakerAt o.table 0 o.maker) }
 {
     let mut plain = Plain::new(alloc);
     for pair in pairs {
@@ -79,10 +73,7 @@ pub(crate) fn numbered(alloc: Global, last: u64) -> Result<Vec<Pair>, AllocError
 pub(crate) fn open_numbered(alloc: Global, last: u64, words: u64) -> Result<Opened, OpenFault>
     requires few { last ≤ 100000 }
     requires within { words ≤ place_limit }
-    ensures same_table { IfOk result (λ o. o.maker.view.table ≡ o.table.table) }
-    ensures maker { IfOk result (λ o. o.maker.view.who ≡ Maker) }
-    ensures given { IfOk result (λ o. o.maker.view.given ≡ o.maker.view.made) }
-    ensures made { IfOk result (λ o. o.maker.view.made ≡ 0) }
+    ensures maker { IfOk result (λ o. IsMakerAt o.table 0 o.maker) }
 {
     let pairs = numbered(alloc, last)?;
     open(alloc, pairs.as_slice(), words)

@@ -79,10 +79,8 @@ fn see_in(
     image: &[u64],
 ) -> Result<Option<TakenTurns>, OpenFault>
     requires maker_table { maker.old.view.table ≡ table.now.table }
-    requires starter_table { starter.old.token.view.table ≡ table.now.table }
-    requires starter_ready { IsReady starter.old }
-    requires helper_table { helper.old.token.view.table ≡ table.now.table }
-    requires helper_ready { IsReady helper.old }
+    requires starter_ready { IsAtTable table.now IsReady starter.old }
+    requires helper_ready { IsAtTable table.now IsReady helper.old }
 {
     let (Some(one), Some(two)) = (see_row(table, starter), see_row(table, helper)) else {
         return Ok(None);

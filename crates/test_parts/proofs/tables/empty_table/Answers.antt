@@ -1,6 +1,3 @@
-use Rattle.std.proofs.Common.{ap}
-use Rattle.std.proofs.lemmas.Result.{IfOk-weaker}
-use Rattle.ist_rule.specs.declared.view.View.{View}
 use Rattle.ist_rows.proofs.EmptyLemmas.{zeros_open, zeros_image}
 use Rattle.test_parts.proofs.tables.empty_table.Goals as goal
 
@@ -16,9 +13,3 @@ pub open_table-requires-clause-image : goal.open_table-requires-clause-image
 open_table-requires-clause-image c =
     zeros_image _ c.new-pairs.ensures.items c.args.words _
     (c.in_ok-image.ensures.items_if_clones_equal λ x same. same) c.requires.enough
-
--- the token is of the table
-pub returns-clause-same_table : goal.returns-clause-same_table
-returns-clause-same_table c =
-    IfOk-weaker c.open_table.result _ _ (λ t h. ap (λ (v : View). v.table) h)
-    c.open_table.ensures.token

@@ -13,27 +13,32 @@ is_open-requires-clause-node c = slot_node _ _ c.requires.at_slot
 
 pub plan-requires-clause-caller : goal.plan-requires-clause-caller
 plan-requires-clause-caller c =
-    let gone = loads_gone Prepares c.args.who.now c.is_open.new.token c.requires.asked.caller
-    c.requires.asked.refused c.is_open.ensures.seen in
+    let gone = loads_gone Prepares c.args.who.now c.is_open.new.token c.requires.asked.0.caller
+    c.requires.asked.0.refused c.is_open.ensures.seen in
     (gone.caller, search rules)
 
 pub plan-requires-clause-refused : goal.plan-requires-clause-refused
 plan-requires-clause-refused c =
-    (loads_gone Prepares c.args.who.now c.is_open.new.token c.requires.asked.caller
-    c.requires.asked.refused c.is_open.ensures.seen).refused
+    (loads_gone Prepares c.args.who.now c.is_open.new.token c.requires.asked.0.caller
+    c.requires.asked.0.refused c.is_open.ensures.seen).refused
 
 -- which was open, so that the change may be installed
-pub returns-clause-filled : goal.returns-clause-filled
-returns-clause-filled c = record {
-  caller = c.fill_both.ensures.caller;
-  installable = put_filled c.args.who.now (record c.args.who.now { token = c.is_open.new.token })
-      c.plan.new.who c.fill_both.new.who _ _ _ _ _ c.in-Ok.put.change c.in-Ok.put.leaf
-      c.in-Ok.put.row c.requires.asked
-      (loads_gone Prepares c.args.who.now c.is_open.new.token c.requires.asked.caller
-      c.requires.asked.refused c.is_open.ensures.seen)
-      (slot_loads _ _ c.requires.at_slot _ c.is_open.ensures.seen)
-      (room_grows _ _ (goes_on_grow _ _ c.is_open.ensures.seen) c.args.key c.args.slot.word c.requires.room)
-      (c.is_open.ensures.unrefused c.args.who.now.number c.if-not-is_open.false)
-      c.in-Ok.ensures.gone c.in-Ok.ensures.rows c.in-Ok.ensures.good c.in-Ok.ensures.row
-      c.fill_both.ensures.caller c.know.ensures.sound c.fill_both.ensures.same c.fill_both.ensures.stored;
+pub returns : goal.returns
+returns c = record {
+  filled = (
+    record {
+      caller = c.fill_both.ensures.caller;
+      installable = put_filled c.args.who.now (record c.args.who.now { token = c.is_open.new.token })
+          c.plan.new.who c.fill_both.new.who _ _ _ _ _ c.in-Ok.put.change c.in-Ok.put.leaf
+          c.in-Ok.put.row c.requires.asked.0
+          (loads_gone Prepares c.args.who.now c.is_open.new.token c.requires.asked.0.caller
+          c.requires.asked.0.refused c.is_open.ensures.seen)
+          (slot_loads _ _ c.requires.at_slot _ c.is_open.ensures.seen)
+          (room_grows _ _ (goes_on_grow _ _ c.is_open.ensures.seen) c.args.key c.args.slot.word c.requires.room)
+          (c.is_open.ensures.unrefused c.args.who.now.number c.if-not-is_open.false)
+          c.in-Ok.ensures.gone c.in-Ok.ensures.rows c.in-Ok.ensures.good c.in-Ok.ensures.row
+          c.fill_both.ensures.caller c.know.ensures.sound c.fill_both.ensures.same c.fill_both.ensures.stored;
+    },
+    search rules,
+  );
 }

@@ -1,6 +1,7 @@
 use Rattle.std.proofs.Common.{◌≡◌}
 use Rattle.test_rebuilds.specs.Steps.{HasMarkedTarget}
 use Rattle.ist_rows.specs.Going.{IsReady}
+use Rattle.ist_rows.specs.Rows.{IsAtTable}
 use Rattle.ist_rule.specs.Learning.{now}
 use Rattle.test_rebuilds.proofs.leaves.are_pairs.Given as goal
 
@@ -8,6 +9,5 @@ use Rattle.test_rebuilds.proofs.leaves.are_pairs.Given as goal
 abbrev pub invariant-loop-i : goal.invariant-loop-i
 invariant-loop-i l =
     (l.maker.view.table ≡ l.table.table)
-    × (l.who.token.view.table ≡ l.table.table)
-    × IsReady l.who
+    × IsAtTable l.table IsReady l.who
     × HasMarkedTarget (now l.who.token.view) l.rebuild l.marked.target l.marked.keys

@@ -1,4 +1,4 @@
-use Rattle.std.proofs.Common.{◌+◌, ap, ◌∙◌, arith}
+use Rattle.std.proofs.Common.{◌+◌, ap, ◌∙◌, arith, rules}
 use Rattle.ist_core.specs.References.{ref_of}
 use Rattle.ist_core.proofs.ReferenceLemmas.{ref_of-word_of}
 use Rattle.test_rebuilds.specs.Races.{HasLaid}
@@ -33,8 +33,12 @@ load-stood-requires-clause-no_walk c first =
     absurd (omega (arith, c.from.ensures, laid_above _ _ _ _ c.know-2.ensures.sound (laid at)))
 
 -- and it has no root
-pub returns-clause-built : goal.returns-clause-built
-returns-clause-built c =
+pub returns : goal.returns
+returns c = record {
+  built = (
     has_built _ c.load-stood.new.token.view _ c.args.rebuild (c.from.result + 3) _ _
-    c.know-2.ensures.sound (omega (arith, c.from.ensures)) c.load-stood.ensures.looked
-    (c.if-stood-to_word.false ∙ c.to_word.ensures.value) (laid (goal.at.returns-clause-built c).After-know-2)
+        c.know-2.ensures.sound (omega (arith, c.from.ensures)) c.load-stood.ensures.looked
+        (c.if-stood-to_word.false ∙ c.to_word.ensures.value) (laid (goal.at.returns c).After-know-2),
+    search rules,
+  );
+}

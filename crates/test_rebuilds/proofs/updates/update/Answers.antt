@@ -1,4 +1,4 @@
-use Rattle.std.proofs.Common.{ap, subst, sym, ◌∙◌}
+use Rattle.std.proofs.Common.{ap, subst, sym, ◌∙◌, rules}
 use Rattle.ist_rule.specs.declared.view.View.{View}
 use Rattle.ist_updates.specs.Asking.{MayEnd, command_for}
 use Rattle.test_rebuilds.proofs.UpdateLemmas.{ended_pass, may_end}
@@ -18,7 +18,11 @@ end_call-requires c =
     )
 
 -- and its caller is in none then
-pub returns-in_default-clause-pass : goal.returns-in_default-clause-pass
-returns-in_default-clause-pass c _ =
+pub returns-in_default : goal.returns-in_default
+returns-in_default c = record {
+  pass = λ _. (
     ended_pass c.apply.new.who c.end_call.new.token _ c.in-Ok.ensures.caller c.in-Ok.ensures.refused
-    c.end_call.ensures.ended
+        c.end_call.ensures.ended,
+    search rules,
+  );
+}

@@ -1,7 +1,7 @@
-use Rattle.std.proofs.Common.{◌≡◌}
+use Rattle.ist_rows.specs.Rows.{IsAtTable}
 use Rattle.ist_tree.specs.Insides.{IsPass}
 use Rattle.test_rebuilds.proofs.updates.update_all.Given as goal
 
 -- the caller is of the table, and in no call
 abbrev pub invariant-loop-key : goal.invariant-loop-key
-invariant-loop-key l = (l.who.token.view.table ≡ l.table.table) × IsPass l.who
+invariant-loop-key l = IsAtTable l.table IsPass l.who

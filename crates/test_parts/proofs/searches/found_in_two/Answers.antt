@@ -1,15 +1,13 @@
-use Rattle.std.proofs.Common.{◌∷◌, [], refl, subst, sym, ap, ap₂, ◌∙◌}
-use Rattle.std.proofs.lemmas.Result.{IfOk-weaker}
+use Rattle.std.proofs.Common.{◌∷◌, [], refl}
 use Rattle.ist_core.specs.Arithmetic.{degree, square_root, root_up_to, part_len, part_lens}
 use Rattle.ist_core.specs.Shapes.{ideal_words, ideal_words_within}
 use Rattle.ist_core.specs.ExampleTables.{two_pairs}
 use Rattle.ist_core.specs.StartLayout.{rows_within}
 use Rattle.ist_image.proofs.RisingLemmas.{two_open}
 use Rattle.ist_rule.specs.declared.view.TableName.{TableName}
-use Rattle.ist_rule.specs.declared.view.View.{View}
 use Rattle.ist_rule.specs.Rule.{opened_view}
 use Rattle.ist_find.specs.Searches.{IsRow}
-use Rattle.test_parts.proofs.searches.two_pairs.Goals as goal
+use Rattle.test_parts.proofs.searches.found_in_two.Goals as goal
 
 -- the table may begin with the pairs
 pub lay_image-requires : goal.lay_image-requires
@@ -26,13 +24,6 @@ row_there table = record {
   published = refl;
 }
 
--- the token is of the table
-pub returns-clause-same_table : goal.returns-clause-same_table
-returns-clause-same_table c =
-    IfOk-weaker c.open_table.result _ _ (λ t h. ap (λ (v : View). v.table) h) c.open_table.ensures.token
-
-pub returns-clause-row : goal.returns-clause-row
-returns-clause-row c =
-    IfOk-weaker c.open_table.result _ _ (λ t h. subst (λ v. IsRow v 4)
-    (sym (h ∙ ap₂ (opened_view t.0.table) c.in_ok-pairs.ensures.items c.in_ok-image.ensures.size))
-    (row_there t.0.table)) c.open_table.ensures.token
+pub child_at-child-requires-clause-row : goal.child_at-child-requires-clause-row
+child_at-child-requires-clause-row c =
+    rw (c.in_ok-table.ensures.token, c.in_ok-pairs.ensures.items, c.in_ok-image.ensures.size) (row_there _)
