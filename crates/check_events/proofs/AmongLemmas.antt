@@ -1,24 +1,6 @@
 -- A search finds a number exactly if it is among the others. Serves `kinds.rt` and `shapes.rt`, and
 -- whoever looks for a base twice.
-use Rattle.std.proofs.Common.{
-  ◌≡◌,
-  ◌↔◌,
-  ◌==◌,
-  ◌||◌,
-  Bool,
-  true,
-  false,
-  ℕ,
-  IsTrue,
-  List,
-  [],
-  ◌∷◌,
-  refl,
-  ap,
-  inl,
-  inr,
-  arith,
-}
+use Rattle.std.proofs.Common.{◌≡◌, ◌↔◌, ◌==◌, ◌||◌, Bool, true, false, ℕ, IsTrue, List, [], ◌∷◌, refl, ap, inl, inr, arith}
 use Rattle.std.proofs.lemmas.Bool.Decides.{nat_tests}
 use Rattle.std.specs.List.{list_any}
 use Rattle.ist_core.specs.Elements.{Among}

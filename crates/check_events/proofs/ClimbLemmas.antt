@@ -1,6 +1,5 @@
 -- Steps and jumps of a walk up by the slots in which nodes hung. Serves `climbing.rt`.
-use Rattle.std.proofs.Common.{◌≡◌, ◌↔◌, ◌≢◌, ℕ, ◌≤◌, ◌<◌, Option, Some, None, IsTrue, is_some}
-use Rattle.std.proofs.Common.{true≢false, refl, sym, subst, arith, inl, inr}
+use Rattle.std.proofs.Common.{◌≡◌, ◌↔◌, ◌≢◌, ℕ, ◌≤◌, ◌<◌, Option, Some, None, IsTrue, is_some, true≢false, refl, sym, subst, arith, inl, inr}
 use Rattle.std.specs.Ordering.{nat_cmp}
 use Rattle.std.specs.BTreeMap as tree
 use Rattle.std.specs.BTreeMap.{BTreeMap}

@@ -1,6 +1,5 @@
 -- What the code tests of a change, by its kind, is what the conditions say. Serves `kinds.rt`.
-use Rattle.std.proofs.Common.{◌≡◌, ◌↔◌, ◌∙◌, ◌≢◌, ℕ, IsTrue, nat_eq, List, [], ◌∷◌, Option}
-use Rattle.std.proofs.Common.{Some, sym, subst, eq-eqb}
+use Rattle.std.proofs.Common.{◌≡◌, ◌↔◌, ◌∙◌, ◌≢◌, ℕ, IsTrue, nat_eq, List, [], ◌∷◌, Option, Some, sym, subst, eq-eqb}
 use Rattle.ist_core.specs.declared.states.ChangeRow.{ChangeRow}
 use Rattle.ist_core.specs.declared.lists.Row.{Row}
 use Rattle.ist_core.specs.References.{Ref, Empty, LeafAt, InnerAt, RebuildAt, ref_of}
@@ -9,8 +8,7 @@ use Rattle.ist_core.specs.Snapshots.{Snapshot}
 use Rattle.ist_core.specs.Logs.{Log, state}
 use Rattle.ist_core.specs.Slots.{IsChildFor}
 use Rattle.ist_core.specs.Links.{WasLedTo}
-use Rattle.ist_core.specs.Installing.{IsLeafOf, HasRoomFor, nothing, same_key, ComesByKey, PutsLeaf}
-use Rattle.ist_core.specs.Installing.{PutsPair, Removes, new_leaf}
+use Rattle.ist_core.specs.Installing.{IsLeafOf, HasRoomFor, nothing, same_key, ComesByKey, PutsLeaf, PutsPair, Removes, new_leaf}
 use Rattle.check_events.specs.Kinds.{NamesLeafOf, PairsWith}
 use Rattle.check_fairness.proofs.AnswerLemmas.{is_equal}
 

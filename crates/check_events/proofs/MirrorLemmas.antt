@@ -5,16 +5,7 @@ use Rattle.std.specs.BTreeMap as tree
 use Rattle.ist_core.specs.declared.states.InnerRow.{InnerRow}
 use Rattle.ist_core.specs.declared.states.ChangeRow.{ChangeRow}
 use Rattle.ist_core.specs.declared.states.RebuildRow.{RebuildRow}
-use Rattle.ist_core.specs.Pieces.{
-  Piece,
-  Leaf,
-  Inner,
-  Change,
-  Rebuild,
-  as_inner,
-  as_change,
-  as_rebuild,
-}
+use Rattle.ist_core.specs.Pieces.{Piece, Leaf, Inner, Change, Rebuild, as_inner, as_change, as_rebuild}
 use Rattle.ist_core.specs.Snapshots.{Snapshot}
 use Rattle.check_events.specs.declared.replicas.Replica.{Replica}
 use Rattle.check_events.specs.Mirroring.{Mirrors}

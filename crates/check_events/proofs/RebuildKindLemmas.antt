@@ -1,6 +1,5 @@
 -- What the code tests of a change that starts or finishes a rebuild is what the conditions say. Serves `kinds.rt`.
-use Rattle.std.proofs.Common.{◌≡◌, ◌↔◌, ◌≢◌, ℕ, suc, List, [], ◌∷◌, slice_get, Some, refl}
-use Rattle.std.proofs.Common.{sym, ap, subst, arith, inl, inr}
+use Rattle.std.proofs.Common.{◌≡◌, ◌↔◌, ◌≢◌, ℕ, suc, List, [], ◌∷◌, slice_get, Some, refl, sym, ap, subst, arith, inl, inr}
 use Rattle.ist_core.specs.declared.states.InnerRow.{InnerRow}
 use Rattle.ist_core.specs.declared.states.ChangeRow.{ChangeRow}
 use Rattle.ist_core.specs.declared.states.RebuildRow.{RebuildRow}

@@ -1,6 +1,5 @@
 -- A row may be reserved if it is fair to hold it too. Serves `entering.rt`.
-use Rattle.std.proofs.Common.{◌≡◌, ◌↔◌, ◌+◌, ◌<◌, ◌≤◌, Bool, ℕ, IsTrue, List, [], ◌∷◌, ◌++◌}
-use Rattle.std.proofs.Common.{sym, subst}
+use Rattle.std.proofs.Common.{◌≡◌, ◌↔◌, ◌+◌, ◌<◌, ◌≤◌, Bool, ℕ, IsTrue, List, [], ◌∷◌, ◌++◌, sym, subst}
 use Rattle.ist_core.specs.Snapshots.{Snapshot, sizes_held}
 use Rattle.ist_core.specs.Fairness.{IsFair}
 use Rattle.ist_core.specs.Enabled.{CanReserve}

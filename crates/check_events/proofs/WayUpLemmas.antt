@@ -1,8 +1,6 @@
 -- The way up by the slots in which nodes hung is the way down that was at some moment. Serves
 -- `climbing.rt`.
-use Rattle.std.proofs.Common.{◌≡◌, ◌↔◌, ◌∙◌, ◌≢◌, ◌⊎◌, ℕ, List, [], ◌∷◌, ◌++◌, Option, Some, None}
-use Rattle.std.proofs.Common.{IsTrue, is_some, true≢false, refl, sym, ap, subst, arith, inl, inr}
-use Rattle.std.proofs.Common.{⊎_elim}
+use Rattle.std.proofs.Common.{◌≡◌, ◌↔◌, ◌∙◌, ◌≢◌, ◌⊎◌, ℕ, List, [], ◌∷◌, ◌++◌, Option, Some, None, IsTrue, is_some, true≢false, refl, sym, ap, subst, arith, inl, inr, ⊎_elim}
 use Rattle.std.specs.Ordering.{nat_cmp}
 use Rattle.std.specs.BTreeMap as tree
 use Rattle.std.specs.BTreeMap.{BTreeMap}
@@ -13,8 +11,7 @@ use Rattle.ist_core.specs.Pieces.{Inner}
 use Rattle.ist_core.specs.Snapshots.{Snapshot}
 use Rattle.ist_core.specs.Logs.{Log, Ever, state}
 use Rattle.ist_core.specs.Slots.{SlotHolds, in_anchor, in_row, IsChildFor, of_anchor, of_row}
-use Rattle.ist_core.specs.Links.{IsChild, Linked, at_anchor, below, Chain, no_row, one_row, Leads}
-use Rattle.ist_core.specs.Links.{from_anchor, down, WasLinked, WasOnChain, WasLedTo}
+use Rattle.ist_core.specs.Links.{IsChild, Linked, at_anchor, below, Chain, no_row, one_row, Leads, from_anchor, down, WasLinked, WasOnChain, WasLedTo}
 use Rattle.ist_core.proofs.ElementLemmas.{among-append, among_left, among_right}
 use Rattle.ist_core.proofs.OptionLemmas.{same_inner}
 use Rattle.ist_core.proofs.ChainLemmas.{leads_linked, chain_linked}

@@ -1,6 +1,5 @@
 //! Which nodes were linked, and by which way from the anchor.
-ghost use Rattle.std.specs.Prelude.{◌≡◌, ◌↔◌, ◌<◌, ℕ, IsTrue, IfSome};
-ghost use Rattle.ist_core.specs.RowLayout.{anchor};
+ghost use Rattle.std.specs.Prelude.{◌≡◌, ◌↔◌, ◌<◌, IsTrue, IfSome};
 ghost use Rattle.ist_core.specs.Arithmetic.{child_count};
 ghost use Rattle.ist_core.specs.Snapshots.{Snapshot};
 ghost use Rattle.ist_core.specs.Logs.{Log, state};

@@ -1,5 +1,5 @@
 //! Whether the outcome of a change may be fixed, and whether the change may leave its slot.
-ghost use Rattle.std.specs.Prelude.{◌≡◌, ◌↔◌, ℕ, IsTrue};
+ghost use Rattle.std.specs.Prelude.{◌≡◌, ◌↔◌, IsTrue};
 ghost use Rattle.ist_core.specs.Logs.{Log};
 ghost use Rattle.ist_core.specs.References.{ChangeAt, word_of};
 ghost use Rattle.ist_core.specs.Snapshots.{Snapshot};

@@ -1,8 +1,8 @@
 //! Whether a change may be installed.
-ghost use Rattle.std.specs.Prelude.{◌≡◌, ◌↔◌, ℕ, IsTrue};
+ghost use Rattle.std.specs.Prelude.{◌↔◌, IsTrue};
 ghost use Rattle.ist_core.specs.Snapshots.{Snapshot};
 ghost use Rattle.ist_core.specs.Logs.{Log, state};
-ghost use Rattle.ist_core.specs.Installing.{CanInstall, FitsKind, IsUnrefused, ComesByKey};
+ghost use Rattle.ist_core.specs.Installing.{CanInstall, FitsKind, IsUnrefused};
 ghost use Rattle.check_events.specs.Mirroring.{Mirrors};
 ghost use Rattle.check_events.specs.Remembering.{KnowsSlots, KnowsWays, KnowsRefusals, KnowsStarts};
 ghost use Rattle.check_events.specs.InstallRows.{MayStand, FitsByKey};

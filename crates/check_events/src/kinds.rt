@@ -1,5 +1,5 @@
 //! What a change of each kind may replace, and by what.
-ghost use Rattle.std.specs.Prelude.{◌≡◌, ◌↔◌, ◌⊎◌, ℕ, IsTrue};
+ghost use Rattle.std.specs.Prelude.{◌↔◌, IsTrue};
 ghost use Rattle.ist_core.specs.Snapshots.{Snapshot};
 ghost use Rattle.ist_core.specs.Logs.{Log, state};
 ghost use Rattle.ist_core.specs.Rebuilding.{IsBuilt};

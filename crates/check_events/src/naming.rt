@@ -1,5 +1,5 @@
 //! Which row a word names.
-ghost use Rattle.std.specs.Prelude.{◌≡◌, ◌↔◌, ℕ, IsTrue, Some};
+ghost use Rattle.std.specs.Prelude.{◌≡◌, ◌↔◌, IsTrue, Some};
 ghost use Rattle.ist_core.specs.References.{Empty, LeafAt, InnerAt, RebuildAt, ref_of};
 ghost use Rattle.check_fairness.specs.Answers.{FindsOne};
 

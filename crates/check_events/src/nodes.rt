@@ -1,5 +1,5 @@
 //! What a replica says of one node or slot.
-ghost use Rattle.std.specs.Prelude.{◌≡◌, ◌↔◌, ℕ, IsTrue, Some, slice_get};
+ghost use Rattle.std.specs.Prelude.{◌≡◌, ◌↔◌, IsTrue, Some, slice_get};
 ghost use Rattle.ist_core.specs.RowLayout.{anchor};
 ghost use Rattle.ist_core.specs.Statuses.{finished_word};
 ghost use Rattle.ist_core.specs.Snapshots.{Snapshot};

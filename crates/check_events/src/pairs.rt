@@ -1,5 +1,5 @@
 //! Whether rows of an event are a pair row and its fresh leaf.
-ghost use Rattle.std.specs.Prelude.{◌≡◌, ◌↔◌, ℕ, IsTrue};
+ghost use Rattle.std.specs.Prelude.{◌≡◌, ◌↔◌, IsTrue};
 ghost use Rattle.ist_core.specs.References.{LeafAt, word_of};
 ghost use Rattle.ist_core.specs.Pieces.{row_at};
 ghost use Rattle.ist_core.specs.Installing.{pair_over, pair_row};

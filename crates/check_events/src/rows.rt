@@ -1,7 +1,5 @@
 //! Whether rows of an event have the right words, and are held by its caller.
-ghost use Rattle.std.specs.Prelude.{◌≡◌, ◌↔◌, ◌∷◌, [], ℕ, IsTrue, length, Some};
-ghost use Rattle.ist_core.specs.declared.lists.Row.{Row};
-ghost use Rattle.ist_core.specs.Elements.{Among};
+ghost use Rattle.std.specs.Prelude.{◌≡◌, ◌↔◌, ◌∷◌, [], ℕ, IsTrue, Some};
 ghost use Rattle.ist_core.specs.Pieces as pieces;
 ghost use Rattle.ist_core.specs.Snapshots.{Snapshot, HoldsRow, HoldsRows};
 ghost use Rattle.check_events.specs.Mirroring.{Mirrors};

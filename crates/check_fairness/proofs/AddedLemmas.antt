@@ -1,19 +1,5 @@
 -- What holds of a list to which something was added, once or several times. Serves `fairness.rt`.
-use Rattle.std.proofs.Common.{
-  ◌↔◌,
-  ◌≡◌,
-  ◌⊎◌,
-  Bool,
-  true,
-  false,
-  not,
-  refl,
-  sym,
-  inl,
-  inr,
-  ⊎_elim,
-  true≢false,
-}
+use Rattle.std.proofs.Common.{◌↔◌, ◌≡◌, ◌⊎◌, Bool, true, false, not, refl, sym, inl, inr, ⊎_elim, true≢false}
 
 -- what was added in two steps, and in three
 pub two_added : {A B C X Y G : Type 0} → (B ↔ (A ⊎ X)) → (C ↔ (B ⊎ Y)) → (G ↔ (X ⊎ Y)) → C ↔ (A ⊎ G)

@@ -1,6 +1,5 @@
 -- Some elements are the first one and those after it; the first ones are among them.
-use Rattle.std.proofs.Common.{◌≡◌, ◌∙◌, ◌≤◌, ◌-◌, ℕ, zero, suc, List, [], ◌∷◌, length, take, drop, get_or}
-use Rattle.std.proofs.Common.{refl, sym, ap, inl, inr, arith}
+use Rattle.std.proofs.Common.{◌≡◌, ◌∙◌, ◌≤◌, ◌-◌, ℕ, zero, suc, List, [], ◌∷◌, length, take, drop, get_or, refl, sym, ap, inl, inr, arith}
 use Rattle.std.proofs.lemmas.List.{take_all}
 use Rattle.ist_core.specs.Elements.{Among}
 

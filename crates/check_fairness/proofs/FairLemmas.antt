@@ -3,32 +3,9 @@ use Rattle.std.proofs.Common.{◌≡◌, ◌↔◌, ◌+◌, Bool, true, false, 
 use Rattle.std.proofs.lemmas.Bool.Decides.{nat_tests}
 use Rattle.ist_core.specs.Elements.{Each, Distinct}
 use Rattle.ist_core.specs.Snapshots.{Snapshot}
-use Rattle.ist_core.specs.Fairness.{
-  IsBuilding,
-  IsStuck,
-  AreBuilds,
-  no_build,
-  last_build,
-  stuck_build,
-  IsMerge,
-  at_end,
-  from_left,
-  from_right,
-  IsFair,
-}
+use Rattle.ist_core.specs.Fairness.{IsBuilding, IsStuck, AreBuilds, no_build, last_build, stuck_build, IsMerge, at_end, from_left, from_right, IsFair}
 use Rattle.check_fairness.specs.declared.spares.Spare.{Spare}
-use Rattle.check_fairness.specs.Searching.{
-  IsSpare,
-  AreSpare,
-  without_spare,
-  all_spare,
-  is_full,
-  Goes,
-  all_read,
-  leaves_out,
-  goes_on,
-  begins,
-}
+use Rattle.check_fairness.specs.Searching.{IsSpare, AreSpare, without_spare, all_spare, is_full, Goes, all_read, leaves_out, goes_on, begins}
 use Rattle.check_fairness.proofs.SpareLemmas.{each_before, each_after, each_in, each_out}
 
 module _ (P : List ℕ → Type 0) (room : ℕ) where

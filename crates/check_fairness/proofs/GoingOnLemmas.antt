@@ -1,7 +1,5 @@
 -- Which sizes go on from what is kept, and when that is as much as all lists allow. Serves `keeping.rt`.
-use Rattle.std.proofs.Common.{◌≡◌, ◌↔◌, ◌∙◌, ◌+◌, ◌≤◌, Bool, true, false, not, nat_eq, ℕ, IsTrue}
-use Rattle.std.proofs.Common.{List, [], ◌∷◌, ◌++◌, length, take, Some, None}
-use Rattle.std.proofs.Common.{refl, sym, ap, subst, append-nil, drop, arith}
+use Rattle.std.proofs.Common.{◌≡◌, ◌↔◌, ◌∙◌, ◌+◌, ◌≤◌, Bool, true, false, not, nat_eq, ℕ, IsTrue, List, [], ◌∷◌, ◌++◌, length, take, Some, None, refl, sym, ap, subst, append-nil, drop, arith}
 use Rattle.std.proofs.lemmas.List.{take_all, take-append-drop}
 use Rattle.std.specs.Ordering.{nat_cmp}
 use Rattle.std.specs.BTreeMap as tree

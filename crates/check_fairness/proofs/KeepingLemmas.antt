@@ -1,8 +1,5 @@
 -- What is kept of readings, and one size further. Serves `keeping.rt`.
-use Rattle.std.proofs.Common.{◌≡◌, ◌↔◌, ◌∙◌, ◌⊎◌, ◌+◌, ◌<◌, ◌≤◌, true, ℕ}
-use Rattle.std.proofs.Common.{zero, suc, List, [], ◌∷◌, ◌++◌, length, map, take, Vec, Global, Some, None}
-use Rattle.std.proofs.Common.{refl, sym, ap, subst, inl, inr, ⊎_elim, append_assoc, arith}
-use Rattle.std.proofs.Common.{length-append}
+use Rattle.std.proofs.Common.{◌≡◌, ◌↔◌, ◌∙◌, ◌⊎◌, ◌+◌, ◌<◌, ◌≤◌, true, ℕ, zero, suc, List, [], ◌∷◌, ◌++◌, length, map, take, Vec, Global, Some, None, refl, sym, ap, subst, inl, inr, ⊎_elim, append_assoc, arith, length-append}
 use Rattle.std.specs.Prelude.{slice_index_or}
 use Rattle.std.proofs.lemmas.List.{length-take-le, take-append-le, take_all, take-map, length-map}
 use Rattle.std.specs.BTreeMap.{BTreeMap}

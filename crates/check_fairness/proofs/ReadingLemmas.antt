@@ -1,15 +1,11 @@
 -- Readings, one size further: what they leave goes on as they did. Serves `fairness.rt`.
-use Rattle.std.proofs.Common.{◌≡◌, ◌≢◌, ◌↔◌, ◌∙◌, ◌+◌, ◌<◌, ◌≤◌, ◌⊎◌, Bool, true, false, not, ℕ}
-use Rattle.std.proofs.Common.{zero, suc, IsTrue, List, [], ◌∷◌, ◌++◌, length, get_or, take, refl}
-use Rattle.std.proofs.Common.{sym, ap, subst, inl, inr, ⊎_elim, true≢false, nat_eq, arith}
+use Rattle.std.proofs.Common.{◌≡◌, ◌≢◌, ◌↔◌, ◌∙◌, ◌+◌, ◌<◌, ◌≤◌, ◌⊎◌, Bool, true, false, not, ℕ, zero, suc, IsTrue, List, [], ◌∷◌, ◌++◌, length, get_or, take, refl, sym, ap, subst, inl, inr, ⊎_elim, true≢false, nat_eq, arith}
 use Rattle.std.proofs.lemmas.Bool.Decides.{nat_tests}
 use Rattle.std.proofs.lemmas.List.{take_more}
 use Rattle.ist_core.specs.Elements.{Among}
 use Rattle.check_fairness.specs.declared.readings.SizeReading.{SizeReading}
 use Rattle.check_fairness.specs.declared.spares.Spare.{Spare}
-use Rattle.check_fairness.specs.Searching.{IsSpare, without_spare, Goes, all_read, leaves_out}
-use Rattle.check_fairness.specs.Searching.{goes_on, begins, is_full, TakesNext, BeginsOne}
-use Rattle.check_fairness.specs.Searching.{LeavesOut}
+use Rattle.check_fairness.specs.Searching.{IsSpare, without_spare, Goes, all_read, leaves_out, goes_on, begins, is_full, TakesNext, BeginsOne, LeavesOut}
 use Rattle.check_fairness.specs.Readings.{rest_at, GoesFrom, SomeGoes, LeavesSame, IsLeftBefore}
 use Rattle.check_fairness.proofs.AfterLemmas.{following, first_after}
 

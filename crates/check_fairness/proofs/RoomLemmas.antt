@@ -1,15 +1,13 @@
 -- Sizes that can be read can also be read with less room, and with more lists. Serves
 -- `fairness.rt`.
-use Rattle.std.proofs.Common.{◌≡◌, ◌+◌, ◌≤◌, Bool, true, ℕ, List, [], ◌∷◌, map, take}
-use Rattle.std.proofs.Common.{refl, sym, subst, arith}
+use Rattle.std.proofs.Common.{◌≡◌, ◌+◌, ◌≤◌, Bool, true, ℕ, List, [], ◌∷◌, map, take, refl, sym, subst, arith}
 use Rattle.std.proofs.lemmas.Bool.Decides.{nat_tests}
 use Rattle.ist_core.specs.Elements.{Among}
 use Rattle.ist_core.specs.Snapshots.{Snapshot}
 use Rattle.ist_core.specs.Fairness.{IsFair}
 use Rattle.check_fairness.specs.declared.lists.BuildingLists.{BuildingLists}
 use Rattle.check_fairness.specs.declared.spares.Spare.{Spare}
-use Rattle.check_fairness.specs.Searching.{Goes, all_read, leaves_out, goes_on, begins}
-use Rattle.check_fairness.specs.Searching.{is_full, all_spare, without_spare}
+use Rattle.check_fairness.specs.Searching.{Goes, all_read, leaves_out, goes_on, begins, is_full, all_spare, without_spare}
 use Rattle.check_fairness.specs.Keeping.{any_room, GoOnFrom}
 use Rattle.check_fairness.specs.Knowing.{KnowsLists}
 use Rattle.check_fairness.proofs.AfterLemmas.{among_first}

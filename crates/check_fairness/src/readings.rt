@@ -3,7 +3,7 @@
 //!
 //! Sizes are read one at a time. After each size only what a reading leaves is kept, and each once.
 //! So there are few readings at a time, however many ways lead to one.
-ghost use Rattle.std.specs.Prelude.{◌≡◌, ◌↔◌, ◌+◌, ◌∷◌, ◌++◌, ◌<◌, ◌^◌, [], ℕ, true, IsTrue, IfOk, OnOk, List, map, length};
+ghost use Rattle.std.specs.Prelude.{◌≡◌, ◌↔◌, ◌+◌, ◌∷◌, ◌++◌, ◌<◌, ◌^◌, [], ℕ, IsTrue, IfOk, OnOk, List, map, length};
 ghost use Rattle.ist_core.specs.Elements.{Among};
 ghost use Rattle.check_fairness.specs.Searching as searching;
 ghost use Rattle.check_fairness.specs.Searching.{TakesNext, BeginsOne, LeavesOut};

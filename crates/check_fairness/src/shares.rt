@@ -1,5 +1,5 @@
 //! Degrees and parts of ideal trees, for every number of keys: a log may name any.
-ghost use Rattle.std.specs.Prelude.{◌≡◌, ◌≤◌, ◌<◌, ◌^◌, ℕ};
+ghost use Rattle.std.specs.Prelude.{◌≡◌, ◌≤◌, ◌<◌, ◌^◌};
 ghost use Rattle.ist_core.specs.Arithmetic.{degree, part_len};
 
 /// Returns how many children the root of an ideal tree of `n` keys has.

@@ -7,8 +7,7 @@ use Rattle.ist_handles.specs.declared.closed_trees.ClosedTree.{ClosedTree}
 use Rattle.ist_handles.specs.declared.held.Held.{Held}
 use Rattle.ist_handles.specs.declared.held.Held.TheVariants as of
 use Rattle.ist_handles.specs.declared.owners.TreeOwner.{TreeOwner}
-use Rattle.ist_c.specs.Closing.{Leaves, Closes, owner_closes, closed_leaves, is_busy, no_owner}
-use Rattle.ist_c.specs.Closing.{OpensInHandle, opens_owner, opens_none, Reopens, owner_reopens, owner_closed, owner_busy, closed_opens, closed_stays, none_reopens}
+use Rattle.ist_c.specs.Closing.{Leaves, Closes, owner_closes, closed_leaves, is_busy, no_owner, OpensInHandle, opens_owner, opens_none, Reopens, owner_reopens, owner_closed, owner_busy, closed_opens, closed_stays, none_reopens}
 use Rattle.ist_handles.specs.Results.{busy, misuse}
 use Rattle.ist_c.specs.Kinds.{IsNoOwner, IsNotClosed, IsSameOwner}
 

@@ -9,9 +9,7 @@ use Rattle.ist_handles.specs.declared.held.Held.TheVariants as of
 use Rattle.ist_handles.specs.declared.passes.TreePass.{TreePass}
 use Rattle.ist_handles.specs.Results.{done, memory}
 use Rattle.ist_handles.specs.Pairs.{Wrote, written}
-use Rattle.ist_c.specs.Reads.{IsNextPair, ReadsBy, pass_reads, EntriesHold, ListsBy, pass_lists}
-use Rattle.ist_c.specs.Reads.{HasWalkedRange, ListsLive, lists_live, lists_no_more, ReadsInTree}
-use Rattle.ist_c.specs.Reads.{HasCountedRoom, CountsRoom, pass_counts}
+use Rattle.ist_c.specs.Reads.{IsNextPair, ReadsBy, pass_reads, EntriesHold, ListsBy, pass_lists, HasWalkedRange, ListsLive, lists_live, lists_no_more, ReadsInTree, HasCountedRoom, CountsRoom, pass_counts}
 
 -- what a pass behind a handle found as the next pair was read by this pass, and written
 pub read_next : (way : Bool) (held : Held) (p q : TreePass) (key status : ℕ) (pair : Option Pair)

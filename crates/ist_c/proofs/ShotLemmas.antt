@@ -16,8 +16,7 @@ use Rattle.ist_handles.specs.declared.results.Shortage.{Shortage}
 use Rattle.ist_handles.specs.ShotPieces.{ShotFace}
 use Rattle.ist_handles.specs.Results.{done, full, misuse, full_of}
 use Rattle.ist_c.specs.Kinds.{IsNoPass, IsNoShot}
-use Rattle.ist_c.specs.Shots.{HasListedShot, TakesShot, CountsShot, ListsShot, DropsShot}
-use Rattle.ist_c.specs.Shots.{pass_takes, shot_refused, none_takes, counts_shot, lists_shot, drops_shot, drops_no_shot}
+use Rattle.ist_c.specs.Shots.{HasListedShot, TakesShot, CountsShot, ListsShot, DropsShot, pass_takes, shot_refused, none_takes, counts_shot, lists_shot, drops_shot, drops_no_shot}
 
 -- ---- taking
 

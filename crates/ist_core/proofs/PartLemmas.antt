@@ -1,48 +1,11 @@
 -- Parts: how many keys each has, where it begins, and how many all of them have together.
-use Rattle.std.proofs.Common.{
-  ◌≡◌,
-  ◌∙◌,
-  ℕ,
-  zero,
-  suc,
-  ◌+◌,
-  ◌-◌,
-  ◌*◌,
-  ◌/◌,
-  ◌%◌,
-  ◌<◌,
-  ◌≤◌,
-  max,
-  min,
-  nat_lt,
-  Bool,
-  true,
-  false,
-  cond,
-  map,
-  ⊎_elim,
-  refl,
-  sym,
-  ap,
-  subst,
-  arith,
-  mul-le-mul_left,
-  add-one,
-}
+use Rattle.std.proofs.Common.{◌≡◌, ◌∙◌, ℕ, zero, suc, ◌+◌, ◌-◌, ◌*◌, ◌/◌, ◌%◌, ◌<◌, ◌≤◌, max, min, nat_lt, Bool, true, false, cond, map, ⊎_elim, refl, sym, ap, subst, arith, mul-le-mul_left, add-one}
 use Rattle.std.proofs.lemmas.Bool.{cases_lt}
 use Rattle.std.proofs.lemmas.Bool.Decides.{nat_tests}
 use Rattle.std.proofs.lemmas.List.FromFn.{sum_by-map-range_with_len_more}
 use Rattle.std.specs.List.{sum, sum_by, range_with_len}
 use Rattle.ist_core.specs.Arithmetic.{square_root, degree, part_len, part_lens, part_start}
-use Rattle.ist_core.proofs.RootLemmas.{
-  square_grows,
-  root_below,
-  square_root-le,
-  square_root-lt,
-  degree_is,
-  least_degree-le,
-  degree-le,
-}
+use Rattle.ist_core.proofs.RootLemmas.{square_grows, root_below, square_root-le, square_root-lt, degree_is, least_degree-le, degree-le}
 
 -- ---- one part
 

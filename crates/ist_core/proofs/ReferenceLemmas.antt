@@ -3,21 +3,7 @@ use Rattle.std.proofs.Common.{◌≡◌, ◌∙◌, ℕ, ◌+◌, ◌*◌, ◌/�
 use Rattle.std.specs.Prelude.{◌==◌, Some, None}
 use Rattle.std.proofs.lemmas.Bool.Decides.{nat_tests}
 use Rattle.ist_core.specs.RowLayout.{first_row, place_limit}
-use Rattle.ist_core.specs.References.{
-  Ref,
-  Empty,
-  Unset,
-  LeafAt,
-  InnerAt,
-  ChangeAt,
-  RebuildAt,
-  word_of,
-  IsGoodBase,
-  IsGoodRef,
-  row_tagged,
-  good_row_tagged,
-  ref_of,
-}
+use Rattle.ist_core.specs.References.{Ref, Empty, Unset, LeafAt, InnerAt, ChangeAt, RebuildAt, word_of, IsGoodBase, IsGoodRef, row_tagged, good_row_tagged, ref_of}
 
 -- ---- from a word
 

@@ -1,30 +1,5 @@
 -- Roots and degrees: `square_root` is the whole root, and the value of `degree`.
-use Rattle.std.proofs.Common.{
-  ◌≡◌,
-  ◌∙◌,
-  ℕ,
-  zero,
-  suc,
-  ◌+◌,
-  ◌*◌,
-  ◌<◌,
-  ◌≤◌,
-  max,
-  nat_le,
-  Bool,
-  true,
-  false,
-  cond,
-  ◌⊎◌,
-  inl,
-  inr,
-  ⊎_elim,
-  refl,
-  sym,
-  ap,
-  arith,
-  mul-le-mul_left,
-}
+use Rattle.std.proofs.Common.{◌≡◌, ◌∙◌, ℕ, zero, suc, ◌+◌, ◌*◌, ◌<◌, ◌≤◌, max, nat_le, Bool, true, false, cond, ◌⊎◌, inl, inr, ⊎_elim, refl, sym, ap, arith, mul-le-mul_left}
 use Rattle.std.proofs.lemmas.Bool.{cases_lt}
 use Rattle.std.proofs.lemmas.Bool.Decides.{nat_tests}
 use Rattle.ist_core.specs.Arithmetic.{root_up_to, square_root, degree}

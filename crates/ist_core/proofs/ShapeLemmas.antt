@@ -1,36 +1,10 @@
 -- `ideal_words`, `shape` and `depth` of a node from the values of its parts.
-use Rattle.std.proofs.Common.{
-  ◌≡◌,
-  ◌∙◌,
-  ℕ,
-  zero,
-  suc,
-  ◌+◌,
-  ◌<◌,
-  ◌≤◌,
-  max,
-  List,
-  [],
-  ◌∷◌,
-  ◌++◌,
-  map,
-  refl,
-  sym,
-  ap,
-  arith,
-}
+use Rattle.std.proofs.Common.{◌≡◌, ◌∙◌, ℕ, zero, suc, ◌+◌, ◌<◌, ◌≤◌, max, List, [], ◌∷◌, ◌++◌, map, refl, sym, ap, arith}
 use Rattle.std.proofs.lemmas.List.Sums.{sum-map}
 use Rattle.std.specs.List.{sum, sum_by, flat_map, fold, range_with_len}
 use Rattle.ist_core.specs.Arithmetic.{degree, part_len, part_lens}
 use Rattle.ist_core.specs.RowLayout.{inner_words}
-use Rattle.ist_core.specs.Shapes.{
-  ideal_words_within,
-  ideal_words,
-  shape_within,
-  shape,
-  depth_within,
-  depth,
-}
+use Rattle.ist_core.specs.Shapes.{ideal_words_within, ideal_words, shape_within, shape, depth_within, depth}
 use Rattle.ist_core.proofs.PartLemmas.{part_len-lt}
 
 -- two functions give the same for each part of n keys

@@ -2,15 +2,7 @@
 use Rattle.std.proofs.Common.{◌≡◌, ◌∙◌, ℕ, ◌+◌, ◌*◌, ◌/◌, ◌%◌, ◌<◌, ◌≤◌, ◌≢◌, Bool, true, false, cond, ◌&&◌, nat_lt, refl, ap, arith}
 use Rattle.std.specs.Prelude.{◌==◌, Option, Some, None}
 use Rattle.std.proofs.lemmas.Bool.Decides.{nat_tests}
-use Rattle.ist_core.specs.Statuses.{
-  Status,
-  Open,
-  Marked,
-  Finished,
-  status_word,
-  status_of,
-  keys_limit,
-}
+use Rattle.ist_core.specs.Statuses.{Status, Open, Marked, Finished, status_word, status_of, keys_limit}
 
 -- the status that four tests of a word choose
 abbrev chosen : Bool → Bool → Bool → Bool → ℕ → Option Status

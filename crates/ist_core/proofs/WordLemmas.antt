@@ -1,29 +1,5 @@
 -- How many words an ideal tree takes: against its shape, at most, and from two sizes of parts.
-use Rattle.std.proofs.Common.{
-  ◌≡◌,
-  ◌∙◌,
-  ℕ,
-  zero,
-  suc,
-  ◌+◌,
-  ◌-◌,
-  ◌*◌,
-  ◌/◌,
-  ◌%◌,
-  ◌<◌,
-  ◌≤◌,
-  List,
-  [],
-  ◌∷◌,
-  map,
-  ⊎_elim,
-  refl,
-  sym,
-  ap,
-  arith,
-  lit≤,
-  mul-le-mul_left,
-}
+use Rattle.std.proofs.Common.{◌≡◌, ◌∙◌, ℕ, zero, suc, ◌+◌, ◌-◌, ◌*◌, ◌/◌, ◌%◌, ◌<◌, ◌≤◌, List, [], ◌∷◌, map, ⊎_elim, refl, sym, ap, arith, lit≤, mul-le-mul_left}
 use Rattle.std.proofs.lemmas.Bool.{cases_lt}
 use Rattle.std.proofs.lemmas.List.Sums.{sum_by-cons, sum_by-append}
 use Rattle.std.specs.List.{sum, sum_by, flat_map, range_with_len}
@@ -31,13 +7,7 @@ use Rattle.ist_core.specs.Arithmetic.{root_up_to, square_root, degree, part_len,
 use Rattle.ist_core.specs.RowLayout.{inner_words}
 use Rattle.ist_core.specs.Shapes.{ideal_words_within, ideal_words, shape_within, shape}
 use Rattle.ist_core.proofs.RootLemmas.{least_degree-le}
-use Rattle.ist_core.proofs.PartLemmas.{
-  part_len-pos,
-  part_len-lt,
-  sum-part_lens,
-  sum_by-part_lens,
-  sum_of_more,
-}
+use Rattle.ist_core.proofs.PartLemmas.{part_len-pos, part_len-lt, sum-part_lens, sum_by-part_lens, sum_of_more}
 use Rattle.ist_core.proofs.ShapeLemmas.{sum_parts_same, ideal_words_many, shape_many}
 
 -- ---- against the shape

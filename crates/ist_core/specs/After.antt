@@ -7,8 +7,7 @@ use Rattle.ist_core.specs.declared.events.Event.{Event}
 use Rattle.ist_core.specs.declared.events.Event.TheVariants.{Enter, Reserve, Install, Okay, Decide, Resolve, Count, Mark, Pass, Finish, Root, Draw, Place, Lose}
 use Rattle.ist_core.specs.References.{Ref, InnerAt, ChangeAt, ref_of, word_of}
 use Rattle.ist_core.specs.Statuses.{marked_word, finished_word, decided_yes, decided_no, start_kind}
-use Rattle.ist_core.specs.Pieces.{Change, Pieces, as_change, as_rebuild, leaf_of, change_of, rebuild_of, with_row, with_inners, changed_at, with_slot, with_status, counted, with_decision, with_root, drawn}
-use Rattle.ist_core.specs.Pieces.{inner_of}
+use Rattle.ist_core.specs.Pieces.{Change, Pieces, as_change, as_rebuild, leaf_of, change_of, rebuild_of, with_row, with_inners, changed_at, with_slot, with_status, counted, with_decision, with_root, drawn, inner_of}
 use Rattle.ist_core.specs.Snapshots.{Snapshot, with_slot_at, bases_of, without}
 
 -- the word of a decision

@@ -1,20 +1,6 @@
 -- Arithmetic of the tree: how many children a node has, which keys each child has, when a node is
 -- due for a rebuild, and in which child a key lies.
-use Rattle.std.specs.Prelude.{
-  ℕ,
-  zero,
-  suc,
-  ◌+◌,
-  ◌*◌,
-  ◌/◌,
-  ◌%◌,
-  max,
-  nat_le,
-  nat_lt,
-  if◌then◌else◌,
-  List,
-  map,
-}
+use Rattle.std.specs.Prelude.{ℕ, zero, suc, ◌+◌, ◌*◌, ◌/◌, ◌%◌, max, nat_le, nat_lt, if◌then◌else◌, List, map}
 use Rattle.std.specs.List.{sum, count_by, range_with_len}
 
 -- the largest number, up to `top`, whose square is at most n

@@ -1,22 +1,5 @@
 -- What the word in a slot of a node names, and the word for it.
-use Rattle.std.specs.Prelude.{
-  ℕ,
-  ◌+◌,
-  ◌*◌,
-  ◌/◌,
-  ◌%◌,
-  ◌<◌,
-  ◌≤◌,
-  ◌==◌,
-  ◌&&◌,
-  nat_le,
-  nat_lt,
-  if◌then◌else◌,
-  ⊤,
-  Option,
-  Some,
-  None,
-}
+use Rattle.std.specs.Prelude.{ℕ, ◌+◌, ◌*◌, ◌/◌, ◌%◌, ◌<◌, ◌≤◌, ◌==◌, ◌&&◌, nat_le, nat_lt, if◌then◌else◌, ⊤, Option, Some, None}
 use Rattle.ist_core.specs.RowLayout.{place_limit, first_row}
 
 -- what a slot names: nothing, a part of a shared root that isn't built yet, or a row by its base

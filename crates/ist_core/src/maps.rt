@@ -17,7 +17,7 @@ pub struct Leaves {
 }
 
 impl Model for Leaves {
-    ghost use Rattle.std.specs.Prelude.{◌≡◌, ℕ, true};
+    ghost use Rattle.std.specs.Prelude.{◌≡◌, true};
     ghost use Rattle.std.specs.Ordering.{nat_cmp};
     ghost use Rattle.std.specs.FinMap as fin;
     ghost use Rattle.ist_core.specs.declared.states.LeafRow.{LeafRow};
@@ -64,7 +64,7 @@ pub struct Inners {
 }
 
 impl Model for Inners {
-    ghost use Rattle.std.specs.Prelude.{◌≡◌, ℕ, true};
+    ghost use Rattle.std.specs.Prelude.{◌≡◌, true};
     ghost use Rattle.std.specs.Ordering.{nat_cmp};
     ghost use Rattle.std.specs.FinMap as fin;
     ghost use Rattle.ist_core.specs.declared.states.InnerRow.{InnerRow};
@@ -111,7 +111,7 @@ pub struct Changes {
 }
 
 impl Model for Changes {
-    ghost use Rattle.std.specs.Prelude.{◌≡◌, ℕ, true};
+    ghost use Rattle.std.specs.Prelude.{◌≡◌, true};
     ghost use Rattle.std.specs.Ordering.{nat_cmp};
     ghost use Rattle.std.specs.FinMap as fin;
     ghost use Rattle.ist_core.specs.declared.states.ChangeRow.{ChangeRow};
@@ -158,7 +158,7 @@ pub struct Rebuilds {
 }
 
 impl Model for Rebuilds {
-    ghost use Rattle.std.specs.Prelude.{◌≡◌, ℕ, true};
+    ghost use Rattle.std.specs.Prelude.{◌≡◌, true};
     ghost use Rattle.std.specs.Ordering.{nat_cmp};
     ghost use Rattle.std.specs.FinMap as fin;
     ghost use Rattle.ist_core.specs.declared.states.RebuildRow.{RebuildRow};

@@ -16,12 +16,7 @@ use Rattle.ist_core.proofs.PartLemmas.{part_end-le}
 use Rattle.ist_core.proofs.WordLemmas.{ideal_words_one}
 use Rattle.ist_core.proofs.LayoutLemmas.{FillWords, fills_rows, keys_of_parts, slots_of-top_row}
 use Rattle.ist_image.specs.Placing.{part_of, part_base, slot_base, slots_after, rows_after, row_words, tree_words, row_head}
-use Rattle.ist_image.proofs.PlacingLemmas.{
-  placed_by_index,
-  rows_from-many,
-  rows_after-first,
-  rows_after-last,
-}
+use Rattle.ist_image.proofs.PlacingLemmas.{placed_by_index, rows_from-many, rows_after-first, rows_after-last}
 use Rattle.ist_image.proofs.SettingLemmas.{sets-append, sets-sets, set_made, none_made}
 use Rattle.std.proofs.lemmas.List.FromFn.{length-map-range_with_len}
 

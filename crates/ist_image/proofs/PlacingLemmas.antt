@@ -1,43 +1,12 @@
 -- A new table's rows, part by part. Serves `laying.rt`.
-use Rattle.std.proofs.Common.{
-  ◌≡◌,
-  ◌∙◌,
-  ◌+◌,
-  ◌-◌,
-  ◌<◌,
-  ◌≤◌,
-  ℕ,
-  zero,
-  suc,
-  List,
-  [],
-  ◌∷◌,
-  ◌++◌,
-  length,
-  map,
-  take,
-  drop,
-  zip,
-  get_or,
-  refl,
-  sym,
-  ap,
-  arith,
-  length-take,
-}
+use Rattle.std.proofs.Common.{◌≡◌, ◌∙◌, ◌+◌, ◌-◌, ◌<◌, ◌≤◌, ℕ, zero, suc, List, [], ◌∷◌, ◌++◌, length, map, take, drop, zip, get_or, refl, sym, ap, arith, length-take}
 use Rattle.std.specs.List.{flat_map, range_with_len}
 use Rattle.ist_core.specs.declared.pairs.Pair.{Pair}
 use Rattle.ist_core.specs.Arithmetic.{degree, part_len, part_lens, part_start}
 use Rattle.ist_core.specs.RowLayout.{inner_words}
 use Rattle.ist_core.specs.Shapes.{ideal_words}
 use Rattle.ist_core.specs.Parts.{cut, parts, first_keys}
-use Rattle.ist_core.specs.StartLayout.{
-  bases_from,
-  placed_parts,
-  top_row,
-  rows_within,
-  rows_from,
-}
+use Rattle.ist_core.specs.StartLayout.{bases_from, placed_parts, top_row, rows_within, rows_from}
 use Rattle.ist_core.proofs.RootLemmas.{least_degree-le}
 use Rattle.ist_core.proofs.PartLemmas.{part_len-pos, part_len-lt, part_start-suc, part_end-le}
 use Rattle.ist_image.specs.Placing.{part_of, words_before, part_base, rows_after}

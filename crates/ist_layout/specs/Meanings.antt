@@ -2,14 +2,7 @@
 use Rattle.ist_core.specs.References as references
 use Rattle.ist_core.specs.Statuses as statuses
 use Rattle.ist_layout.specs.declared.references.Ref.{Ref}
-use Rattle.ist_layout.specs.declared.references.Ref.TheVariants.{
-  Empty,
-  Unset,
-  Leaf,
-  Inner,
-  Change,
-  Rebuild,
-}
+use Rattle.ist_layout.specs.declared.references.Ref.TheVariants.{Empty, Unset, Leaf, Inner, Change, Rebuild}
 use Rattle.ist_layout.specs.declared.statuses.Status.{Status}
 use Rattle.ist_layout.specs.declared.statuses.Status.TheVariants.{Clear, Marked, Finished}
 

@@ -1,6 +1,6 @@
 //! Where the fixed words of a table lie, how long its rows are, and at which offsets from its base
 //! the fields of each row lie.
-ghost use Rattle.std.specs.Prelude.{◌≡◌, ℕ, ◌+◌, ◌*◌, ◌<◌, ◌≤◌, ◌^◌};
+ghost use Rattle.std.specs.Prelude.{◌≡◌, ◌<◌, ◌≤◌};
 ghost use Rattle.ist_core.specs.RowLayout.{inner_words, key_place, slot_place, place_limit};
 
 /// Every place of a table is below this number.

@@ -1,5 +1,5 @@
 //! What a slot of a node names, and the word for it.
-ghost use Rattle.std.specs.Prelude.{◌≡◌, ℕ, ◌+◌, ◌*◌, ◌/◌, ◌%◌, ◌<◌, ◌≤◌, ◌^◌, IfSome};
+ghost use Rattle.std.specs.Prelude.{◌≡◌, IfSome};
 ghost use Rattle.std.specs.Option.{option_map};
 ghost use Rattle.ist_core.specs.References.{word_of, ref_of, IsGoodRef, good_row_tagged};
 

@@ -1,5 +1,5 @@
 //! A cursor over the pairs of a tree that others change.
-ghost use Rattle.std.specs.Prelude.{◌≡◌, ◌+◌, ◌^◌};
+ghost use Rattle.std.specs.Prelude.{◌≡◌, ◌+◌};
 ghost use Rattle.ist_live.specs.Reading.{HasOnlyRead};
 ghost use Rattle.ist_live.specs.Ends.{IsNextUp, IsNextDown, end_up, end_down};
 

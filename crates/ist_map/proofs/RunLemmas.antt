@@ -18,8 +18,7 @@ use Rattle.ist_rest.specs.Standings.{Stands}
 use Rattle.ist_rest.proofs.MapLemmas.{hold_map}
 use Rattle.ist_tree.specs.Faces.{TreeFace, MakerFace}
 use Rattle.ist_tree.specs.Closing.{ClosesWith, calls_taken, told_to}
-use Rattle.ist_reopen.specs.Generations.{Generation, IsGeneration, generation_of, FollowOn, moments_over, pairs_left, history}
-use Rattle.ist_reopen.specs.Generations.{calls_of}
+use Rattle.ist_reopen.specs.Generations.{Generation, IsGeneration, generation_of, FollowOn, moments_over, pairs_left, history, calls_of}
 use Rattle.ist_reopen.specs.Interleaving.{told_over}
 use Rattle.ist_map.specs.Hands.{HaveWorked}
 use Rattle.ist_map.specs.Growing.{HaveDoubled, words_for_tree, words_after, asked_after, last_words}

@@ -1,5 +1,5 @@
 //! Workers and their passes: each gets the pass with its number on a tree, works, and gives it back.
-ghost use Rattle.std.specs.Prelude.{◌≡◌, ◌+◌, ◌++◌, ◌<◌, ◌≤◌, ◌∷◌, [], ℕ, List, length, map, max};
+ghost use Rattle.std.specs.Prelude.{◌≡◌, ◌+◌, ◌++◌, ◌<◌, ◌≤◌, ◌∷◌, [], List, length, map};
 ghost use Rattle.std.specs.Prelude.{false, All, None, IfErr, IfOk, IfSome, is_some};
 ghost use Rattle.std.specs.List.{list_any, range_with_len};
 ghost use Rattle.ist_core.specs.Enabled.{caller_limit};
@@ -97,7 +97,8 @@ impl<W: Worker> Hand<W> {
         ensures number { pass_number self.new.pass ≡ pass_number self.old.pass }
         ensures told { W.told self.new.worker
             ≡ W.told self.old.worker ++ map told_by_call (calls_by self.new.pass).calls }
-        ensures done { self.new.refused ≡ None → self.new.stopped ≡ None → W.is_done self.new.worker }
+        ensures done { self.new.refused ≡ None → self.new.stopped ≡ None
+            → W.is_done self.new.worker }
         ensures unasked { stop.now.can_stop ≡ false → self.new.stopped ≡ None }
         ensures refused { IfSome self.new.refused (IsRefusalOn tree.now (seen_by self.new.pass)) }
     {

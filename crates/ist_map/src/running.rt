@@ -1,5 +1,5 @@
 //! A map that workers share, on one tree after another.
-ghost use Rattle.std.specs.Prelude.{◌≡◌, ◌≢◌, ◌*◌, ◌^◌, ◌<◌, ◌≤◌, ℕ, List, length, map, All, Any};
+ghost use Rattle.std.specs.Prelude.{◌≡◌, ◌≢◌, ◌^◌, ◌<◌, ◌≤◌, ℕ, List, length, map, All, Any};
 ghost use Rattle.std.specs.Prelude.{false, None, IsSome, OnOk, OnErr, IfOk, IfErr};
 ghost use Rattle.std.specs.List.Sorted.{IsStrictlyIncreasing};
 ghost use Rattle.ist_core.specs.Enabled.{caller_limit};
@@ -123,7 +123,8 @@ impl Map {
         requires few { length hands.old ≤ caller_limit }
         ensures ran { HasRunOn self.old.closed self.new.closed self.old.words self.new.words
             (map (λ h. W.told h.worker) hands.old) (map (λ h. W.told h.worker) hands.new) }
-        ensures done { IfOk result (λ asked. asked ≡ None → All (λ h. W.is_done h.worker) hands.new) }
+        ensures done { IfOk result (λ asked.
+            asked ≡ None → All (λ h. W.is_done h.worker) hands.new) }
         ensures left { IfOk result (λ asked. asked ≢ None → Any (λ h. IsSome h.stopped) hands.new) }
         ensures unasked { IfOk result (λ asked. stop.now.can_stop ≡ false → asked ≡ None) }
         ensures fault { IfErr result (λ f. HasStopped self.old.closed self.new.closed self.old.words
@@ -222,7 +223,8 @@ fn words_after(words: u32) -> Result<u32, ReopenFault>
     requires within { words ≤ MOST_WORDS }
     ensures next { IfOk result (λ w. w ≡ words_after words) }
     ensures more { IfOk result (λ w. 0 < words → words < w) }
-    ensures fault { IfErr result (λ f. (closed : List ℕ) → IsGrowFault closed (words_after words) f) }
+    ensures fault { IfErr result (λ f.
+        (closed : List ℕ) → IsGrowFault closed (words_after words) f) }
 {
     let twice = 2 * words;
     if words >= MOST_WORDS {

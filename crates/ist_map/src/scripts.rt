@@ -1,8 +1,8 @@
 //! A worker that makes given calls, one after another.
-ghost use Rattle.std.specs.Prelude.{◌≡◌, ◌≤◌, ◌⊎◌, ◌++◌, ◌∷◌, [], ℕ, List, length, map, Some, None};
-ghost use Rattle.std.specs.Prelude.{IfOk, IfErr, OnOk, OnErr, vec_capacity};
+ghost use Rattle.std.specs.Prelude.{◌≡◌, ◌≤◌, ◌⊎◌, ◌++◌, ◌∷◌, [], length, map, Some};
+ghost use Rattle.std.specs.Prelude.{IfOk, IfErr, OnErr, vec_capacity};
 ghost use Rattle.ist_core.specs.declared.ports.Full.{Full};
-ghost use Rattle.ist_core.specs.Replies.{Answered, told};
+ghost use Rattle.ist_core.specs.Replies.{told};
 ghost use Rattle.ist_core.specs.Resting.{told_by_call};
 ghost use Rattle.ist_tree.specs.Calls.{HasSeenMore};
 ghost use Rattle.ist_map.specs.Refusing.{IsRefusedTo};

@@ -1,35 +1,6 @@
 -- The child of a key, found at the place where the keys change from at most x to above x, and the
 -- keys on both its sides.
-use Rattle.std.proofs.Common.{
-  ◌≡◌,
-  ℕ,
-  zero,
-  suc,
-  ◌+◌,
-  ◌-◌,
-  ◌*◌,
-  ◌<◌,
-  ◌≤◌,
-  ◌∙◌,
-  min,
-  nat_le,
-  nat_lt,
-  cond,
-  Bool,
-  true,
-  false,
-  List,
-  length,
-  get_or,
-  take,
-  ⊎_elim,
-  refl,
-  sym,
-  ap,
-  subst,
-  arith,
-  add-one,
-}
+use Rattle.std.proofs.Common.{◌≡◌, ℕ, zero, suc, ◌+◌, ◌-◌, ◌*◌, ◌<◌, ◌≤◌, ◌∙◌, min, nat_le, nat_lt, cond, Bool, true, false, List, length, get_or, take, ⊎_elim, refl, sym, ap, subst, arith, add-one}
 use Rattle.std.proofs.lemmas.Bool.{cases_lt}
 use Rattle.std.proofs.lemmas.Bool.Decides.{nat_tests}
 use Rattle.std.proofs.lemmas.List.{take_all}

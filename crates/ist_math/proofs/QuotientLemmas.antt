@@ -1,15 +1,7 @@
 -- Quotients by the first 64 bits of a number, and what is left. Serves `quotients`.
 use Rattle.std.proofs.Common.{◌≡◌, ℕ, suc, ◌+◌, ◌-◌, ◌*◌, ◌/◌, ◌^◌, ◌<◌, ◌≤◌, sym, ap, subst, arith, mul-le-mul_left, mul-le-mul_right}
 use Rattle.std.proofs.lemmas.Nat.{pow_pos, div_below, le-div, leading_top}
-use Rattle.std.proofs.Math.Nat.{
-  pow-suc,
-  div-mul-le_self,
-  div-le_self,
-  mul_assoc,
-  mul_comm,
-  add-mul-div_left,
-  lt_of_mul-lt-mul_right,
-}
+use Rattle.std.proofs.Math.Nat.{pow-suc, div-mul-le_self, div-le_self, mul_assoc, mul_comm, add-mul-div_left, lt_of_mul-lt-mul_right}
 use Rattle.std.specs.Int.Count.{count_leading_zeros}
 
 -- how many bits must be shifted away until a number has 64 bits, less one

@@ -1,23 +1,5 @@
 -- Two trees, one with one key more than the other: their parts have the same two sizes.
-use Rattle.std.proofs.Common.{
-  ◌≡◌,
-  ◌∙◌,
-  ℕ,
-  ◌+◌,
-  ◌-◌,
-  ◌*◌,
-  ◌/◌,
-  ◌%◌,
-  ◌<◌,
-  ◌≤◌,
-  min,
-  ⊎_elim,
-  sym,
-  ap,
-  subst,
-  arith,
-  mul-le-mul_left,
-}
+use Rattle.std.proofs.Common.{◌≡◌, ◌∙◌, ℕ, ◌+◌, ◌-◌, ◌*◌, ◌/◌, ◌%◌, ◌<◌, ◌≤◌, min, ⊎_elim, sym, ap, subst, arith, mul-le-mul_left}
 use Rattle.std.proofs.lemmas.Bool.{cases_lt}
 use Rattle.ist_core.specs.Arithmetic.{degree}
 use Rattle.ist_core.specs.Shapes.{ideal_words}

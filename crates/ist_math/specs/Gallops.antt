@@ -1,22 +1,6 @@
 -- A gallop: a search between two keys that goes away from a guess by steps of one, two, four, ...,
 -- and halves the distance between the two keys once it passed the key that is sought.
-use Rattle.std.specs.Prelude.{
-  ◌≡◌,
-  ℕ,
-  suc,
-  ◌+◌,
-  ◌-◌,
-  ◌*◌,
-  ◌/◌,
-  ◌^◌,
-  ◌<◌,
-  ◌≤◌,
-  Bool,
-  ◌&&◌,
-  MatchBool,
-  nat_lt,
-  if◌then◌else◌,
-}
+use Rattle.std.specs.Prelude.{◌≡◌, ℕ, suc, ◌+◌, ◌-◌, ◌*◌, ◌/◌, ◌^◌, ◌<◌, ◌≤◌, Bool, ◌&&◌, MatchBool, nat_lt, if◌then◌else◌}
 use Rattle.ist_math.specs.declared.gallops.Gallop.{Gallop}
 
 -- how many children are left to choose from

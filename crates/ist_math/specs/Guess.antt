@@ -1,17 +1,5 @@
 -- The guess: where linear interpolation between the end keys of a node points, and how far off it is.
-use Rattle.std.specs.Prelude.{
-  ℕ,
-  ◌+◌,
-  ◌-◌,
-  ◌*◌,
-  ◌/◌,
-  nat_le,
-  nat_lt,
-  if◌then◌else◌,
-  List,
-  length,
-  slice_index,
-}
+use Rattle.std.specs.Prelude.{ℕ, ◌+◌, ◌-◌, ◌*◌, ◌/◌, nat_le, nat_lt, if◌then◌else◌, List, length, slice_index}
 
 -- how many keys are at most x, if m keys from `first` to `last` are spread evenly
 abbrev pub guess_of : ℕ → ℕ → ℕ → ℕ → ℕ

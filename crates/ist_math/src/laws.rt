@@ -2,7 +2,7 @@
 //! does nothing.
 ghost use Rattle.std.specs.Prelude.{◌≡◌, ℕ, ◌+◌, ◌*◌, ◌<◌, ◌≤◌, ◌^◌};
 ghost use Rattle.std.specs.List.{sum};
-ghost use Rattle.ist_core.specs.Arithmetic.{square_root, degree, part_len, part_lens};
+ghost use Rattle.ist_core.specs.Arithmetic.{square_root, part_len, part_lens};
 ghost use Rattle.ist_core.specs.Shapes.{ideal_words, shape, depth, share_from};
 ghost use Rattle.ist_math.specs.declared.gallops.Gallop.{Gallop};
 ghost use Rattle.ist_math.specs.Guess.{guess_of, distance};

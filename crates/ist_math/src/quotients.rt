@@ -1,5 +1,5 @@
 //! The share of a part, by divisions that only have 64 bits.
-ghost use Rattle.std.specs.Prelude.{◌≡◌, ℕ, ◌+◌, ◌*◌, ◌/◌, ◌<◌, ◌≤◌, ◌^◌};
+ghost use Rattle.std.specs.Prelude.{◌≡◌, ◌*◌, ◌/◌, ◌<◌, ◌≤◌, ◌^◌};
 
 /// The largest number of 64 bits.
 const MOST: u128 = 0xffff_ffff_ffff_ffff;

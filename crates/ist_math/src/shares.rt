@@ -1,5 +1,5 @@
 //! How the keys of a node are shared among its children.
-ghost use Rattle.std.specs.Prelude.{◌≡◌, ℕ, ◌+◌, ◌*◌, ◌<◌, ◌≤◌, ◌^◌};
+ghost use Rattle.std.specs.Prelude.{◌≡◌, ◌+◌, ◌*◌, ◌<◌, ◌≤◌, ◌^◌};
 ghost use Rattle.ist_core.specs.Arithmetic.{degree, part_len, part_start};
 
 use crate::parts::Part;

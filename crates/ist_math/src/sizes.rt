@@ -1,5 +1,5 @@
 //! How many words an ideal subtree takes, and after how many updates a node is due.
-ghost use Rattle.std.specs.Prelude.{◌≡◌, ℕ, ◌+◌, ◌*◌, ◌<◌, ◌≤◌, ◌^◌};
+ghost use Rattle.std.specs.Prelude.{◌≡◌, ◌+◌, ◌*◌, ◌<◌, ◌≤◌, ◌^◌};
 ghost use Rattle.ist_core.specs.Arithmetic.{degree, limit};
 ghost use Rattle.ist_core.specs.Shapes.{ideal_words};
 

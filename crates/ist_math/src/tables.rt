@@ -1,6 +1,6 @@
 //! Small values of the definitions, as facts that the check computes. They show that the
 //! definitions mean what they say.
-ghost use Rattle.std.specs.Prelude.{◌≡◌, ℕ, [], ◌∷◌, map};
+ghost use Rattle.std.specs.Prelude.{◌≡◌, [], ◌∷◌, map};
 ghost use Rattle.ist_core.specs.Arithmetic.{degree, part_lens, limit, child_count};
 ghost use Rattle.ist_core.specs.Shapes.{ideal_words, shape, depth};
 ghost use Rattle.ist_math.specs.Guess.{guess_of};

@@ -23,8 +23,7 @@ use Rattle.ist_dcss.specs.Installing.{Filling, IsInstalled}
 use Rattle.ist_rebuild.specs.declared.answers.Started.{Started}
 use Rattle.ist_rebuild.specs.declared.answers.Started.TheVariants.{Yes, Other, Marked}
 use Rattle.ist_rebuild.specs.Going.{Begins, StartsAt}
-use Rattle.ist_rebuild.specs.Starting.{IsStartedAt, LeavesDone, IsStartRefused, StartsDoneBut, StartsDoneSince}
-use Rattle.ist_rebuild.specs.Starting.{LeavesUninstalled, LeavesUnstarted, ReservesNeeded, StartsNone}
+use Rattle.ist_rebuild.specs.Starting.{IsStartedAt, LeavesDone, IsStartRefused, StartsDoneBut, StartsDoneSince, LeavesUninstalled, LeavesUnstarted, ReservesNeeded, StartsNone}
 use Rattle.ist_rebuild.specs.StartSteps.{IsStartReady, start_filling}
 use Rattle.ist_rebuild.proofs.StartFillLemmas.{rebuild_good, rows_apart}
 use Rattle.ist_rebuild.proofs.StartGoingLemmas.{HasPutIn, begins_reserving, begins_installing, begins_serving, put_went, aims_installing, aims_serving}

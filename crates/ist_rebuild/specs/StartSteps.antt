@@ -21,8 +21,7 @@ use Rattle.ist_rows.specs.Going.{IsQuiet}
 use Rattle.ist_rebuild.specs.declared.answers.Started.{Started}
 use Rattle.ist_rebuild.specs.declared.answers.Started.TheVariants.{Yes, Other, Marked}
 use Rattle.ist_rebuild.specs.Going.{Begins, KeepsFresh, StartsAt}
-use Rattle.ist_rebuild.specs.Starting.{IsStartedAt, LeavesDone, StartsDoneSince, StoodInstead}
-use Rattle.ist_rebuild.specs.Starting.{LeavesUninstalled, LeavesUnstarted}
+use Rattle.ist_rebuild.specs.Starting.{IsStartedAt, LeavesDone, StartsDoneSince, StoodInstead, LeavesUninstalled, LeavesUnstarted}
 use Rattle.ist_rebuild.specs.Needs.{TakesNeeded}
 
 -- ---- the rows

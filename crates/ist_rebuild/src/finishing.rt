@@ -15,10 +15,9 @@ ghost use Rattle.ist_rows.specs.Taken.{HasTakenFewIn, TakesNoWords};
 ghost use Rattle.ist_rebuild.specs.Needs.{wanting};
 ghost use Rattle.ist_rebuild.specs.declared.answers.Helped.TheVariants.{Replaced, ParentMarked};
 ghost use Rattle.ist_rebuild.specs.declared.finishing.Tried.TheVariants.{Yes, No, Other};
-ghost use Rattle.ist_rebuild.specs.Finishing.{IsPlan, IsPrepared};
+ghost use Rattle.ist_rebuild.specs.Finishing.{IsPlan, IsPrepared, finish_row};
 ghost use Rattle.ist_rows.specs.Going.{IsReady};
 ghost use Rattle.ist_rows.specs.Rows.{IsAtTable};
-ghost use Rattle.ist_rebuild.specs.Finishing.{finish_row};
 ghost use Rattle.ist_rebuild.specs.Helping.{IsLeftToParent, IsHelpRefused, HasHelped};
 ghost use Rattle.laws_coming.specs.Further.{CameFurther};
 

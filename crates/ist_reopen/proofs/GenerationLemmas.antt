@@ -15,8 +15,7 @@ use Rattle.laws_histories.proofs.WovenLemmas.{taken_legal}
 use Rattle.ist_tree.specs.Faces.{MakerFace}
 use Rattle.ist_tree.specs.Closing.{ClosesWith}
 use Rattle.ist_tree.proofs.TakenLemmas.{lists_long}
-use Rattle.ist_reopen.specs.Generations.{Generation, generation_of, IsGeneration, FollowOn, history}
-use Rattle.ist_reopen.specs.Generations.{changes_in, history_in, pairs_left, map_told}
+use Rattle.ist_reopen.specs.Generations.{Generation, generation_of, IsGeneration, FollowOn, history, changes_in, history_in, pairs_left, map_told}
 use Rattle.ist_reopen.proofs.HistoryLemmas.{told-append, woven_leads}
 use Rattle.ist_reopen.proofs.TimeLemmas.{returned_are}
 

@@ -14,8 +14,7 @@ use Rattle.ist_core.specs.Histories.{Reading, readings, in_order, at_position}
 use Rattle.ist_core.specs.Resting.{AllStandIn, told_by_call}
 use Rattle.ist_core.proofs.ElementLemmas.{each_of}
 use Rattle.laws_histories.specs.Weaving.{numbered}
-use Rattle.ist_reopen.specs.Generations.{Generation, IsGeneration, FollowOn, changes_in, history_in, history, pairs_left}
-use Rattle.ist_reopen.specs.Generations.{calls_of}
+use Rattle.ist_reopen.specs.Generations.{Generation, IsGeneration, FollowOn, changes_in, history_in, history, pairs_left, calls_of}
 use Rattle.ist_reopen.specs.Interleaving.{IsMadeOf, told_over, told_to_pass}
 use Rattle.ist_reopen.proofs.OwnedLemmas.{owned_from, told_owned, told_to-append, mine, StampsClimb, in_order_mine}
 use Rattle.ist_reopen.proofs.SplitLemmas.{read_by}

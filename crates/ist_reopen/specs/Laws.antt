@@ -8,8 +8,7 @@ use Rattle.laws_real_time.specs.Making.{calls_returned}
 use Rattle.laws_real_time.specs.Joining.{LinearizesTo}
 use Rattle.ist_tree.specs.Faces.{TreeFace, MakerFace}
 use Rattle.ist_tree.specs.Closing.{ClosesWith}
-use Rattle.ist_reopen.specs.Generations.{Generation, generation_of, IsGeneration, FollowOn, history}
-use Rattle.ist_reopen.specs.Generations.{map_told, moments_over}
+use Rattle.ist_reopen.specs.Generations.{Generation, generation_of, IsGeneration, FollowOn, history, map_told, moments_over}
 use Rattle.ist_reopen.specs.Interleaving.{IsMadeOf, told_over}
 use Rattle.ist_reopen.specs.Reopening.{OpensAfter, BeginsAfter}
 

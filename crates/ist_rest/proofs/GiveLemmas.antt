@@ -1,7 +1,5 @@
 -- Which pairs of an interval some slots give, slot by slot. Serves `listing.list_words`.
-use Rattle.std.proofs.Common.{◌≡◌, ℕ, zero, suc, ◌+◌, ◌-◌, ◌<◌, ◌≤◌, ◌⊎◌, nat_le}
-use Rattle.std.proofs.Common.{true, false, List, [], ◌∷◌, ◌++◌, map, take}
-use Rattle.std.proofs.Common.{drop, Some, refl, sym, ap, ◌∙◌, subst, inl, inr, arith}
+use Rattle.std.proofs.Common.{◌≡◌, ℕ, zero, suc, ◌+◌, ◌-◌, ◌<◌, ◌≤◌, ◌⊎◌, nat_le, true, false, List, [], ◌∷◌, ◌++◌, map, take, drop, Some, refl, sym, ap, ◌∙◌, subst, inl, inr, arith}
 use Rattle.std.proofs.lemmas.Bool.Decides.{leb_tells}
 use Rattle.std.proofs.lemmas.List.{append_assoc, append-nil}
 use Rattle.ist_core.specs.declared.pairs.Pair.{Pair}
@@ -11,10 +9,8 @@ use Rattle.ist_core.specs.References.{Ref, Empty, Unset, LeafAt, InnerAt, Change
 use Rattle.ist_core.specs.Elements.{Each}
 use Rattle.ist_rest.specs.declared.slots.SlotLeft.{SlotLeft}
 use Rattle.ist_rest.specs.WordRows.{Span, row_keys, row_slots, row_degree, reads_in}
-use Rattle.ist_rest.specs.Walks.{Way, Visit, LeadsBy, IsGood, pairs_read, visits_from}
-use Rattle.ist_rest.specs.Walks.{visits_below, Walks, ends, goes_on}
-use Rattle.ist_rest.specs.Steps.{slot_of, GiveBetween, no_slot, one_slot, slots_between, pairs_at}
-use Rattle.ist_rest.specs.Steps.{IsGoodSlot}
+use Rattle.ist_rest.specs.Walks.{Way, Visit, LeadsBy, IsGood, pairs_read, visits_from, visits_below, Walks, ends, goes_on}
+use Rattle.ist_rest.specs.Steps.{slot_of, GiveBetween, no_slot, one_slot, slots_between, pairs_at, IsGoodSlot}
 use Rattle.ist_rest.proofs.WalkLemmas.{IsSplit, split, all_lie}
 use Rattle.ist_rest.proofs.IntervalLemmas.{none_low, none_high, between-append}
 

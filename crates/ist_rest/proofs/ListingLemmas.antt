@@ -1,10 +1,7 @@
 -- How far a listing has come, step by step. Serves `listing`.
-use Rattle.std.proofs.Common.{◌≡◌, ℕ, suc, ◌+◌, ◌-◌, ◌<◌, ◌≤◌, ⊎_elim, List, [], ◌∷◌, ◌++◌, length}
-use Rattle.std.proofs.Common.{reverse, take, drop, slice_range, get_or, refl, sym, ap, ◌∙◌, subst}
-use Rattle.std.proofs.Common.{arith}
+use Rattle.std.proofs.Common.{◌≡◌, ℕ, suc, ◌+◌, ◌-◌, ◌<◌, ◌≤◌, ⊎_elim, List, [], ◌∷◌, ◌++◌, length, reverse, take, drop, slice_range, get_or, refl, sym, ap, ◌∙◌, subst, arith}
 use Rattle.std.proofs.lemmas.Bool.Decides.{leb_tells}
-use Rattle.std.proofs.lemmas.List.{append_assoc, append-nil, reverse-append}
-use Rattle.std.proofs.lemmas.List.{drop_more}
+use Rattle.std.proofs.lemmas.List.{append_assoc, append-nil, reverse-append, drop_more}
 use Rattle.std.proofs.lemmas.List.Sums.{sum_by-append, sum_by-cons}
 use Rattle.std.specs.List.{sum_by}
 use Rattle.ist_core.specs.declared.pairs.Pair.{Pair}
@@ -15,8 +12,7 @@ use Rattle.ist_core.specs.Arithmetic.{child_count}
 use Rattle.ist_core.proofs.RisingLemmas.{child_count_tells}
 use Rattle.ist_rest.specs.Walks.{Visit, IsGood, first_visit}
 use Rattle.ist_rest.specs.RestingWords.{HoldPairs, AreListed}
-use Rattle.ist_rest.specs.Steps.{GiveBetween, no_slot, one_slot, slot_of, slots_of, slots_between}
-use Rattle.ist_rest.specs.Steps.{pairs_at, work_of, work_left, IsGoodSlot}
+use Rattle.ist_rest.specs.Steps.{GiveBetween, no_slot, one_slot, slot_of, slots_of, slots_between, pairs_at, work_of, work_left, IsGoodSlot}
 use Rattle.ist_rest.specs.Listing.{HasListed}
 use Rattle.ist_rest.proofs.GiveLemmas.{IsVisited, visited}
 use Rattle.ist_rest.proofs.IntervalLemmas.{no_pair}

@@ -1,32 +1,26 @@
 -- The rows of a table at rest, as its words say them. Serves the law on standing words.
 -- `laws.standing_words_hold_the_map`.
-use Rattle.std.proofs.Common.{◌≡◌, ℕ, ◌+◌, ◌≤◌, List}
-use Rattle.std.proofs.Common.{length, is_some, Option, Some, None, refl, sym, ap}
-use Rattle.std.proofs.Common.{◌∙◌, subst, arith, length-append}
+use Rattle.std.proofs.Common.{◌≡◌, ℕ, ◌+◌, ◌≤◌, List, length, is_some, Option, Some, None, refl, sym, ap, ◌∙◌, subst, arith, length-append}
 use Rattle.std.proofs.lemmas.Option.{get_or_from_slice_get}
 use Rattle.std.specs.List.Sorted.{IsStrictlyIncreasing}
 use Rattle.ist_core.specs.declared.pairs.Pair.{Pair}
 use Rattle.ist_core.specs.declared.states.LeafRow.{LeafRow}
 use Rattle.ist_core.specs.declared.states.InnerRow.{InnerRow}
-use Rattle.ist_core.specs.RowLayout.{next_place, anchor, anchor_status_place}
-use Rattle.ist_core.specs.RowLayout.{inner_words, leaf_words, rebuild_words}
-use Rattle.ist_core.specs.References.{Ref, Empty, Unset, LeafAt, InnerAt, ChangeAt, RebuildAt}
-use Rattle.ist_core.specs.References.{ref_of}
+use Rattle.ist_core.specs.RowLayout.{next_place, anchor, anchor_status_place, inner_words, leaf_words, rebuild_words}
+use Rattle.ist_core.specs.References.{Ref, Empty, Unset, LeafAt, InnerAt, ChangeAt, RebuildAt, ref_of}
 use Rattle.ist_core.specs.Statuses.{open_word, status_of}
 use Rattle.ist_core.specs.Elements.{Each}
 use Rattle.ist_core.specs.Pieces.{Piece, Leaf, Inner, Rebuild, size_of}
 use Rattle.ist_core.specs.Snapshots.{Snapshot}
 use Rattle.ist_core.specs.Images.{IsImage, StandsAt}
-use Rattle.ist_core.specs.Slots.{SlotHolds, past_change, rebuild_reads}
-use Rattle.ist_core.specs.Slots.{past_rebuild, logical}
+use Rattle.ist_core.specs.Slots.{SlotHolds, past_change, rebuild_reads, past_rebuild, logical}
 use Rattle.ist_core.specs.Naming.{HasDegree}
 use Rattle.ist_core.specs.Logs.{Log}
 use Rattle.ist_core.specs.Rows.{IsWithin}
 use Rattle.ist_core.specs.Deciding.{AllResolved}
 use Rattle.ist_core.specs.Lawful.{Lawful, state_of}
 use Rattle.ist_core.proofs.ReferenceLemmas.{word_of-ref_of}
-use Rattle.ist_core.proofs.PlaceLemmas.{next_after_fixed, claimed_within, placed}
-use Rattle.ist_core.proofs.PlaceLemmas.{anchor_free}
+use Rattle.ist_core.proofs.PlaceLemmas.{next_after_fixed, claimed_within, placed, anchor_free}
 use Rattle.ist_core.proofs.RoomLemmas.{next_within}
 use Rattle.ist_core.proofs.NamingLemmas.{WordsName, SlotNames, slot_names}
 use Rattle.ist_core.proofs.OrderLemmas.{names, child_above}
@@ -36,14 +30,11 @@ use Rattle.ist_core.proofs.UnderLemmas.{slot_reads_as}
 use Rattle.ist_core.proofs.LeafOrderLemmas.{leaves_lie, next_from_rising}
 use Rattle.ist_core.proofs.KeyLemmas.{keys_rising}
 use Rattle.laws_links.proofs.ResolvedLemmas.{resolved_gone}
-use Rattle.ist_rest.specs.WordRows.{word_at, leaf_key, row_degree, row_keys, row_slots}
-use Rattle.ist_rest.specs.WordRows.{past_change_in, past_rebuild_in, rows_on}
-use Rattle.ist_rest.specs.WordRows.{IsWithinUsed}
+use Rattle.ist_rest.specs.WordRows.{word_at, leaf_key, row_degree, row_keys, row_slots, past_change_in, past_rebuild_in, rows_on, IsWithinUsed}
 use Rattle.ist_rest.specs.Walks.{Visit, LeadsBy, HasDecision, IsGoodLeaf, IsGoodRow, Reads}
 use Rattle.ist_rest.specs.RestingWords.{HasGoodBounds}
 use Rattle.laws_calls.proofs.SizedLemmas.{row_sized}
-use Rattle.ist_rest.proofs.RowLemmas.{first_word, degree_is, size_word, keys_are}
-use Rattle.ist_rest.proofs.RowLemmas.{slots_are}
+use Rattle.ist_rest.proofs.RowLemmas.{first_word, degree_is, size_word, keys_are, slots_are}
 
 -- the words are the image of the state after a lawful log, in which each installed change is
 -- resolved

@@ -1,18 +1,14 @@
 -- Walks that read no row twice, before a slot more is walked. Serves the law on standing words.
 -- `laws.standing_words_hold_the_map`.
-use Rattle.std.proofs.Common.{◌≡◌, ℕ, ◌≤◌, ◌⊎◌, List, [], ◌∷◌, ◌++◌}
-use Rattle.std.proofs.Common.{length, slice_get, Option, Some, None, refl, sym, ap}
-use Rattle.std.proofs.Common.{subst, inl, inr, ⊎_elim, arith}
+use Rattle.std.proofs.Common.{◌≡◌, ℕ, ◌≤◌, ◌⊎◌, List, [], ◌∷◌, ◌++◌, length, slice_get, Option, Some, None, refl, sym, ap, subst, inl, inr, ⊎_elim, arith}
 use Rattle.ist_core.specs.declared.pairs.Pair.{Pair}
 use Rattle.ist_core.specs.declared.states.InnerRow.{InnerRow}
 use Rattle.ist_core.specs.RowLayout.{rebuild_words}
-use Rattle.ist_core.specs.References.{Ref, Empty, Unset, LeafAt, InnerAt, ChangeAt, RebuildAt}
-use Rattle.ist_core.specs.References.{ref_of}
+use Rattle.ist_core.specs.References.{Ref, Empty, Unset, LeafAt, InnerAt, ChangeAt, RebuildAt, ref_of}
 use Rattle.ist_core.specs.Elements.{Among}
 use Rattle.ist_core.specs.Pieces.{Inner, Rebuild}
 use Rattle.ist_core.specs.Snapshots.{Snapshot}
-use Rattle.ist_core.specs.Slots.{SlotHolds, in_row}
-use Rattle.ist_core.specs.Slots.{logical}
+use Rattle.ist_core.specs.Slots.{SlotHolds, in_row, logical}
 use Rattle.ist_core.specs.Logs.{Log}
 use Rattle.ist_core.specs.Lawful.{state_of}
 use Rattle.ist_core.proofs.ReferenceLemmas.{word_of-ref_of}
@@ -23,10 +19,8 @@ use Rattle.ist_core.proofs.LeadingLemmas.{LiesIn, lies_above, child_is}
 use Rattle.ist_core.proofs.UnderLemmas.{slot_reads_as}
 use Rattle.laws_links.proofs.ResolvedLemmas.{resolved_gone}
 use Rattle.ist_rest.specs.WordRows.{rows_on, Span}
-use Rattle.ist_rest.specs.Walks.{Visit}
-use Rattle.ist_rest.specs.Walks.{Walks}
-use Rattle.ist_rest.proofs.UnderLemmas.{as_rebuild, up_here, IsReadUnder, row_under}
-use Rattle.ist_rest.proofs.UnderLemmas.{bases, AreRows, add_row}
+use Rattle.ist_rest.specs.Walks.{Visit, Walks}
+use Rattle.ist_rest.proofs.UnderLemmas.{as_rebuild, up_here, IsReadUnder, row_under, bases, AreRows, add_row}
 use Rattle.ist_rest.proofs.PublishedLemmas.{IsStood, all_names, free, IsVisitOfSlot}
 
 module _ {pairs : List Pair} {words : List ℕ} {log : Log} (s : IsStood pairs words log) where

@@ -1,12 +1,9 @@
 -- How a slot word reads, in two steps. Serves `reading.reads`.
-use Rattle.std.proofs.Common.{◌≡◌, ℕ, ◌≤◌, List, [], ◌∷◌, ◌++◌, length, Option, Some, None, refl}
-use Rattle.std.proofs.Common.{sym, ◌∙◌, subst, arith}
+use Rattle.std.proofs.Common.{◌≡◌, ℕ, ◌≤◌, List, [], ◌∷◌, ◌++◌, length, Option, Some, None, refl, sym, ◌∙◌, subst, arith}
 use Rattle.ist_core.specs.RowLayout.{next_place, place_limit}
-use Rattle.ist_core.specs.References.{Ref, Empty, Unset, LeafAt, InnerAt, ChangeAt, RebuildAt}
-use Rattle.ist_core.specs.References.{ref_of}
+use Rattle.ist_core.specs.References.{Ref, Empty, Unset, LeafAt, InnerAt, ChangeAt, RebuildAt, ref_of}
 use Rattle.ist_core.specs.Elements.{Each}
-use Rattle.ist_rest.specs.WordRows.{word_at, IsWithinUsed, change_on, rebuild_on, rows_on}
-use Rattle.ist_rest.specs.WordRows.{past_change_in, past_rebuild_in}
+use Rattle.ist_rest.specs.WordRows.{word_at, IsWithinUsed, change_on, rebuild_on, rows_on, past_change_in, past_rebuild_in}
 use Rattle.ist_rest.specs.Walks.{HasDecision, Reads, Visit, IsGood, IsGoodAs}
 use Rattle.ist_rest.specs.Readings.{IsTreeRef, IsInUse, LeavesSide, LeadsPast}
 

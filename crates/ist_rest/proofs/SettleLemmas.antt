@@ -1,7 +1,5 @@
 -- Rows that are reached from a row, and whether they are settled. Serves `settling`.
-use Rattle.std.proofs.Common.{◌≡◌, ℕ, zero, suc, ◌+◌, ◌<◌, ◌≤◌, ◌⊎◌, List, [], ◌∷◌, ◌++◌, length}
-use Rattle.std.proofs.Common.{get_or, Some, refl, sym, ap, ◌∙◌, subst, inl, inr, ⊎_elim, ◌≢◌}
-use Rattle.std.proofs.Common.{nat_le, true, false, arith}
+use Rattle.std.proofs.Common.{◌≡◌, ℕ, zero, suc, ◌+◌, ◌<◌, ◌≤◌, ◌⊎◌, List, [], ◌∷◌, ◌++◌, length, get_or, Some, refl, sym, ap, ◌∙◌, subst, inl, inr, ⊎_elim, ◌≢◌, nat_le, true, false, arith}
 use Rattle.std.proofs.lemmas.Bool.Decides.{leb_tells, eqb_tells}
 use Rattle.ist_core.specs.declared.pairs.Pair.{Pair}
 use Rattle.ist_core.specs.References.{InnerAt}
@@ -9,13 +7,11 @@ use Rattle.ist_core.specs.RowLayout.{next_place}
 use Rattle.ist_core.specs.Elements.{Among, Each}
 use Rattle.ist_core.proofs.ElementLemmas.{each-append}
 use Rattle.ist_rest.specs.WordRows.{Span, word_at, row_degree, row_keys, row_slots, reads_in}
-use Rattle.ist_rest.specs.Walks.{Way, Visit, IsGood, IsGoodAs, IsGoodRow, visits_from}
-use Rattle.ist_rest.specs.Walks.{visits_below, Walks, ends, goes_on, first_visit}
+use Rattle.ist_rest.specs.Walks.{Way, Visit, IsGood, IsGoodAs, IsGoodRow, visits_from, visits_below, Walks, ends, goes_on, first_visit}
 use Rattle.ist_rest.specs.RestingWords.{HoldPairs}
 use Rattle.ist_rest.specs.Steps.{IsRowHere}
 use Rattle.ist_rest.proofs.WordRowLemmas.{row_lengths}
-use Rattle.ist_rest.specs.Settling.{ReachedFrom, itself, through, IsSettledRow, AreSettledFrom}
-use Rattle.ist_rest.specs.Settling.{AreInShapeFrom}
+use Rattle.ist_rest.specs.Settling.{ReachedFrom, itself, through, IsSettledRow, AreSettledFrom, AreInShapeFrom}
 
 element : (xs : List ℕ) (i : ℕ) → i < length xs → Among (get_or xs i 0) xs
 element [] i h = absurd (omega arith)

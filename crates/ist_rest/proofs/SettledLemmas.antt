@@ -1,14 +1,11 @@
 -- A table is settled exactly if its words are. Serves `closed.Closed.settled`.
-use Rattle.std.proofs.Common.{◌≡◌, ℕ, zero, suc, ◌+◌, ◌<◌, ◌⊎◌, List, [], ◌∷◌}
-use Rattle.std.proofs.Common.{length, slice_get, Some, refl, sym, ap}
-use Rattle.std.proofs.Common.{◌∙◌, subst, inl, inr, ⊎_elim, ◌↔◌, arith}
+use Rattle.std.proofs.Common.{◌≡◌, ℕ, zero, suc, ◌+◌, ◌<◌, ◌⊎◌, List, [], ◌∷◌, length, slice_get, Some, refl, sym, ap, ◌∙◌, subst, inl, inr, ⊎_elim, ◌↔◌, arith}
 use Rattle.std.proofs.lemmas.Option.{get_or_from_slice_get}
 use Rattle.ist_core.specs.declared.pairs.Pair.{Pair}
 use Rattle.ist_core.specs.declared.states.InnerRow.{InnerRow}
 use Rattle.ist_core.specs.Arithmetic.{limit}
 use Rattle.ist_core.specs.RowLayout.{anchor, anchor_slot_place}
-use Rattle.ist_core.specs.References.{InnerAt}
-use Rattle.ist_core.specs.References.{ref_of}
+use Rattle.ist_core.specs.References.{InnerAt, ref_of}
 use Rattle.ist_core.specs.Elements.{Among}
 use Rattle.ist_core.specs.Pieces.{Inner}
 use Rattle.ist_core.specs.Snapshots.{Snapshot}
@@ -18,17 +15,14 @@ use Rattle.ist_rest.specs.Settling.{ReachedFrom, itself, through, IsSettledRow, 
 use Rattle.ist_rest.proofs.SettleLemmas.{reached_on}
 use Rattle.ist_core.proofs.MentionLemmas.{child_mentioned}
 use Rattle.ist_core.proofs.SlotLemmas.{no_row}
-use Rattle.ist_core.specs.Slots.{SlotHolds, in_anchor, in_row}
-use Rattle.ist_core.specs.Slots.{logical}
+use Rattle.ist_core.specs.Slots.{SlotHolds, in_anchor, in_row, logical}
 use Rattle.ist_core.specs.Logs.{Log}
 use Rattle.ist_core.specs.Lawful.{state_of}
 use Rattle.ist_core.proofs.NamingLemmas.{InnerHere, slot_names}
 use Rattle.ist_core.proofs.HomeLemmas.{mentioned_here}
-use Rattle.ist_rest.specs.WordRows.{word_at, row_size}
-use Rattle.ist_rest.specs.WordRows.{reads_in}
+use Rattle.ist_rest.specs.WordRows.{word_at, row_size, reads_in}
 use Rattle.ist_rest.proofs.RowLemmas.{word_is, first_word, size_word}
-use Rattle.ist_rest.proofs.PublishedLemmas.{IsStood, all_names, free, room, told, stands, shape}
-use Rattle.ist_rest.proofs.PublishedLemmas.{slots_there}
+use Rattle.ist_rest.proofs.PublishedLemmas.{IsStood, all_names, free, room, told, stands, shape, slots_there}
 
 module _ {pairs : List Pair} {words : List ℕ} {log : Log} (s : IsStood pairs words log) where
   abbrev t : Snapshot

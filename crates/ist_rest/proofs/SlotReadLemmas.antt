@@ -1,6 +1,5 @@
 -- One slot of an inner row in good shape, and the row that it reads as. Serves `settling.rt`.
-use Rattle.std.proofs.Common.{◌≡◌, ℕ, ◌+◌, ◌<◌, ◌≤◌, List, length, get_or, Some, sym, ap, ◌∙◌}
-use Rattle.std.proofs.Common.{⊎_elim, arith}
+use Rattle.std.proofs.Common.{◌≡◌, ℕ, ◌+◌, ◌<◌, ◌≤◌, List, length, get_or, Some, sym, ap, ◌∙◌, ⊎_elim, arith}
 use Rattle.std.proofs.lemmas.Bool.Decides.{eqb_tells}
 use Rattle.ist_core.specs.References.{InnerAt}
 use Rattle.ist_core.specs.RowLayout.{next_place}
@@ -9,8 +8,7 @@ use Rattle.ist_rest.specs.WordRows.{word_at, row_degree, row_slots, reads_in}
 use Rattle.ist_rest.specs.Walks.{Visit, IsGood, IsGoodRow}
 use Rattle.ist_rest.specs.Steps.{IsRowHere}
 use Rattle.ist_rest.specs.Settling.{itself, through, IsSettledRow, AreSettledFrom, AreInShapeFrom}
-use Rattle.ist_rest.proofs.SettleLemmas.{slot_among, slot_number, shape_child, child_good, row_here}
-use Rattle.ist_rest.proofs.SettleLemmas.{settled_all, below_more}
+use Rattle.ist_rest.proofs.SettleLemmas.{slot_among, slot_number, shape_child, child_good, row_here, settled_all, below_more}
 
 -- what the first slots read as, if it is an inner row, is settled with all that is reached from it
 abbrev pub AreSettledTo : List ℕ → ℕ → ℕ → Type 0

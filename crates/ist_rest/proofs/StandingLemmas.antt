@@ -1,23 +1,18 @@
 -- Words that represent some pairs and calls hold the pairs of the map, in rows that share no word.
 -- Serves `laws.standing_words_hold_the_map`.
-use Rattle.std.proofs.Common.{◌≡◌, ℕ, suc, ◌+◌, List, [], ◌∷◌, ◌++◌}
-use Rattle.std.proofs.Common.{length, map, slice_get, Option, Some, refl, sym, ap}
-use Rattle.std.proofs.Common.{◌∙◌, subst, inl, inr, ⊎_elim, ◌≢◌, arith, length-append}
+use Rattle.std.proofs.Common.{◌≡◌, ℕ, suc, ◌+◌, List, [], ◌∷◌, ◌++◌, length, map, slice_get, Option, Some, refl, sym, ap, ◌∙◌, subst, inl, inr, ⊎_elim, ◌≢◌, arith, length-append}
 use Rattle.std.proofs.lemmas.Option.{get_or_from_slice_get}
 use Rattle.std.proofs.lemmas.List.{append_assoc, append-nil, map-append}
 use Rattle.ist_core.specs.declared.pairs.Pair.{Pair}
 use Rattle.ist_core.specs.declared.states.InnerRow.{InnerRow}
-use Rattle.ist_core.specs.RowLayout.{anchor_slot_place}
-use Rattle.ist_core.specs.RowLayout.{inner_words, leaf_words}
+use Rattle.ist_core.specs.RowLayout.{anchor_slot_place, inner_words, leaf_words}
 use Rattle.ist_core.specs.References.{Ref, Empty, LeafAt, InnerAt}
 use Rattle.ist_core.specs.Elements.{Among, Each}
 use Rattle.ist_core.specs.Pieces.{Piece, Leaf, Inner, Rebuild, size_of}
 use Rattle.ist_core.specs.Snapshots.{Snapshot}
 use Rattle.ist_core.specs.Links.{IsChild}
-use Rattle.ist_core.specs.Slots.{in_anchor}
-use Rattle.ist_core.specs.Slots.{logical}
-use Rattle.ist_core.specs.Leaves.{PlacedLeaf, pair_of, HasLeaves, SlotsHaveLeaves, none_here}
-use Rattle.ist_core.specs.Leaves.{leaf_here, row_here, no_slot, one_slot, HasContents}
+use Rattle.ist_core.specs.Slots.{in_anchor, logical}
+use Rattle.ist_core.specs.Leaves.{PlacedLeaf, pair_of, HasLeaves, SlotsHaveLeaves, none_here, leaf_here, row_here, no_slot, one_slot, HasContents}
 use Rattle.ist_core.specs.Logs.{Log}
 use Rattle.ist_core.specs.Rows.{Apart}
 use Rattle.ist_core.specs.Lawful.{state_of}
@@ -26,21 +21,13 @@ use Rattle.ist_core.proofs.OrderLemmas.{child_above}
 use Rattle.ist_core.proofs.LeadingLemmas.{lies_above}
 use Rattle.ist_core.proofs.UnderLemmas.{slot_reads_as}
 use Rattle.ist_core.proofs.LeafOrderLemmas.{leaves_lie}
-use Rattle.ist_rest.specs.WordRows.{word_at, row_degree, row_slots}
-use Rattle.ist_rest.specs.WordRows.{Span}
-use Rattle.ist_rest.specs.Walks.{Visit, IsGood}
-use Rattle.ist_rest.specs.Walks.{rows_read, pairs_read, visits_from, visits_below, Walks, ends}
-use Rattle.ist_rest.specs.Walks.{goes_on, first_visit, IsApartFrom, AreApart}
+use Rattle.ist_rest.specs.WordRows.{word_at, row_degree, row_slots, Span}
+use Rattle.ist_rest.specs.Walks.{Visit, IsGood, rows_read, pairs_read, visits_from, visits_below, Walks, ends, goes_on, first_visit, IsApartFrom, AreApart}
 use Rattle.ist_rest.specs.RestingWords.{HoldPairs, AreLawful}
-use Rattle.ist_rest.proofs.UnderLemmas.{HasHome, as_child, as_rebuild, up_here, IsReadUnder, row_under}
-use Rattle.ist_rest.proofs.UnderLemmas.{leaf_under, rebuild_inner, no_home, one_under, not_below}
-use Rattle.ist_rest.proofs.UnderLemmas.{under_child, bases, AreRows, add_row}
+use Rattle.ist_rest.proofs.UnderLemmas.{HasHome, as_child, as_rebuild, up_here, IsReadUnder, row_under, leaf_under, rebuild_inner, no_home, one_under, not_below, under_child, bases, AreRows, add_row}
 use Rattle.ist_rest.proofs.RowLemmas.{word_is, first_word}
-use Rattle.ist_rest.proofs.PublishedLemmas.{IsStood, all_names, free, good_bounds, IsVisitOfSlot, reading}
-use Rattle.ist_rest.proofs.PublishedLemmas.{good_leaf, shape, keys_there, slots_there, degree_there}
-use Rattle.ist_rest.proofs.PublishedLemmas.{good_row}
-use Rattle.ist_rest.proofs.ReadOnceLemmas.{WalkFinds, AreElsewhere, AreBefore, Longer, LongerBy}
-use Rattle.ist_rest.proofs.ReadOnceLemmas.{at_slot, homes, led_through}
+use Rattle.ist_rest.proofs.PublishedLemmas.{IsStood, all_names, free, good_bounds, IsVisitOfSlot, reading, good_leaf, shape, keys_there, slots_there, degree_there, good_row}
+use Rattle.ist_rest.proofs.ReadOnceLemmas.{WalkFinds, AreElsewhere, AreBefore, Longer, LongerBy, at_slot, homes, led_through}
 
 module _ {pairs : List Pair} {words : List ℕ} {log : Log} (s : IsStood pairs words log) where
   abbrev t : Snapshot

@@ -1,15 +1,13 @@
 -- Walks: they are one, they are split between slots, and what is found below a slot lies as its way
 -- says.
-use Rattle.std.proofs.Common.{◌≡◌, ℕ, ◌+◌, List, [], ◌∷◌, ◌++◌, Some, refl, sym, ap, ◌∙◌, subst}
-use Rattle.std.proofs.Common.{inr}
+use Rattle.std.proofs.Common.{◌≡◌, ℕ, ◌+◌, List, [], ◌∷◌, ◌++◌, Some, refl, sym, ap, ◌∙◌, subst, inr}
 use Rattle.std.proofs.lemmas.List.{append_assoc}
 use Rattle.ist_core.specs.declared.pairs.Pair.{Pair}
 use Rattle.ist_core.specs.References.{Ref, Empty, Unset, LeafAt, InnerAt, ChangeAt, RebuildAt}
 use Rattle.ist_core.specs.Elements.{Among, Each}
 use Rattle.ist_core.proofs.ElementLemmas.{each_append, each-among}
 use Rattle.ist_rest.specs.WordRows.{Span, row_keys, row_slots, row_degree, leaf_key}
-use Rattle.ist_rest.specs.Walks.{Way, Visit, LeadsBy, IsGood, IsGoodAs, rows_read, pairs_read}
-use Rattle.ist_rest.specs.Walks.{visits_from, visits_below, Walks, ends, goes_on, AreApart}
+use Rattle.ist_rest.specs.Walks.{Way, Visit, LeadsBy, IsGood, IsGoodAs, rows_read, pairs_read, visits_from, visits_below, Walks, ends, goes_on, AreApart}
 use Rattle.ist_rest.specs.RestingWords.{read_on, BreaksFirstAt, breaks, later}
 
 -- ---- split

@@ -1,13 +1,11 @@
 -- An interval that has all keys below 2^64 has all pairs. Serves `listing.all_words`.
-use Rattle.std.proofs.Common.{◌<◌, ◌^◌, ◌++◌, ◌&&◌, nat_le, if◌then◌else◌, true, arith, subst, IfOk}
-use Rattle.std.proofs.Common.{Result, Ok, Err, get_or, ◌≡◌, ◌∙◌, sym, ap, ℕ, List, [], ◌∷◌, refl}
+use Rattle.std.proofs.Common.{◌<◌, ◌^◌, ◌++◌, ◌&&◌, nat_le, if◌then◌else◌, true, arith, subst, IfOk, Result, Ok, Err, get_or, ◌≡◌, ◌∙◌, sym, ap, ℕ, List, [], ◌∷◌, refl}
 use Rattle.std.proofs.lemmas.Bool.Decides.{nat_tests}
 use Rattle.ist_core.specs.declared.pairs.Pair.{Pair}
 use Rattle.ist_core.specs.Map.{pairs_between}
 use Rattle.ist_core.specs.References.{Ref, Empty, Unset, LeafAt, InnerAt, ChangeAt, RebuildAt}
 use Rattle.ist_rest.specs.WordRows.{Span, word_at}
-use Rattle.ist_rest.specs.Walks.{Visit, first_visit, Walks, ends, goes_on, pairs_read}
-use Rattle.ist_rest.specs.Walks.{visits_below}
+use Rattle.ist_rest.specs.Walks.{Visit, first_visit, Walks, ends, goes_on, pairs_read, visits_below}
 use Rattle.ist_rest.specs.RestingWords.{HoldPairs, AreListed}
 use Rattle.ist_rest.proofs.IntervalLemmas.{between-append}
 use Rattle.ist_rest.proofs.WalkLemmas.{one_walk}

@@ -1,6 +1,5 @@
 -- The work that is left falls with each slot that is visited. Serves `listing.list_words`.
-use Rattle.std.proofs.Common.{◌≡◌, ℕ, zero, suc, ◌+◌, ◌-◌, ◌<◌, ◌≤◌, List, [], ◌∷◌, length, map}
-use Rattle.std.proofs.Common.{drop, slice_range, Some, refl, sym, ap, ◌∙◌, subst, arith}
+use Rattle.std.proofs.Common.{◌≡◌, ℕ, zero, suc, ◌+◌, ◌-◌, ◌<◌, ◌≤◌, List, [], ◌∷◌, length, map, drop, slice_range, Some, refl, sym, ap, ◌∙◌, subst, arith}
 use Rattle.std.proofs.lemmas.List.Sums.{sum_by-cons, sum_by-take-drop}
 use Rattle.std.specs.List.{sum_by}
 use Rattle.ist_core.specs.Arithmetic.{child_count}
@@ -9,8 +8,7 @@ use Rattle.ist_core.specs.References.{Ref, Empty, Unset, LeafAt, InnerAt, Change
 use Rattle.ist_rest.specs.declared.slots.SlotLeft.{SlotLeft}
 use Rattle.ist_rest.specs.WordRows.{word_at, row_keys, row_slots, reads_in}
 use Rattle.ist_rest.specs.Walks.{Visit, IsGoodAs}
-use Rattle.ist_rest.specs.Steps.{slots_at, work, work_of, work_left, slot_of, slots_between}
-use Rattle.ist_rest.specs.Steps.{IsGoodSlot}
+use Rattle.ist_rest.specs.Steps.{slots_at, work, work_of, work_left, slot_of, slots_between, IsGoodSlot}
 
 -- a sum of greater numbers
 sum_mono : (f g : ℕ → ℕ) → ((x : ℕ) → f x ≤ g x) → (xs : List ℕ) → sum_by f xs ≤ sum_by g xs

@@ -3,8 +3,7 @@ use Rattle.std.specs.Prelude.{◌≡◌, ℕ, ◌<◌, List, Some}
 use Rattle.ist_core.specs.RowLayout.{place_limit}
 use Rattle.ist_core.specs.References.{Ref, Empty, LeafAt, InnerAt}
 use Rattle.ist_core.specs.Elements.{Each}
-use Rattle.ist_rest.specs.WordRows.{past_change_in, past_rebuild_in, change_on, rebuild_on}
-use Rattle.ist_rest.specs.WordRows.{IsWithinUsed}
+use Rattle.ist_rest.specs.WordRows.{past_change_in, past_rebuild_in, change_on, rebuild_on, IsWithinUsed}
 use Rattle.ist_rest.specs.Walks.{HasDecision}
 
 -- what a slot in good shape reads as: nothing, a leaf or an inner row

@@ -5,8 +5,7 @@ use Rattle.ist_core.specs.RowLayout.{next_place, anchor_status_place, first_row,
 use Rattle.ist_core.specs.Statuses.{open_word}
 use Rattle.ist_core.specs.Map.{pairs_between}
 use Rattle.ist_rest.specs.WordRows.{word_at, Span}
-use Rattle.ist_rest.specs.Walks.{Visit, IsGood, rows_read, visits_below, Walks, first_visit}
-use Rattle.ist_rest.specs.Walks.{AreApart}
+use Rattle.ist_rest.specs.Walks.{Visit, IsGood, rows_read, visits_below, Walks, first_visit, AreApart}
 
 -- the fixed words are in good shape, and the words that aren't reserved are 0
 pub record HasGoodBounds (words : List ℕ) : Type 0 where

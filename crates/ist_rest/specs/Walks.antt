@@ -1,19 +1,16 @@
 -- The walk over the words of a table at rest: from the anchor's slot on, slot by slot, each subtree
 -- before the next slot. It is a relation between the slots still to visit and what is found in
 -- them.
-use Rattle.std.specs.Prelude.{◌≡◌, ℕ, ◌+◌, ◌<◌, ◌≤◌, List, [], ◌∷◌, ◌++◌, Option, Some, is_some}
-use Rattle.std.specs.Prelude.{true}
+use Rattle.std.specs.Prelude.{◌≡◌, ℕ, ◌+◌, ◌<◌, ◌≤◌, List, [], ◌∷◌, ◌++◌, Option, Some, is_some, true}
 use Rattle.std.specs.List.Sorted.{IsStrictlyIncreasing}
 use Rattle.ist_core.specs.declared.pairs.Pair.{Pair}
 use Rattle.ist_core.specs.Arithmetic.{child_count}
 use Rattle.ist_core.specs.RowLayout.{anchor, anchor_slot_place, inner_words, leaf_words}
-use Rattle.ist_core.specs.References.{Ref, Empty, Unset, LeafAt, InnerAt, ChangeAt, RebuildAt}
-use Rattle.ist_core.specs.References.{ref_of}
+use Rattle.ist_core.specs.References.{Ref, Empty, Unset, LeafAt, InnerAt, ChangeAt, RebuildAt, ref_of}
 use Rattle.ist_core.specs.Statuses.{status_of}
 use Rattle.ist_core.specs.Elements.{Each}
 use Rattle.ist_core.specs.Rows.{Apart}
-use Rattle.ist_rest.specs.WordRows.{word_at, leaf_key, leaf_value, row_degree, row_size, row_keys}
-use Rattle.ist_rest.specs.WordRows.{row_slots, reads_in, rows_on, Span, IsWithinUsed}
+use Rattle.ist_rest.specs.WordRows.{word_at, leaf_key, leaf_value, row_degree, row_size, row_keys, row_slots, reads_in, rows_on, Span, IsWithinUsed}
 
 -- a way through an inner row: its keys, and the number of the slot that was taken
 pub record Way : Type 0 where

@@ -1,9 +1,6 @@
 -- The rows of a table as they are read from its words only, and what a slot word reads as.
-use Rattle.std.specs.Prelude.{ℕ, ◌+◌, ◌≤◌, ◌==◌, if◌then◌else◌, List, [], ◌∷◌, ◌++◌, get_or}
-use Rattle.std.specs.Prelude.{slice_range, Option, Some}
-use Rattle.ist_core.specs.RowLayout.{next_place, first_row, change_words, rebuild_words}
-use Rattle.ist_core.specs.RowLayout.{leaf_value_offset, inner_degree_offset, inner_size_offset}
-use Rattle.ist_core.specs.RowLayout.{change_from_offset, change_to_offset}
+use Rattle.std.specs.Prelude.{ℕ, ◌+◌, ◌≤◌, ◌==◌, if◌then◌else◌, List, [], ◌∷◌, ◌++◌, get_or, slice_range, Option, Some}
+use Rattle.ist_core.specs.RowLayout.{next_place, first_row, change_words, rebuild_words, leaf_value_offset, inner_degree_offset, inner_size_offset, change_from_offset, change_to_offset}
 use Rattle.ist_core.specs.References.{Ref, InnerAt, ChangeAt, RebuildAt, ref_of}
 use Rattle.ist_core.specs.Statuses.{decided_yes}
 

@@ -1,7 +1,6 @@
 //! Whether the words of a table are in bounds, before any row is read.
-ghost use Rattle.std.specs.Prelude.{◌≡◌, ℕ, ◌<◌, ◌≤◌, ◌↔◌, length, IsTrue};
+ghost use Rattle.std.specs.Prelude.{◌≡◌, ◌↔◌, length, IsTrue};
 ghost use Rattle.ist_rest.specs.RestingWords.{HasGoodBounds};
-ghost use Rattle.ist_rest.specs.WordRows.{word_at};
 
 use crate::words::WordList;
 use ist_layout::{ANCHOR_STATUS_PLACE, FIRST_ROW, NEXT_PLACE, PLACE_LIMIT};

@@ -1,7 +1,7 @@
 //! Finds the child of an inner row in whose range a key lies.
-ghost use Rattle.std.specs.Prelude.{◌≡◌, ℕ, ◌+◌, ◌-◌, ◌*◌, ◌<◌, ◌≤◌, ◌^◌, length, get_or};
+ghost use Rattle.std.specs.Prelude.{◌≡◌, ◌+◌, ◌-◌, ◌<◌, ◌≤◌, length, get_or};
 ghost use Rattle.ist_core.specs.Arithmetic.{child_count};
-ghost use Rattle.ist_core.specs.RowLayout.{inner_words, next_place, place_limit};
+ghost use Rattle.ist_core.specs.RowLayout.{next_place, place_limit};
 ghost use Rattle.ist_rest.specs.WordRows.{word_at, row_degree, row_keys};
 ghost use Rattle.ist_rest.specs.Steps.{IsRowHere};
 

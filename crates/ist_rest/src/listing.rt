@@ -2,10 +2,8 @@
 //!
 //! A tree may be as deep as it has inner rows, so the slots still to visit are a list, and nothing
 //! here is recursive.
-ghost use Rattle.std.specs.Prelude.{◌≡◌, ℕ, ◌+◌, ◌<◌, ◌≤◌, ◌^◌, ◌++◌, ◌∷◌, [], length, reverse};
+ghost use Rattle.std.specs.Prelude.{◌≡◌, ◌+◌, ◌≤◌, ◌++◌, length, reverse};
 ghost use Rattle.std.specs.Prelude.{IfOk, OnOk, Some, slice_range};
-ghost use Rattle.ist_core.specs.Arithmetic.{child_count};
-ghost use Rattle.ist_core.specs.Map.{pairs_between};
 ghost use Rattle.ist_core.specs.RowLayout.{leaf_words, next_place, place_limit, first_row};
 ghost use Rattle.ist_core.specs.References as references;
 ghost use Rattle.ist_rest.specs.WordRows as word_rows;

@@ -1,5 +1,5 @@
 //! What a slot of a table at rest reads as.
-ghost use Rattle.std.specs.Prelude.{◌≡◌, ℕ, ◌+◌, ◌<◌, ◌≤◌, ◌^◌, ◌↔◌, length, IfSome, IsTrue};
+ghost use Rattle.std.specs.Prelude.{◌≡◌, ◌≤◌, ◌↔◌, length, IfSome, IsTrue};
 ghost use Rattle.ist_core.specs.References as references;
 ghost use Rattle.ist_core.specs.RowLayout.{first_row, place_limit, next_place};
 ghost use Rattle.ist_layout.specs.Meanings.{ref_meant};

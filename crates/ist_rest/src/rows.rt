@@ -1,7 +1,6 @@
 //! The fields of a row, read from the words.
-ghost use Rattle.std.specs.Prelude.{◌≡◌, ℕ, ◌+◌, ◌*◌, ◌<◌, ◌≤◌, ◌^◌, length, get_or};
+ghost use Rattle.std.specs.Prelude.{◌≡◌, ◌+◌, ◌<◌, ◌≤◌, length, get_or};
 ghost use Rattle.ist_core.specs.RowLayout.{inner_words, leaf_words, next_place, place_limit};
-ghost use Rattle.ist_core.specs.declared.pairs.Pair.{Pair};
 ghost use Rattle.ist_rest.specs.WordRows as word_rows;
 ghost use Rattle.ist_rest.specs.WordRows.{word_at, IsWithinUsed, row_degree, row_keys, row_slots};
 ghost use Rattle.ist_rest.specs.Steps.{IsRowHere};

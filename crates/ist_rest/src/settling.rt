@@ -3,8 +3,7 @@
 //! It goes down from a row to its children, but never below a row that isn't settled. A settled row
 //! counts few updates: if each update is counted at the rows above it, a way down has few rows that
 //! updates made. No clause bounds how many.
-ghost use Rattle.std.specs.Prelude.{◌≡◌, ℕ, ◌+◌, ◌<◌, ◌≤◌, ◌^◌, ◌↔◌, length, IsTrue, IfSome};
-ghost use Rattle.std.specs.Prelude.{Some, None};
+ghost use Rattle.std.specs.Prelude.{◌≡◌, ℕ, ◌≤◌, ◌↔◌, length, IsTrue, IfSome, Some, None};
 ghost use Rattle.ist_core.specs.RowLayout.{next_place, place_limit, first_row};
 ghost use Rattle.ist_rest.specs.WordRows.{word_at, reads_in};
 ghost use Rattle.ist_core.specs.References.{InnerAt};

@@ -1,5 +1,5 @@
 //! Reserving all rows of a build at one step.
-ghost use Rattle.std.specs.Prelude.{◌≡◌, ◌+◌, ◌<◌, ◌≤◌, ◌^◌, ℕ, List, length, None, IfSome};
+ghost use Rattle.std.specs.Prelude.{◌≡◌, ◌<◌, ◌≤◌, ◌^◌, ℕ, List, length, None, IfSome};
 ghost use Rattle.std.specs.List.{sum};
 ghost use Rattle.ist_core.specs.declared.events.Who.TheVariants.{Caller as CallerOf};
 ghost use Rattle.ist_rule.specs.Faces.{word_count_of};

@@ -1,5 +1,5 @@
 //! Entering one more caller.
-ghost use Rattle.std.specs.Prelude.{◌≡◌, ◌+◌, ◌<◌, ◌-◌, ◌^◌, [], None};
+ghost use Rattle.std.specs.Prelude.{◌≡◌, ◌+◌, ◌<◌, [], None};
 ghost use Rattle.ist_core.specs.Enabled.{caller_limit};
 ghost use Rattle.ist_core.specs.declared.events.Who.TheVariants.{Maker, Caller as CallerOf};
 ghost use Rattle.ist_core.specs.Authors.{IsIdleIn};

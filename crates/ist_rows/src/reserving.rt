@@ -1,5 +1,5 @@
 //! Reserving a row for a caller.
-ghost use Rattle.std.specs.Prelude.{◌≡◌, ◌+◌, ◌<◌, ◌^◌, [], ◌∷◌, IfSome, IfOk, IfErr, Ok};
+ghost use Rattle.std.specs.Prelude.{◌≡◌, ◌<◌, ◌^◌, [], ◌∷◌, IfSome, IfOk, IfErr, Ok};
 ghost use Rattle.ist_core.specs.RowLayout.{inner_words, place_limit};
 ghost use Rattle.ist_core.specs.declared.events.Who.TheVariants.{Caller as CallerOf};
 ghost use Rattle.ist_rule.specs.Faces.{word_count_of};
@@ -20,7 +20,8 @@ fn take(table: &TreeTable, token: &mut TreeToken, number: u32, size: u64) -> Res
     requires caller { token.old.view.who ≡ CallerOf number }
     requires fair { MayTake token.old.view number size }
     requires small { size < 2 ^ 32 }
-    ensures reserved { IfOk result (λ base. Reserved token.old.view number base size token.new.view) }
+    ensures reserved { IfOk result (λ base.
+        Reserved token.old.view number base size token.new.view) }
     ensures full { IfErr result (λ full.
         IsFull token.old.view (word_count_of table.now) size full token.new.view) }
 {

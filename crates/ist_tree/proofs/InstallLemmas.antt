@@ -6,7 +6,7 @@ use Rattle.ist_core.specs.declared.events.Event.TheVariants.{Install}
 use Rattle.ist_core.specs.declared.pairs.Pair.{Pair}
 use Rattle.ist_core.specs.declared.ports.Full.{Full}
 use Rattle.ist_core.specs.declared.states.InnerRow.{InnerRow}
-use Rattle.ist_core.specs.Authors.{GoesOnBy}
+use Rattle.ist_core.specs.Authors.{GoesOnBy, LaterBy, whose}
 use Rattle.ist_core.specs.Lawful.{EachEnabled, state_of}
 use Rattle.ist_core.specs.Logs.{GoesOn, Log, same_log}
 use Rattle.ist_core.specs.Pieces.{Inner}
@@ -18,7 +18,6 @@ use Rattle.ist_core.proofs.GrowingLemmas.{inner_there, due_later}
 use Rattle.laws_calls.specs.Settling.{InstallsNoStart}
 use Rattle.ist_rule.specs.declared.view.View.{View}
 use Rattle.ist_core.specs.declared.events.Who.TheVariants.{Caller as CallerOf}
-use Rattle.ist_core.specs.Authors.{LaterBy, whose}
 use Rattle.ist_rule.specs.Going.{SearchedOn, WentOn}
 use Rattle.ist_rule.proofs.LaterLemmas.{goes_on_length}
 use Rattle.ist_rule.specs.Faces.{TokenFace}

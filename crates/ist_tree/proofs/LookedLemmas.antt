@@ -1,10 +1,10 @@
 -- A find that is given up at its end, in the words of its steps, and what it leaves. Serves `find_unless` and `update_if`.
 use Rattle.std.proofs.Common.{◌≡◌, ◌≢◌, ℕ, ◌+◌, ◌∷◌, Option, Some, None, length, refl, inl, ⊎_elim, sym, ap, ◌∙◌, subst, arith}
 use Rattle.ist_core.specs.declared.events.Event.TheVariants.{Count}
-use Rattle.ist_core.specs.Authors.{whose}
+use Rattle.ist_core.specs.Authors.{whose, Later}
 use Rattle.laws_calls.proofs.DoneLemmas.{others_start_nothing}
 use Rattle.ist_tree.specs.Refusals.{KeepsRowRefusal}
-use Rattle.ist_tree.specs.Rounds.{HasNoEffect}
+use Rattle.ist_tree.specs.Rounds.{HasNoEffect, HadValue}
 use Rattle.ist_tree.proofs.RowAtLimitLemmas.{event_since}
 use Rattle.ist_tree.proofs.CountedLemmas.{others_counted}
 use Rattle.ist_tree.proofs.InstallLemmas.{none_due, not_before}
@@ -12,7 +12,6 @@ use Rattle.ist_core.specs.declared.commands.Command.TheVariants.{Get}
 use Rattle.ist_core.specs.declared.events.Who.{Who}
 use Rattle.ist_core.specs.declared.events.Who.TheVariants.{Caller as CallerOf}
 use Rattle.ist_core.specs.declared.ports.Full.{Full}
-use Rattle.ist_core.specs.Authors.{Later}
 use Rattle.laws_histories.specs.Searching.{HasPosition}
 use Rattle.ist_rule.specs.declared.view.View.{View}
 use Rattle.ist_rule.specs.Conditions.{CanGiveUp}
@@ -27,7 +26,6 @@ use Rattle.ist_tree.specs.Calls.{HasSeenMore}
 use Rattle.ist_tree.specs.Faces.{PassFace}
 use Rattle.ist_tree.specs.Freezing.{HasStartedNone}
 use Rattle.ist_tree.specs.Insides.{IsPass, IsPassWith, face_as, pass_face}
-use Rattle.ist_tree.specs.Rounds.{HadValue}
 use Rattle.ist_rule.proofs.SpeakLemmas.{go_on_more}
 use Rattle.ist_tree.proofs.HeardLemmas.{heard_same, heard_turned}
 use Rattle.ist_tree.proofs.IdleCallerLemmas.{between_after, between_calls}

@@ -1,7 +1,6 @@
 -- The calls of passes in the order of their numbers. Serves `tele_run::run_on_tree` and
 -- `Map::run`.
-use Rattle.std.proofs.Common.{◌≡◌, ℕ, zero, suc, ◌+◌, ◌<◌, ◌==◌, ◌≢◌, ◌⊎◌, true, false, List, []}
-use Rattle.std.proofs.Common.{◌∷◌, length, map, refl, arith, inl, inr}
+use Rattle.std.proofs.Common.{◌≡◌, ℕ, zero, suc, ◌+◌, ◌<◌, ◌==◌, ◌≢◌, ◌⊎◌, true, false, List, [], ◌∷◌, length, map, refl, arith, inl, inr}
 use Rattle.std.proofs.lemmas.Bool.Decides.{eqb_tells}
 use Rattle.std.specs.List.{range_with_len}
 use Rattle.std.proofs.lemmas.Bool.{ne_eqb}

@@ -1,6 +1,5 @@
 //! Updates on the condition that a key has a value.
-ghost use Rattle.std.specs.Prelude.{◌≡◌};
-ghost use Rattle.std.specs.Prelude.{Some, None, IfOk, IfErr};
+ghost use Rattle.std.specs.Prelude.{◌≡◌, Some, None, IfOk, IfErr};
 ghost use Rattle.ist_core.specs.declared.commands.Command.TheVariants.{Put, Remove};
 ghost use Rattle.ist_tree.specs.Updates.{HasAnswered, HasRunRounds, IsTurnedAway};
 

@@ -1,29 +1,24 @@
 //! Changing a slot: rows are reserved and filled, and the change is installed and helped.
-ghost use Rattle.std.specs.Prelude.{◌≡◌, ◌<◌, ◌≤◌, ◌⊎◌, ◌∷◌, ℕ, true, false, Some, Ok, IfOk, IfErr};
-ghost use Rattle.ist_core.specs.declared.commands.Command.{Command};
-ghost use Rattle.ist_core.specs.Changes.{command_of, reply_of};
+ghost use Rattle.std.specs.Prelude.{◌≡◌, ◌<◌, ◌≤◌, ◌⊎◌, ◌∷◌, ℕ, true, false, Some, IfOk, IfErr};
 ghost use Rattle.ist_core.specs.Installing.{IsUnrefused};
 ghost use Rattle.ist_core.specs.Rebuilding.{IsUpdate};
 ghost use Rattle.ist_rule.specs.Faces.{word_count_of};
 ghost use Rattle.ist_rule.specs.Learning.{now, GoesOnTo};
 ghost use Rattle.ist_rule.specs.Watching.{IsNode};
-ghost use Rattle.laws_coming.specs.Further.{CameFurther};
-ghost use Rattle.ist_updates.specs.Further.{HasAimed, HoldsElse};
-ghost use Rattle.ist_rule.specs.declared.view.View.{View};
+ghost use Rattle.ist_updates.specs.Further.{HoldsElse};
 ghost use Rattle.ist_rows.specs.Building.{HasRefused};
 ghost use Rattle.ist_rows.specs.CallerLaws.{without_rows};
 ghost use Rattle.ist_rows.specs.declared.kinds.Kind.TheVariants as kind;
 ghost use Rattle.ist_rows.specs.Kinds.{kind_words};
 ghost use Rattle.ist_rows.specs.Rows.{IsCaller, IsAtTable, spares_of, row_of, with_spare};
 ghost use Rattle.ist_dcss.specs.Installing.{Filling, IsInstallable, IsInstalled};
-ghost use Rattle.ist_rows.specs.Going.{IsQuiet, HasGone};
+ghost use Rattle.ist_rows.specs.Going.{HasGone};
 ghost use Rattle.ist_updates.specs.Answering.{HasCarried, HasChanged};
 ghost use Rattle.ist_updates.specs.Asking.{IsAsked};
 ghost use Rattle.ist_updates.specs.Changing.{WasAtSlot, Prepares, HasRows};
 ghost use Rattle.ist_updates.specs.Changing.{MayReplace, MayAskFor, IsRowShort, IsPlanned, row_for};
 ghost use Rattle.ist_updates.specs.Changing.{command_by, filling_of, kinds_of};
 ghost use Rattle.ist_updates.specs.declared.plans.SlotPlan.TheVariants as way;
-ghost use Rattle.ist_updates.specs.Trying.{Tries, HasTakenEffect};
 
 use crate::filling::fill_rows;
 use crate::plans::{Aim, Fresh, PlannedChange, SlotPlan};

@@ -1,6 +1,6 @@
 //! Filling the rows of a plan.
 ghost use Rattle.std.specs.Prelude.{◌≡◌, Some};
-ghost use Rattle.ist_core.specs.Pieces.{words_of, Leaf, Change};
+ghost use Rattle.ist_core.specs.Pieces.{words_of, Change};
 ghost use Rattle.ist_core.specs.References.{IsGoodBase};
 ghost use Rattle.ist_core.specs.Snapshots.{bases_of};
 ghost use Rattle.ist_core.specs.Installing.{new_leaf, pair_row};

@@ -1,5 +1,5 @@
 //! Trying an update at the slot of its key.
-ghost use Rattle.std.specs.Prelude.{◌≡◌, ◌≢◌, true, false, Option, Some, None, Ok, IfOk};
+ghost use Rattle.std.specs.Prelude.{◌≡◌, ◌≢◌, true, false, Some, None, Ok, IfOk};
 ghost use Rattle.ist_updates.specs.declared.updates.When.{When as WhenOf};
 ghost use Rattle.ist_updates.specs.declared.updates.Outcome.TheVariants.{Unmet};
 ghost use Rattle.ist_core.specs.Changes.{value_in};

@@ -1,5 +1,5 @@
 -- A put or remove reached its slot by its key. Serves the changes law.
-use Rattle.std.proofs.Common.{◌≡◌, ℕ, List, ◌∷◌, ⊎_elim, arith}
+use Rattle.std.proofs.Common.{◌≡◌, ℕ, List, ◌∷◌, ⊎_elim, arith, Some}
 use Rattle.ist_core.specs.declared.pairs.Pair.{Pair}
 use Rattle.ist_core.specs.declared.lists.Row.{Row}
 use Rattle.ist_core.specs.declared.states.ChangeRow.{ChangeRow}
@@ -14,7 +14,6 @@ use Rattle.ist_core.specs.Rebuilding.{IsUpdate}
 use Rattle.ist_core.specs.Installing.{FitsKind, a_put, a_pair, a_remove, a_start, a_finish, ComesByKey}
 use Rattle.ist_core.specs.Lawful.{EachEnabled, state_of}
 use Rattle.ist_core.specs.Pieces.{Change}
-use Rattle.std.proofs.Common.{Some}
 use Rattle.ist_core.proofs.PrefixLemmas.{ever_from}
 use Rattle.ist_core.proofs.GrowingLemmas.{child_remains}
 use Rattle.ist_core.proofs.FateLemmas.{grow_after}

@@ -8,8 +8,7 @@ ghost use Rattle.laws_histories.specs.Calls.{ChangesGoOn, CallsStandOn, CallsAre
 ghost use Rattle.laws_histories.specs.Calls.{ReadingsStand, UpdatesTakeEffect, UpdatesStand};
 ghost use Rattle.laws_histories.specs.Weaving.{WovenIsLegal, TakenBackIsLegal};
 ghost use Rattle.laws_histories.specs.Weaving.{LearntCallsComeFirst};
-ghost use Rattle.laws_histories.specs.Placing.{WovenHasPlaces, CallsHavePlaces};
-ghost use Rattle.laws_histories.specs.Placing.{FollowersComeLater};
+ghost use Rattle.laws_histories.specs.Placing.{WovenHasPlaces, CallsHavePlaces, FollowersComeLater};
 ghost use Rattle.laws_histories.specs.Loads.{WordsStandInTheImage, WordsAreOne};
 ghost use Rattle.laws_histories.specs.Loads.{WordsLieInNoOtherRow, PrefixesAreAt, LoadsTellOn};
 ghost use Rattle.laws_histories.specs.Searching.{LooksGoOn, SearchesComeOn, SearchesEndOn};

@@ -3,8 +3,7 @@ use Rattle.std.proofs.Common.{◌≡◌, ℕ, ◌+◌, ◌-◌, ◌≤◌, List,
 use Rattle.std.specs.FinMap as fin
 use Rattle.ist_core.specs.declared.commands.Command.{Command}
 use Rattle.ist_core.specs.Map.{Map, replay, pairs_of}
-use Rattle.ist_core.proofs.MapLemmas.{adds_few_keys}
-use Rattle.ist_core.proofs.MapLemmas.{length-pairs_of}
+use Rattle.ist_core.proofs.MapLemmas.{adds_few_keys, length-pairs_of}
 
 -- commands add at most as many pairs as there are commands
 pub adds_few_pairs : (m : Map) (cs : List Command)

@@ -1,22 +1,13 @@
 -- Words that agree at each place hold the same. Serves `laws.zeros_change_nothing`.
-use Rattle.std.proofs.Common.{◌≡◌, ℕ, ◌+◌, ◌*◌, ◌≤◌, ◌==◌, if◌then◌else◌}
-use Rattle.std.proofs.Common.{true, is_some, List, [], ◌∷◌, ◌++◌}
-use Rattle.std.proofs.Common.{slice_range, Option, Some, None, refl, sym, ap, ◌∙◌, subst}
-use Rattle.std.proofs.Common.{arith}
+use Rattle.std.proofs.Common.{◌≡◌, ℕ, ◌+◌, ◌*◌, ◌≤◌, ◌==◌, if◌then◌else◌, true, is_some, List, [], ◌∷◌, ◌++◌, slice_range, Option, Some, None, refl, sym, ap, ◌∙◌, subst, arith}
 use Rattle.std.specs.List.Sorted.{IsStrictlyIncreasing}
 use Rattle.ist_core.specs.declared.pairs.Pair.{Pair}
-use Rattle.ist_core.specs.RowLayout.{next_place, change_to_offset}
-use Rattle.ist_core.specs.RowLayout.{change_from_offset}
-use Rattle.ist_core.specs.References.{Ref, Empty, Unset, LeafAt, InnerAt, ChangeAt, RebuildAt}
-use Rattle.ist_core.specs.References.{ref_of}
+use Rattle.ist_core.specs.RowLayout.{next_place, change_to_offset, change_from_offset}
+use Rattle.ist_core.specs.References.{Ref, Empty, Unset, LeafAt, InnerAt, ChangeAt, RebuildAt, ref_of}
 use Rattle.ist_core.specs.Statuses.{status_of, decided_yes}
 use Rattle.ist_core.specs.Elements.{Each}
-use Rattle.ist_rest.specs.WordRows.{word_at, row_degree, row_keys, row_slots, side_in}
-use Rattle.ist_rest.specs.WordRows.{past_change_in, past_rebuild_in, reads_in, rows_on, change_on}
-use Rattle.ist_rest.specs.WordRows.{rebuild_on, Span, IsWithinUsed}
-use Rattle.ist_rest.specs.Walks.{Visit, LeadsBy, HasDecision, IsGoodRow, IsGoodAs, IsGood}
-use Rattle.ist_rest.specs.Walks.{row_read, rows_read, pairs_read, visits_from, visits_below, Walks}
-use Rattle.ist_rest.specs.Walks.{ends, goes_on, AreApart}
+use Rattle.ist_rest.specs.WordRows.{word_at, row_degree, row_keys, row_slots, side_in, past_change_in, past_rebuild_in, reads_in, rows_on, change_on, rebuild_on, Span, IsWithinUsed}
+use Rattle.ist_rest.specs.Walks.{Visit, LeadsBy, HasDecision, IsGoodRow, IsGoodAs, IsGood, row_read, rows_read, pairs_read, visits_from, visits_below, Walks, ends, goes_on, AreApart}
 use Rattle.ist_rest.specs.RestingWords.{read_on, BreaksFirstAt, breaks, later}
 
 -- the words agree at each place, and in each range that is in use

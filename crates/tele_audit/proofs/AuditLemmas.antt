@@ -1,29 +1,17 @@
 -- How far an audit has come, slot by slot. Serves `auditing.audit_words`.
-use Rattle.std.proofs.Common.{◌≡◌, ℕ, ◌+◌, ◌<◌, ◌≤◌}
-use Rattle.std.proofs.Common.{Bool, false, List, [], ◌∷◌, ◌++◌, length, map}
-use Rattle.std.proofs.Common.{reverse, replicate, get_or, Some, None}
-use Rattle.std.proofs.Common.{refl, sym, ap, ◌∙◌, subst, arith}
-use Rattle.std.proofs.lemmas.List.{append_assoc, append-nil}
-use Rattle.std.proofs.lemmas.List.{get_or-replicate, length-replicate}
+use Rattle.std.proofs.Common.{◌≡◌, ℕ, ◌+◌, ◌<◌, ◌≤◌, Bool, false, List, [], ◌∷◌, ◌++◌, length, map, reverse, replicate, get_or, Some, None, refl, sym, ap, ◌∙◌, subst, arith}
+use Rattle.std.proofs.lemmas.List.{append_assoc, append-nil, get_or-replicate, length-replicate}
 use Rattle.std.proofs.lemmas.List.Sums.{sum_by-append, sum_by-cons}
 use Rattle.std.specs.List.{sum_by}
 use Rattle.ist_core.specs.declared.pairs.Pair.{Pair}
 use Rattle.ist_core.specs.RowLayout.{next_place}
-use Rattle.ist_core.specs.References.{Ref, Empty, Unset, LeafAt, InnerAt, ChangeAt, RebuildAt}
-use Rattle.ist_core.specs.References.{ref_of}
+use Rattle.ist_core.specs.References.{Ref, Empty, Unset, LeafAt, InnerAt, ChangeAt, RebuildAt, ref_of}
 use Rattle.ist_rest.specs.declared.slots.SlotLeft.{SlotLeft}
 use Rattle.tele_audit.specs.declared.tasks.AuditTask.{AuditTask}
-use Rattle.ist_rest.specs.WordRows.{word_at, row_degree, row_keys, row_slots, rows_on}
-use Rattle.ist_rest.specs.WordRows.{reads_in}
-use Rattle.ist_rest.specs.Walks.{Visit, IsGood, IsGoodAs, Reads, row_read, rows_read, pairs_read}
-use Rattle.ist_rest.specs.Walks.{visits_below, Walks, ends, goes_on, first_visit}
-use Rattle.ist_rest.specs.Walks.{AreApart}
-use Rattle.ist_rest.specs.RestingWords.{HasGoodBounds, AreLawful, read_on, BreaksFirstAt, breaks}
-use Rattle.ist_rest.specs.RestingWords.{later}
-use Rattle.tele_audit.specs.Auditing.{AreMarked, IsTaskOf, AreTasksOf, no_task}
-use Rattle.tele_audit.specs.Auditing.{one_task, tasks_from}
-use Rattle.tele_audit.specs.Auditing.{tasks_below, PassesSlot, FailsSlot}
-use Rattle.tele_audit.specs.Auditing.{HasAudited, slot_of_task}
+use Rattle.ist_rest.specs.WordRows.{word_at, row_degree, row_keys, row_slots, rows_on, reads_in}
+use Rattle.ist_rest.specs.Walks.{Visit, IsGood, IsGoodAs, Reads, row_read, rows_read, pairs_read, visits_below, Walks, ends, goes_on, first_visit, AreApart}
+use Rattle.ist_rest.specs.RestingWords.{HasGoodBounds, AreLawful, read_on, BreaksFirstAt, breaks, later}
+use Rattle.tele_audit.specs.Auditing.{AreMarked, IsTaskOf, AreTasksOf, no_task, one_task, tasks_from, tasks_below, PassesSlot, FailsSlot, HasAudited, slot_of_task}
 use Rattle.ist_rest.specs.Steps.{work_of, work_left}
 use Rattle.ist_rest.proofs.ReverseLemmas.{turned, turned_back, sum_reverse}
 use Rattle.ist_rest.proofs.WorkLemmas.{row_falls, slot_work}

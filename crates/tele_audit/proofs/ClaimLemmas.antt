@@ -1,18 +1,11 @@
 -- Which rows an audit claims at a slot. Serves `auditing.examine`.
-use Rattle.std.proofs.Common.{◌≡◌, ℕ}
-use Rattle.std.proofs.Common.{Bool, List, [], ◌∷◌, ◌++◌}
-use Rattle.std.proofs.Common.{Some, Result, Ok, Err, IfOk}
-use Rattle.std.proofs.Common.{refl, sym, ap, ◌∙◌, subst}
-use Rattle.ist_core.specs.References.{Ref}
-use Rattle.ist_core.specs.References.{ref_of}
+use Rattle.std.proofs.Common.{◌≡◌, ℕ, Bool, List, [], ◌∷◌, ◌++◌, Some, Result, Ok, Err, IfOk, refl, sym, ap, ◌∙◌, subst}
+use Rattle.ist_core.specs.References.{Ref, ref_of}
 use Rattle.tele_audit.specs.declared.tasks.AuditTask.{AuditTask}
-use Rattle.ist_rest.specs.WordRows.{Span, rows_on}
-use Rattle.ist_rest.specs.WordRows.{reads_in}
-use Rattle.ist_rest.specs.Walks.{Visit, IsGood, IsGoodAs, Reads, row_read}
-use Rattle.ist_rest.specs.Walks.{AreApart}
+use Rattle.ist_rest.specs.WordRows.{Span, rows_on, reads_in}
+use Rattle.ist_rest.specs.Walks.{Visit, IsGood, IsGoodAs, Reads, row_read, AreApart}
 use Rattle.ist_rest.specs.RestingWords.{read_on}
-use Rattle.tele_audit.specs.Auditing.{AreMarked, IsTaskOf}
-use Rattle.tele_audit.specs.Auditing.{AreClaimed, AreRefused, FailsSlot}
+use Rattle.tele_audit.specs.Auditing.{AreMarked, IsTaskOf, AreClaimed, AreRefused, FailsSlot}
 use Rattle.ist_rest.proofs.WalkLemmas.{apart_both, apart_first, apart_second}
 
 -- ---- the rows of a slot

@@ -1,14 +1,9 @@
 -- What the first bytes of a dump say, and dumps of lawful words. Serves `audits` and the laws.
-use Rattle.std.proofs.Common.{◌≡◌, ℕ, zero, suc, ◌-◌, ◌<◌, ◌≤◌, ◌^◌, ◌==◌, nat_eq, nat_lt}
-use Rattle.std.proofs.Common.{Bool, true, false, if◌then◌else◌, List, [], ◌∷◌, ◌++◌, length, take}
-use Rattle.std.proofs.Common.{drop, get_or, replicate, Some, None, refl, sym, ap, ◌∙◌}
-use Rattle.std.proofs.Common.{arith}
+use Rattle.std.proofs.Common.{◌≡◌, ℕ, zero, suc, ◌-◌, ◌<◌, ◌≤◌, ◌^◌, ◌==◌, nat_eq, nat_lt, Bool, true, false, if◌then◌else◌, List, [], ◌∷◌, ◌++◌, length, take, drop, get_or, replicate, Some, None, refl, sym, ap, ◌∙◌, arith}
 use Rattle.std.specs.List.{starts_with, flat_map}
 use Rattle.std.specs.Cmp.Lexicographic.{same_text}
 use Rattle.std.proofs.lemmas.Bool.Decides.{nat_tests}
-use Rattle.std.proofs.lemmas.List.{take-append-drop, length-drop, length-append, length-replicate}
-use Rattle.std.proofs.lemmas.List.{take_at, drop-drop}
-use Rattle.std.proofs.lemmas.List.{get_or_append_left}
+use Rattle.std.proofs.lemmas.List.{take-append-drop, length-drop, length-append, length-replicate, take_at, drop-drop, get_or_append_left}
 use Rattle.ist_core.specs.declared.pairs.Pair.{Pair}
 use Rattle.ist_core.specs.RowLayout.{first_row, place_limit, next_place, anchor_status_place}
 use Rattle.ist_rest.specs.WordRows.{word_at}
@@ -16,15 +11,10 @@ use Rattle.tele_audit.specs.WordLaws.{ZerosChangeNothing}
 use Rattle.ist_rest.specs.RestingWords.{HasGoodBounds, AreLawful, BreaksFirstAt}
 use Rattle.ist_rest.specs.Walks.{first_visit}
 use Rattle.tele_audit.specs.declared.flaws.Flaw.TheVariants.{Magic, Short, Size, Used, Long, Anchor}
-use Rattle.tele_audit.specs.Dumps.{magic, number_bytes, used_words, dump_of, DumpContent}
-use Rattle.tele_audit.specs.Dumps.{IsLawfulDump}
-use Rattle.tele_audit.specs.Flaws.{count_told, used_told, dump_length}
-use Rattle.tele_audit.specs.Flaws.{words_told, table_told, is_out, head_flaw, length_flaw}
-use Rattle.tele_audit.specs.Flaws.{anchor_flaw, flaw_or, flaw_before_rows, BreaksAtRow}
+use Rattle.tele_audit.specs.Dumps.{magic, number_bytes, used_words, dump_of, DumpContent, IsLawfulDump}
+use Rattle.tele_audit.specs.Flaws.{count_told, used_told, dump_length, words_told, table_told, is_out, head_flaw, length_flaw, anchor_flaw, flaw_or, flaw_before_rows, BreaksAtRow}
 use Rattle.tele_audit.specs.Taking.{AreBytes}
-use Rattle.tele_audit.proofs.NumberLemmas.{bytes-drop, number_encoded_inside}
-use Rattle.tele_audit.proofs.NumberLemmas.{number_bytes-number_encoded, length_numbers_in}
-use Rattle.tele_audit.proofs.NumberLemmas.{get_or_numbers_in, bytes_of_numbers}
+use Rattle.tele_audit.proofs.NumberLemmas.{bytes-drop, number_encoded_inside, number_bytes-number_encoded, length_numbers_in, get_or_numbers_in, bytes_of_numbers}
 
 -- ---- tests
 

@@ -1,6 +1,5 @@
 -- What an audit makes of a slot that reads as a leaf or as an inner row. Serves `auditing.examine`.
-use Rattle.std.proofs.Common.{◌≡◌, ℕ, ◌++◌, List, Bool, Result, IfOk, IsTrue, reverse}
-use Rattle.std.proofs.Common.{sym, subst}
+use Rattle.std.proofs.Common.{◌≡◌, ℕ, ◌++◌, List, Bool, Result, IfOk, IsTrue, reverse, sym, subst}
 use Rattle.std.proofs.lemmas.List.{append-nil}
 use Rattle.ist_core.specs.declared.pairs.Pair.{Pair}
 use Rattle.ist_core.specs.References.{LeafAt, InnerAt, ref_of}
@@ -9,8 +8,7 @@ use Rattle.ist_layout.specs.Meanings.{ref_meant}
 use Rattle.tele_audit.specs.declared.tasks.AuditTask.{AuditTask}
 use Rattle.ist_rest.specs.WordRows.{rows_on}
 use Rattle.ist_rest.specs.Walks.{Visit, IsGoodLeaf, IsGoodRow, Reads, row_read, pairs_read}
-use Rattle.tele_audit.specs.Auditing.{IsTaskOf, AreClaimed, AreRefused, PassesSlot, FailsSlot}
-use Rattle.tele_audit.specs.Auditing.{tasks_in_row}
+use Rattle.tele_audit.specs.Auditing.{IsTaskOf, AreClaimed, AreRefused, PassesSlot, FailsSlot, tasks_in_row}
 use Rattle.ist_rest.proofs.WholeLemmas.{if_ok_so}
 use Rattle.tele_audit.proofs.ClaimLemmas.{claimed_both, fails_second, if_ok_three}
 

@@ -1,8 +1,5 @@
 -- What the bytes that were taken from a source say of all that it had. Serves `audits.audit`.
-use Rattle.std.proofs.Common.{◌≡◌, ℕ, ◌+◌, ◌*◌, ◌≤◌, nat_eq, nat_lt, Bool, true}
-use Rattle.std.proofs.Common.{false, if◌then◌else◌, List, [], ◌++◌, length, drop, Option, Some}
-use Rattle.std.proofs.Common.{None, IfSome, refl, sym, ap, ◌∙◌, subst, arith}
-use Rattle.std.proofs.Common.{⊎_elim}
+use Rattle.std.proofs.Common.{◌≡◌, ℕ, ◌+◌, ◌*◌, ◌≤◌, nat_eq, nat_lt, Bool, true, false, if◌then◌else◌, List, [], ◌++◌, length, drop, Option, Some, None, IfSome, refl, sym, ap, ◌∙◌, subst, arith, ⊎_elim}
 use Rattle.std.specs.List.{starts_with}
 use Rattle.std.proofs.lemmas.Bool.Decides.{nat_tests}
 use Rattle.std.proofs.lemmas.Option.{IfSome_then}
@@ -11,8 +8,7 @@ use Rattle.ist_core.specs.RowLayout.{first_row, place_limit}
 use Rattle.tele_audit.specs.declared.flaws.Flaw.{Flaw}
 use Rattle.tele_audit.specs.declared.flaws.Flaw.TheVariants.{Magic, Short, Size, Used, Long, Anchor, Row}
 use Rattle.tele_audit.specs.Dumps.{magic}
-use Rattle.tele_audit.specs.Flaws.{number_encoded, count_told, used_told, dump_length, is_out, head_flaw, length_flaw}
-use Rattle.tele_audit.specs.Flaws.{anchor_flaw, flaw_or, flaw_before_rows, IsFirstFlaw}
+use Rattle.tele_audit.specs.Flaws.{number_encoded, count_told, used_told, dump_length, is_out, head_flaw, length_flaw, anchor_flaw, flaw_or, flaw_before_rows, IsFirstFlaw}
 use Rattle.tele_audit.specs.Taking.{TakesBytes, AreEnough, Extends}
 use Rattle.tele_audit.proofs.DumpLemmas.{count_front, used_front, good_head, good_length}
 

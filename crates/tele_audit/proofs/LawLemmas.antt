@@ -1,12 +1,8 @@
 -- What the dump of lawful words says. Serves `laws`.
-use Rattle.std.proofs.Common.{◌≡◌, ℕ, suc, ◌+◌, ◌-◌, ◌<◌, ◌≤◌, ◌^◌, nat_eq, nat_lt, Bool}
-use Rattle.std.proofs.Common.{true, false, ◌||◌, if◌then◌else◌, List, [], ◌∷◌, ◌++◌, length}
-use Rattle.std.proofs.Common.{drop, get_or, replicate, Some, None, refl, sym, ap, ◌∙◌, subst}
-use Rattle.std.proofs.Common.{arith}
+use Rattle.std.proofs.Common.{◌≡◌, ℕ, suc, ◌+◌, ◌-◌, ◌<◌, ◌≤◌, ◌^◌, nat_eq, nat_lt, Bool, true, false, ◌||◌, if◌then◌else◌, List, [], ◌∷◌, ◌++◌, length, drop, get_or, replicate, Some, None, refl, sym, ap, ◌∙◌, subst, arith}
 use Rattle.std.specs.List.{flat_map}
 use Rattle.std.proofs.lemmas.Bool.Decides.{nat_tests}
-use Rattle.std.proofs.lemmas.List.{take-append-drop, length-drop, length-append, length-take-le}
-use Rattle.std.proofs.lemmas.List.{drop_at, drop-drop, append-nil, get_or-drop, get_or-take}
+use Rattle.std.proofs.lemmas.List.{take-append-drop, length-drop, length-append, length-take-le, drop_at, drop-drop, append-nil, get_or-drop, get_or-take}
 use Rattle.ist_core.specs.declared.pairs.Pair.{Pair}
 use Rattle.ist_core.specs.Map.{pairs_between}
 use Rattle.ist_core.specs.RowLayout.{first_row, place_limit, next_place, anchor_status_place}
@@ -17,12 +13,8 @@ use Rattle.ist_rest.specs.Walks.{first_visit}
 use Rattle.tele_audit.specs.declared.flaws.Flaw.{Flaw}
 use Rattle.tele_audit.specs.declared.flaws.Flaw.TheVariants.{Magic, Short, Size, Used, Long, Anchor, Row}
 use Rattle.tele_audit.specs.Dumps.{magic, number_bytes, used_words, dump_of, DumpContent, IsLawfulDump}
-use Rattle.tele_audit.specs.Flaws.{number_encoded, numbers_in, count_told, used_told, dump_length}
-use Rattle.tele_audit.specs.Flaws.{words_told, table_told, is_out, head_flaw, length_flaw}
-use Rattle.tele_audit.specs.Flaws.{anchor_flaw, flaw_or, flaw_before_rows, BreaksAtRow, IsFirstFlaw}
-use Rattle.tele_audit.proofs.NumberLemmas.{length-number_bytes, number_encoded-number_bytes}
-use Rattle.tele_audit.proofs.NumberLemmas.{get_or_numbers_in, numbers_of_bytes, length-flat_bytes}
-use Rattle.tele_audit.proofs.NumberLemmas.{below-take}
+use Rattle.tele_audit.specs.Flaws.{number_encoded, numbers_in, count_told, used_told, dump_length, words_told, table_told, is_out, head_flaw, length_flaw, anchor_flaw, flaw_or, flaw_before_rows, BreaksAtRow, IsFirstFlaw}
+use Rattle.tele_audit.proofs.NumberLemmas.{length-number_bytes, number_encoded-number_bytes, get_or_numbers_in, numbers_of_bytes, length-flat_bytes, below-take}
 use Rattle.tele_lines.proofs.NumberLemmas.{not_below}
 
 -- zeros are zeros

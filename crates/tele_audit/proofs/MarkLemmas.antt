@@ -1,6 +1,5 @@
 -- Marks of the words of rows. Serves `marks.claim`.
-use Rattle.std.proofs.Common.{◌≡◌, ℕ, ◌+◌, ◌<◌, ◌≤◌, ◌⊎◌, ◌↔◌, nat_le, Bool, true, false, List, []}
-use Rattle.std.proofs.Common.{◌∷◌, length, get_or, sym, ◌∙◌, inl, inr, ⊎_elim, arith}
+use Rattle.std.proofs.Common.{◌≡◌, ℕ, ◌+◌, ◌<◌, ◌≤◌, ◌⊎◌, ◌↔◌, nat_le, Bool, true, false, List, [], ◌∷◌, length, get_or, sym, ◌∙◌, inl, inr, ⊎_elim, arith}
 use Rattle.std.proofs.lemmas.Bool.Decides.{leb_tells}
 use Rattle.ist_core.specs.Elements.{Each}
 use Rattle.ist_core.specs.Rows.{Apart}

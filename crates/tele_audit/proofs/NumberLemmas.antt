@@ -1,13 +1,10 @@
 -- Numbers as eight bytes, and words as numbers one after another. Serves `numbers`, `tables` and
 -- the laws.
-use Rattle.std.proofs.Common.{◌≡◌, ℕ, zero, suc, ◌+◌, ◌*◌, ◌<◌, ◌≤◌, ◌^◌, List, [], ◌∷◌}
-use Rattle.std.proofs.Common.{◌++◌, length, take, drop, get_or, refl, sym, ap, ◌∙◌, arith}
+use Rattle.std.proofs.Common.{◌≡◌, ℕ, zero, suc, ◌+◌, ◌*◌, ◌<◌, ◌≤◌, ◌^◌, List, [], ◌∷◌, ◌++◌, length, take, drop, get_or, refl, sym, ap, ◌∙◌, arith}
 use Rattle.std.specs.Int.{w64, from_le_bytes, to_le_bytes}
 use Rattle.std.specs.List.{flat_map}
 use Rattle.std.proofs.lemmas.Nat.{le_bytes_8, from_le_bytes-to_le_bytes_8}
-use Rattle.std.proofs.lemmas.List.{drop-drop, take-append-le, drop-append-le, length-take-le}
-use Rattle.std.proofs.lemmas.List.{length-drop, length-append, get_or-drop, take-append-drop}
-use Rattle.std.proofs.lemmas.List.{append_assoc, take_at, drop_at}
+use Rattle.std.proofs.lemmas.List.{drop-drop, take-append-le, drop-append-le, length-take-le, length-drop, length-append, get_or-drop, take-append-drop, append_assoc, take_at, drop_at}
 use Rattle.tele_audit.specs.Dumps.{number_bytes}
 use Rattle.tele_audit.specs.Flaws.{number_encoded, numbers_in}
 use Rattle.tele_audit.specs.Taking.{AreBytes}

@@ -1,6 +1,5 @@
 -- The pairs that words hold have strictly increasing keys. Serves `audits.audit_bytes`.
-use Rattle.std.proofs.Common.{ℕ, ◌+◌, ◌<◌, List, [], ◌∷◌, ◌++◌, refl, inl, inr}
-use Rattle.std.proofs.Common.{arith}
+use Rattle.std.proofs.Common.{ℕ, ◌+◌, ◌<◌, List, [], ◌∷◌, ◌++◌, refl, inl, inr, arith}
 use Rattle.ist_core.specs.declared.pairs.Pair.{Pair}
 use Rattle.ist_core.specs.Arithmetic.{child_count}
 use Rattle.ist_core.specs.References.{Ref, Empty, Unset, LeafAt, InnerAt, ChangeAt, RebuildAt}
@@ -10,8 +9,7 @@ use Rattle.ist_core.proofs.RisingLemmas.{child_count_tells, AreRisingKeys}
 use Rattle.ist_core.proofs.LeafOrderLemmas.{next_from_rises}
 use Rattle.ist_core.proofs.UnderLemmas.{each_mapped}
 use Rattle.ist_rest.specs.WordRows.{Span, row_keys, row_slots, row_degree, leaf_key}
-use Rattle.ist_rest.specs.Walks.{Way, Visit, LeadsBy, IsGoodAs, pairs_read, first_visit}
-use Rattle.ist_rest.specs.Walks.{visits_from, visits_below, Walks, ends, goes_on}
+use Rattle.ist_rest.specs.Walks.{Way, Visit, LeadsBy, IsGoodAs, pairs_read, first_visit, visits_from, visits_below, Walks, ends, goes_on}
 use Rattle.ist_rest.specs.RestingWords.{HoldPairs}
 use Rattle.plain_map.specs.Rising.{IsRising}
 

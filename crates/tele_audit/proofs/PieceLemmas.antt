@@ -1,15 +1,12 @@
 -- A dump that goes out piece by piece. Serves `pieces` and `dumps`.
-use Rattle.std.proofs.Common.{◌≡◌, ℕ, ◌+◌, ◌<◌, ◌≤◌, List, [], ◌∷◌, ◌++◌, length, take, drop}
-use Rattle.std.proofs.Common.{Option, sym, ap, ◌∙◌, subst}
+use Rattle.std.proofs.Common.{◌≡◌, ℕ, ◌+◌, ◌<◌, ◌≤◌, List, [], ◌∷◌, ◌++◌, length, take, drop, Option, sym, ap, ◌∙◌, subst}
 use Rattle.std.specs.List.{flat_map}
-use Rattle.std.proofs.lemmas.List.{append_assoc, append-nil, take_more, take-append-drop}
-use Rattle.std.proofs.lemmas.List.{take-take}
+use Rattle.std.proofs.lemmas.List.{append_assoc, append-nil, take_more, take-append-drop, take-take}
 use Rattle.std.proofs.lemmas.List.Concat.{flat_map-append}
 use Rattle.ist_core.specs.RowLayout.{next_place}
 use Rattle.ist_rest.specs.WordRows.{word_at}
 use Rattle.tele_io.specs.Bytes.{AppendsPart}
-use Rattle.tele_io.proofs.AppendsLemmas.{Appends-append, AppendsPart-append}
-use Rattle.tele_io.proofs.AppendsLemmas.{AppendsPart-longer}
+use Rattle.tele_io.proofs.AppendsLemmas.{Appends-append, AppendsPart-append, AppendsPart-longer}
 use Rattle.tele_audit.specs.Dumps.{magic, number_bytes, used_words, dump_of}
 use Rattle.tele_audit.specs.Pieces.{MovesOut, HasDumped}
 

@@ -1,6 +1,5 @@
 -- What an audit learns of bytes from the words that it reads in them. Serves `audits.audit_bytes`.
-use Rattle.std.proofs.Common.{◌≡◌, ℕ, ◌<◌, ◌^◌, List, [], ◌∷◌, length, drop, None, ap, ◌∙◌}
-use Rattle.std.proofs.Common.{subst, sym, arith}
+use Rattle.std.proofs.Common.{◌≡◌, ℕ, ◌<◌, ◌^◌, List, [], ◌∷◌, length, drop, None, ap, ◌∙◌, subst, sym, arith}
 use Rattle.ist_core.specs.declared.pairs.Pair.{Pair}
 use Rattle.ist_core.specs.RowLayout.{anchor_status_place}
 use Rattle.ist_rest.specs.WordRows.{word_at}
@@ -11,11 +10,9 @@ use Rattle.plain_map.specs.Rising.{IsRising}
 use Rattle.tele_audit.specs.declared.flaws.Flaw.{Flaw}
 use Rattle.tele_audit.specs.declared.flaws.Flaw.TheVariants.{Row}
 use Rattle.tele_audit.specs.Dumps.{IsLawfulDump}
-use Rattle.tele_audit.specs.Flaws.{number_encoded, numbers_in, count_told, used_told, dump_length}
-use Rattle.tele_audit.specs.Flaws.{words_told, head_flaw, length_flaw, IsFirstFlaw}
+use Rattle.tele_audit.specs.Flaws.{number_encoded, numbers_in, count_told, used_told, dump_length, words_told, head_flaw, length_flaw, IsFirstFlaw}
 use Rattle.tele_audit.specs.Taking.{AreBytes}
-use Rattle.tele_audit.proofs.DumpLemmas.{IsGoodHead, good_head, good_length, length_told}
-use Rattle.tele_audit.proofs.DumpLemmas.{bounds_told, told_lawfully, told_broken}
+use Rattle.tele_audit.proofs.DumpLemmas.{IsGoodHead, good_head, good_length, length_told, bounds_told, told_lawfully, told_broken}
 use Rattle.tele_audit.proofs.PairLemmas.{held_pairs_rise}
 
 -- bytes whose head and length have no flaw, with their number of used words, and with these words

@@ -1,6 +1,5 @@
 -- What a command has written of what is due. Serves `packing` and `runs`.
-use Rattle.std.proofs.Common.{◌≡◌, ℕ, List, Option, Some, None, refl, sym, subst, IfSome}
-use Rattle.std.proofs.Common.{inl, inr, Result, Ok, Err, IfOk, OnOk, OnErr}
+use Rattle.std.proofs.Common.{◌≡◌, ℕ, List, Option, Some, None, refl, sym, subst, IfSome, inl, inr, Result, Ok, Err, IfOk, OnOk, OnErr}
 use Rattle.ist_core.specs.Map.{Map}
 use Rattle.tele_io.specs.Bytes.{Appends, AppendsPart}
 use Rattle.tele_lines.specs.declared.items.Cause.{Cause}
@@ -10,8 +9,7 @@ use Rattle.tele_audit.specs.declared.jobs.Job.{Job}
 use Rattle.tele_audit.specs.declared.jobs.Job.TheVariants.{Refuse, Pack, Tell}
 use Rattle.tele_audit.specs.declared.jobs.Question.{Question}
 use Rattle.tele_audit.specs.declared.outcomes.Halt.{Halt}
-use Rattle.tele_audit.specs.declared.outcomes.TheConstants.{DONE, USAGE, BAD_LINE}
-use Rattle.tele_audit.specs.declared.outcomes.TheConstants.{FLAWED}
+use Rattle.tele_audit.specs.declared.outcomes.TheConstants.{DONE, USAGE, BAD_LINE, FLAWED}
 use Rattle.tele_audit.specs.Dumps.{DumpContent, IsLawfulDump, dump_of}
 use Rattle.tele_audit.specs.Flaws.{IsFirstFlaw}
 use Rattle.tele_audit.specs.Packing.{Holds, Refuses, left_by, IsNewTable}

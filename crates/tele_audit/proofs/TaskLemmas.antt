@@ -1,8 +1,5 @@
 -- The tasks of an audit: which keys lead to a slot. Serves `auditing`.
-use Rattle.std.proofs.Common.{◌≡◌, ℕ, ◌+◌, ◌-◌, ◌<◌, ◌≤◌, ◌⊎◌, ◌↔◌, ◌==◌, if◌then◌else◌, nat_lt}
-use Rattle.std.proofs.Common.{nat_le, max, Bool, true, false, List, [], ◌∷◌, ◌++◌, length}
-use Rattle.std.proofs.Common.{get_or, Option, Some, None}
-use Rattle.std.proofs.Common.{refl, sym, subst, inl, inr, ⊎_elim, arith}
+use Rattle.std.proofs.Common.{◌≡◌, ℕ, ◌+◌, ◌-◌, ◌<◌, ◌≤◌, ◌⊎◌, ◌↔◌, ◌==◌, if◌then◌else◌, nat_lt, nat_le, max, Bool, true, false, List, [], ◌∷◌, ◌++◌, length, get_or, Option, Some, None, refl, sym, subst, inl, inr, ⊎_elim, arith}
 use Rattle.std.proofs.lemmas.Bool.Decides.{leb_tells, eqb_tells, nat_tests}
 use Rattle.std.specs.List.Sorted.{IsStrictlyIncreasing}
 use Rattle.ist_core.specs.RowLayout.{next_place}
@@ -10,11 +7,8 @@ use Rattle.ist_core.specs.References.{Ref, Empty, Unset, LeafAt, InnerAt, Change
 use Rattle.ist_math.proofs.ChildLemmas.{child_count_is, key_before_child, key_after_child}
 use Rattle.tele_audit.specs.declared.tasks.AuditTask.{AuditTask}
 use Rattle.ist_rest.specs.WordRows.{word_at, row_degree, row_keys, row_slots}
-use Rattle.ist_rest.specs.Walks.{Visit, IsGoodAs}
-use Rattle.ist_rest.specs.Walks.{visits_from, visits_below}
-use Rattle.tele_audit.specs.Auditing.{IsUnderBound, IsTaskOf, AreTasksOf, no_task}
-use Rattle.tele_audit.specs.Auditing.{one_task, low_of, lower_of, high_of, child_task, tasks_from}
-use Rattle.tele_audit.specs.Auditing.{tasks_below}
+use Rattle.ist_rest.specs.Walks.{Visit, IsGoodAs, visits_from, visits_below}
+use Rattle.tele_audit.specs.Auditing.{IsUnderBound, IsTaskOf, AreTasksOf, no_task, one_task, low_of, lower_of, high_of, child_task, tasks_from, tasks_below}
 use Rattle.ist_rest.proofs.WordRowLemmas.{row_lengths}
 
 -- a test by <

@@ -1,16 +1,11 @@
 -- Used words hold the same with zeros after them. Serves `laws.zeros_change_nothing`.
-use Rattle.std.proofs.Common.{◌≡◌, ℕ, zero, suc, ◌+◌, ◌-◌, ◌<◌, ◌≤◌, ◌⊎◌}
-use Rattle.std.proofs.Common.{nat_le, true, false, List, [], ◌∷◌, ◌++◌, length, take, drop}
-use Rattle.std.proofs.Common.{slice_range, replicate, refl, sym, ap, ◌∙◌, subst}
-use Rattle.std.proofs.Common.{inl, inr, arith, length-append}
+use Rattle.std.proofs.Common.{◌≡◌, ℕ, zero, suc, ◌+◌, ◌-◌, ◌<◌, ◌≤◌, ◌⊎◌, nat_le, true, false, List, [], ◌∷◌, ◌++◌, length, take, drop, slice_range, replicate, refl, sym, ap, ◌∙◌, subst, inl, inr, arith, length-append}
 use Rattle.std.proofs.lemmas.Bool.Decides.{leb_tells}
-use Rattle.std.proofs.lemmas.List.{get_or_append_left, get_or-append_right, get_or_past}
-use Rattle.std.proofs.lemmas.List.{take-append-le, drop-append-le, length-drop, length-replicate}
+use Rattle.std.proofs.lemmas.List.{get_or_append_left, get_or-append_right, get_or_past, take-append-le, drop-append-le, length-drop, length-replicate}
 use Rattle.ist_core.specs.declared.pairs.Pair.{Pair}
 use Rattle.ist_core.specs.RowLayout.{next_place, first_row, place_limit}
 use Rattle.ist_rest.specs.WordRows.{word_at}
-use Rattle.ist_rest.specs.Walks.{Walks}
-use Rattle.ist_rest.specs.Walks.{first_visit}
+use Rattle.ist_rest.specs.Walks.{Walks, first_visit}
 use Rattle.ist_rest.specs.RestingWords.{AreLawful, BreaksFirstAt}
 use Rattle.tele_audit.proofs.AlikeLemmas.{AreAlike, walk_same, break_same}
 

@@ -1,7 +1,5 @@
 -- What the steps of an audit promise each other.
-use Rattle.std.specs.Prelude.{◌≡◌, ℕ, ◌+◌, ◌<◌, ◌≤◌, ◌⊎◌, ◌↔◌, Bool, true, false, ◌-◌, ◌==◌}
-use Rattle.std.specs.Prelude.{if◌then◌else◌, nat_lt, min, max, List, [], ◌∷◌, ◌++◌, length, reverse}
-use Rattle.std.specs.Prelude.{get_or, Option, Some, None}
+use Rattle.std.specs.Prelude.{◌≡◌, ℕ, ◌+◌, ◌<◌, ◌≤◌, ◌⊎◌, ◌↔◌, Bool, true, false, ◌-◌, ◌==◌, if◌then◌else◌, nat_lt, min, max, List, [], ◌∷◌, ◌++◌, length, reverse, get_or, Option, Some, None}
 use Rattle.ist_core.specs.declared.pairs.Pair.{Pair}
 use Rattle.ist_core.specs.RowLayout.{next_place}
 use Rattle.ist_core.specs.References.{Ref, InnerAt, ref_of}
@@ -9,8 +7,7 @@ use Rattle.ist_core.specs.Elements.{Each}
 use Rattle.ist_rest.specs.declared.slots.SlotLeft.{SlotLeft}
 use Rattle.tele_audit.specs.declared.tasks.AuditTask.{AuditTask}
 use Rattle.ist_rest.specs.WordRows.{word_at, row_degree, row_keys, row_slots, Span, rows_on}
-use Rattle.ist_rest.specs.Walks.{Visit, LeadsBy, IsGood, IsGoodAs, Reads, row_read, rows_read}
-use Rattle.ist_rest.specs.Walks.{pairs_read, Walks, first_visit, AreApart}
+use Rattle.ist_rest.specs.Walks.{Visit, LeadsBy, IsGood, IsGoodAs, Reads, row_read, rows_read, pairs_read, Walks, first_visit, AreApart}
 use Rattle.ist_rest.specs.RestingWords.{AreLawful, read_on, BreaksFirstAt}
 
 -- ---- marks

@@ -12,8 +12,7 @@ use Rattle.tele_audit.specs.declared.jobs.Job.{Job}
 use Rattle.tele_audit.specs.declared.jobs.Job.TheVariants.{Refuse, Pack, Tell}
 use Rattle.tele_audit.specs.declared.jobs.Question.{Question}
 use Rattle.tele_audit.specs.declared.jobs.Question.TheVariants.{Counts, Between}
-use Rattle.tele_audit.specs.declared.outcomes.TheConstants.{DONE, USAGE, BAD_LINE, READ_FAILED}
-use Rattle.tele_audit.specs.declared.outcomes.TheConstants.{WRITE_FAILED, NO_MEMORY, FLAWED}
+use Rattle.tele_audit.specs.declared.outcomes.TheConstants.{DONE, USAGE, BAD_LINE, READ_FAILED, WRITE_FAILED, NO_MEMORY, FLAWED}
 use Rattle.tele_audit.specs.Dumps.{DumpContent, IsLawfulDump, dump_of}
 use Rattle.tele_audit.specs.Flaws.{IsFirstFlaw}
 use Rattle.tele_audit.specs.Packing.{Holds, Refuses, left_by, IsNewTable}

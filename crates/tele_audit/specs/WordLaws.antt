@@ -1,4 +1,4 @@
--- The laws on the words of a table at rest. `src/laws.rt` lists them.
+-- The laws on the words of a table at rest. `src/word_laws.rt` lists them.
 use Rattle.std.specs.Prelude.{◌≡◌, ℕ, ◌+◌, ◌≤◌, List, [], ◌∷◌, ◌++◌, length, replicate}
 use Rattle.ist_core.specs.declared.pairs.Pair.{Pair}
 use Rattle.ist_rest.specs.RestingWords.{HoldPairs, AreLawful, BreaksFirstAt}

@@ -1,16 +1,14 @@
 //! Whether words are lawful at rest: words from any source are walked slot by slot.
-ghost use Rattle.std.specs.Prelude.{◌≡◌, ℕ, ◌+◌, ◌*◌, ◌<◌, ◌≤◌, ◌^◌, ◌++◌, ◌∷◌, ◌↔◌, [], List};
+ghost use Rattle.std.specs.Prelude.{◌≡◌, ◌+◌, ◌<◌, ◌≤◌, ◌++◌, ◌∷◌, ◌↔◌, []};
 ghost use Rattle.std.specs.Prelude.{length, reverse, IfOk, IfErr, OnOk, IfSome, IsTrue, Some, None};
 ghost use Rattle.std.specs.List.Sorted.{IsStrictlyIncreasing};
-ghost use Rattle.ist_core.specs.declared.pairs.Pair.{Pair};
 ghost use Rattle.ist_core.specs.RowLayout.{inner_words, leaf_words, first_row};
 ghost use Rattle.ist_core.specs.RowLayout.{next_place, place_limit};
 ghost use Rattle.ist_core.specs.References as references;
 ghost use Rattle.ist_core.specs.References.{ref_of};
 ghost use Rattle.ist_layout.specs.Meanings.{ref_meant};
 ghost use Rattle.ist_rest.specs.WordRows as word_rows;
-ghost use Rattle.ist_rest.specs.WordRows.{word_at, IsWithinUsed, change_on, rebuild_on};
-ghost use Rattle.ist_rest.specs.WordRows.{rows_on};
+ghost use Rattle.ist_rest.specs.WordRows.{word_at, IsWithinUsed, change_on, rebuild_on, rows_on};
 ghost use Rattle.ist_rest.specs.Walks.{Visit, IsGood, IsGoodLeaf, IsGoodRow, Reads};
 ghost use Rattle.ist_rest.specs.Walks.{pairs_read, first_visit};
 ghost use Rattle.ist_rest.specs.Readings.{IsTreeRef};

@@ -1,9 +1,9 @@
 //! The audit of dumps.
-ghost use Rattle.std.specs.Prelude.{◌≡◌, ◌≤◌, ◌^◌, Err, None, Some, IfOk, IfSome, OnOk, [], ◌++◌, length};
+ghost use Rattle.std.specs.Prelude.{◌≡◌, ◌≤◌, Err, None, Some, IfOk, IfSome, OnOk, [], ◌++◌, length};
 ghost use Rattle.ist_core.specs.Map.{pairs_between};
 ghost use Rattle.tele_io.specs.Bytes.{HaveRisen};
 ghost use Rattle.tele_audit.specs.Dumps.{IsLawfulDump};
-ghost use Rattle.tele_audit.specs.Flaws.{IsFirstFlaw, head_flaw, length_flaw, used_told, count_told};
+ghost use Rattle.tele_audit.specs.Flaws.{IsFirstFlaw, head_flaw, length_flaw};
 
 use crate::auditing::audit_words;
 use crate::flaws::{AuditFault, Flaw};

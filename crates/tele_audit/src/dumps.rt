@@ -1,7 +1,5 @@
 //! The dump of a closed table.
 ghost use Rattle.std.specs.Prelude.{◌≡◌, ◌≤◌, OnOk, OnErr, IsErrOf, length};
-ghost use Rattle.ist_core.specs.RowLayout.{first_row, next_place};
-ghost use Rattle.ist_rest.specs.WordRows.{word_at};
 ghost use Rattle.tele_io.specs.Bytes.{HaveRisen, Appends, AppendsPart};
 ghost use Rattle.tele_audit.specs.Dumps.{dump_of, AreLawfulWords};
 

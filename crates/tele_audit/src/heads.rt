@@ -1,5 +1,5 @@
 //! What is wrong with a dump before any row is read.
-ghost use Rattle.std.specs.Prelude.{◌≡◌, ◌≤◌, ◌^◌, None};
+ghost use Rattle.std.specs.Prelude.{◌≡◌, ◌≤◌, ◌^◌};
 ghost use Rattle.tele_audit.specs.Flaws.{head_flaw, length_flaw, used_told};
 
 use crate::flaws::Flaw;

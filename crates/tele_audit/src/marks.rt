@@ -1,5 +1,5 @@
 //! Which words were read as part of a row.
-ghost use Rattle.std.specs.Prelude.{◌≡◌, ℕ, ◌+◌, ◌<◌, ◌≤◌, ◌^◌, ◌∷◌, List, length, IsTrue};
+ghost use Rattle.std.specs.Prelude.{◌≡◌, ◌+◌, ◌<◌, ◌≤◌, ◌∷◌, List, length, IsTrue};
 ghost use Rattle.ist_rest.specs.WordRows.{Span};
 ghost use Rattle.ist_rest.specs.Walks.{IsApartFrom};
 ghost use Rattle.tele_audit.specs.Auditing.{AreMarked};

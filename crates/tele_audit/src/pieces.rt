@@ -1,6 +1,6 @@
 //! Bytes that are put together on the stack and written in one piece.
 ghost use Rattle.std.specs.Prelude.{◌≡◌, ◌+◌, ◌≤◌, [], ◌++◌, decimal, length, OnOk, OnErr, IsErrOf};
-ghost use Rattle.tele_io.specs.Bytes.{HaveRisen, Appends, AppendsPart};
+ghost use Rattle.tele_io.specs.Bytes.{HaveRisen, AppendsPart};
 ghost use Rattle.tele_audit.specs.Dumps.{number_bytes};
 ghost use Rattle.tele_audit.specs.Pieces.{MovesOut};
 

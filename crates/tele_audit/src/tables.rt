@@ -1,5 +1,5 @@
 //! The words of a table, read from the bytes of its dump.
-ghost use Rattle.std.specs.Prelude.{◌≡◌, ◌+◌, ◌*◌, ◌≤◌, ◌^◌, length, drop};
+ghost use Rattle.std.specs.Prelude.{◌≡◌, ◌≤◌, ◌^◌, length, drop};
 ghost use Rattle.tele_audit.specs.Flaws.{numbers_in, dump_length};
 
 use crate::numbers::number_at;

@@ -1,5 +1,5 @@
 //! Bytes that are taken from a source.
-ghost use Rattle.std.specs.Prelude.{◌≡◌, ◌≤◌, ◌^◌, Err, OnOk, IfSome};
+ghost use Rattle.std.specs.Prelude.{◌≡◌, ◌≤◌, Err, OnOk, IfSome};
 ghost use Rattle.tele_io.specs.Bytes.{HaveRisen};
 ghost use Rattle.tele_audit.specs.declared.flaws.Flaw.{Flaw};
 ghost use Rattle.tele_audit.specs.Taking.{TakesBytes, AreEnough, Extends};

@@ -1,8 +1,6 @@
 -- A list of calls whose commands have only keys of its own lane is answered as if it were alone.
 -- Serves `laws.lists_answer_alone`.
-use Rattle.std.proofs.Common.{◌≡◌, ℕ, ◌+◌, ◌-◌, ◌≤◌, ◌%◌}
-use Rattle.std.proofs.Common.{Bool, true, false, List, [], ◌∷◌, map, filter, length}
-use Rattle.std.proofs.Common.{refl, sym, ap, ◌∙◌, subst, inl, inr, arith}
+use Rattle.std.proofs.Common.{◌≡◌, ℕ, ◌+◌, ◌-◌, ◌≤◌, ◌%◌, Bool, true, false, List, [], ◌∷◌, map, filter, length, refl, sym, ap, ◌∙◌, subst, inl, inr, arith}
 use Rattle.std.proofs.lemmas.Bool.Decides.{eqb_tells}
 use Rattle.std.proofs.lemmas.List.{length-map}
 use Rattle.ist_core.specs.declared.calls.Call.{Call}
@@ -13,13 +11,10 @@ use Rattle.ist_core.specs.Standing.{is_change, entry_by, entries_by}
 use Rattle.ist_core.specs.Histories.{IsLegal}
 use Rattle.ist_core.specs.Resting.{told_by_call}
 use Rattle.laws_histories.specs.Telling.{AreLegal}
-use Rattle.laws_histories.proofs.MapLemmas.{same_head, same_tail, same_cons, map_told}
-use Rattle.laws_histories.proofs.MapLemmas.{no_entry_leaves}
+use Rattle.laws_histories.proofs.MapLemmas.{same_head, same_tail, same_cons, map_told, no_entry_leaves}
 use Rattle.tele_lanes.specs.Lanes.{lane_of}
 use Rattle.tele_lanes.proofs.AloneLemmas.{Agree, get-map_after_same, get-map_after_other}
-use Rattle.tele_generations.proofs.StandLemmas.{StandFrom, stand_rest, stand_after, all_after}
-use Rattle.tele_generations.proofs.StandLemmas.{rest_after, first_made, own_entry, other_entry, TestsAs}
-use Rattle.tele_generations.proofs.StandLemmas.{few_none, changing_few}
+use Rattle.tele_generations.proofs.StandLemmas.{StandFrom, stand_rest, stand_after, all_after, rest_after, first_made, own_entry, other_entry, TestsAs, few_none, changing_few}
 
 -- the calls of the lane belong to the entries, in which each owner keeps to its lane; and `n` has
 -- what the lane sees of `m`

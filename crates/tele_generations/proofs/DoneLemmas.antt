@@ -1,6 +1,5 @@
 -- How many tasks lanes answered and left. Serves `run_round`.
-use Rattle.std.proofs.Common.{◌≡◌, inl, inr, ◌<◌, ◌≤◌, ℕ, zero, suc, List, [], ◌∷◌, take, drop}
-use Rattle.std.proofs.Common.{length, refl, sym, ap, subst, arith, All, Contains, Some, slice_get}
+use Rattle.std.proofs.Common.{◌≡◌, inl, inr, ◌<◌, ◌≤◌, ℕ, zero, suc, List, [], ◌∷◌, take, drop, length, refl, sym, ap, subst, arith, All, Contains, Some, slice_get}
 use Rattle.std.specs.List.{flat_map}
 use Rattle.std.proofs.lemmas.List.{length-map, length-take, length-append}
 use Rattle.std.proofs.lemmas.List.Elements.{All-head, All-tail}

@@ -1,6 +1,5 @@
 -- A turn of one lane on a small log. Serves `examples`.
-use Rattle.std.proofs.Common.{◌≡◌, ℕ, zero, suc, true, false, [], ◌∷◌, slice_get, Some, None}
-use Rattle.std.proofs.Common.{refl, subst, sym, inl, inr, arith, All}
+use Rattle.std.proofs.Common.{◌≡◌, ℕ, zero, suc, true, false, [], ◌∷◌, slice_get, Some, None, refl, subst, sym, inl, inr, arith, All}
 use Rattle.std.specs.List.Sorted.{IsStrictlyIncreasing}
 use Rattle.std.proofs.lemmas.List.Sorted.{IsPermutation-refl}
 use Rattle.ist_core.specs.declared.calls.Call.{Call}

@@ -1,10 +1,8 @@
 -- One lane that ran on a table. Serves `laws.lanes_answer_their_parts`.
-use Rattle.std.proofs.Common.{◌≡◌, ℕ, zero, suc, ◌+◌, ◌<◌, List, [], ◌∷◌, take}
-use Rattle.std.proofs.Common.{drop, length, get_or, sym, ap, ◌∙◌, subst, arith, All}
+use Rattle.std.proofs.Common.{◌≡◌, ℕ, zero, suc, ◌+◌, ◌<◌, List, [], ◌∷◌, take, drop, length, get_or, sym, ap, ◌∙◌, subst, arith, All}
 use Rattle.std.specs.List.Sorted.{IsStrictlyIncreasing}
 use Rattle.std.proofs.lemmas.Bool.{eqb-true}
-use Rattle.std.proofs.lemmas.List.{length-map, take-map, get_or-drop}
-use Rattle.std.proofs.lemmas.List.{length-drop}
+use Rattle.std.proofs.lemmas.List.{length-map, take-map, get_or-drop, length-drop}
 use Rattle.std.proofs.lemmas.List.Elements.{filter_passes}
 use Rattle.ist_core.specs.Map.{Map, replies}
 use Rattle.ist_core.specs.Replies.{Answered}

@@ -1,14 +1,12 @@
 -- The tables so far lead on to what is left. Serves `run_round`.
-use Rattle.std.proofs.Common.{◌≡◌, ℕ, List, [], ◌∷◌, ◌++◌, length, Option}
-use Rattle.std.proofs.Common.{Some, None, sym, ap, subst, ◌∙◌, arith}
+use Rattle.std.proofs.Common.{◌≡◌, ℕ, List, [], ◌∷◌, ◌++◌, length, Option, Some, None, sym, ap, subst, ◌∙◌, arith}
 use Rattle.std.proofs.lemmas.List.{append_assoc, append-nil}
 use Rattle.ist_core.specs.declared.pairs.Pair.{Pair}
 use Rattle.ist_core.specs.declared.ports.Full.{Full}
 use Rattle.tele_lanes.specs.declared.task_lists.Task.{Task}
 use Rattle.tele_generations.specs.Runs.{LaneRun, AreWhole}
 use Rattle.tele_generations.specs.Sizes.{next_words}
-use Rattle.tele_generations.specs.Generations.{LanesRanOn, RanFull, HandsOn, IsLarger}
-use Rattle.tele_generations.specs.Generations.{IsGenerations}
+use Rattle.tele_generations.specs.Generations.{LanesRanOn, RanFull, HandsOn, IsLarger, IsGenerations}
 use Rattle.tele_generations.specs.Generations.IsGenerations.{whole, ran_full}
 use Rattle.tele_generations.specs.Shelves.{IsShelved}
 use Rattle.tele_generations.specs.Rounds.{FirstHas, RanInGenerations}

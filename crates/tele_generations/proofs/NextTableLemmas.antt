@@ -1,6 +1,5 @@
 -- How a round goes on after a table that ran full. Serves `run_round`.
-use Rattle.std.proofs.Common.{◌≡◌, ℕ, suc, ◌+◌, ◌<◌, ◌≤◌, List, [], ◌∷◌, ◌++◌, length, Option}
-use Rattle.std.proofs.Common.{refl, sym, ap, subst, ◌∙◌, arith, slice_index}
+use Rattle.std.proofs.Common.{◌≡◌, ℕ, suc, ◌+◌, ◌<◌, ◌≤◌, List, [], ◌∷◌, ◌++◌, length, Option, refl, sym, ap, subst, ◌∙◌, arith, slice_index}
 use Rattle.std.specs.List.Sorted.{IsStrictlyIncreasing}
 use Rattle.std.proofs.lemmas.List.{length-append, nil_from_length}
 use Rattle.std.proofs.lemmas.List.Elements.{All-push}
@@ -25,9 +24,7 @@ use Rattle.tele_generations.specs.Generations.HandsOn.{some_done, none_done}
 use Rattle.tele_generations.specs.Tables.{RanOnTable, HasPairs}
 use Rattle.tele_generations.specs.Ways.{Rests, IsOnItsWay}
 use Rattle.tele_generations.specs.Ways.Rests.{stays, rests_one}
-use Rattle.tele_generations.proofs.TableLemmas.{table_map, turn, leaves, leads}
-use Rattle.tele_generations.proofs.TableLemmas.{answered_long, after_is}
-use Rattle.tele_generations.proofs.TableLemmas.{after_map, after_rises}
+use Rattle.tele_generations.proofs.TableLemmas.{table_map, turn, leaves, leads, answered_long, after_is, after_map, after_rises}
 
 -- before the first table
 pub way_begins : (workers : ℕ) (pairs : List Pair) (tasks : List Task) (words : ℕ) → 1 ≤ workers

@@ -1,25 +1,18 @@
 -- Parts of lanes, put together in line order: each lane of the whole is its part. Serves
 -- `laws.lanes_answer_their_parts`.
-use Rattle.std.proofs.Common.{◌≡◌, ◌≢◌, ◌⊎◌, inl, inr, ℕ, zero, suc, ◌+◌, ◌<◌, ◌==◌, Bool, true}
-use Rattle.std.proofs.Common.{false, cond, List, [], ◌∷◌, ◌++◌, length, get_or, refl, sym, ap}
-use Rattle.std.proofs.Common.{subst, ◌∙◌, arith, All, Contains}
+use Rattle.std.proofs.Common.{◌≡◌, ◌≢◌, ◌⊎◌, inl, inr, ℕ, zero, suc, ◌+◌, ◌<◌, ◌==◌, Bool, true, false, cond, List, [], ◌∷◌, ◌++◌, length, get_or, refl, sym, ap, subst, ◌∙◌, arith, All, Contains}
 use Rattle.std.specs.List.{flat_map, filter}
 use Rattle.std.specs.List.Sorted.{IsStrictlyIncreasing}
 use Rattle.std.proofs.lemmas.Bool.{eq-eqb, ne_eqb, eqb-true}
 use Rattle.std.proofs.lemmas.List.{append-nil}
-use Rattle.std.proofs.lemmas.List.Elements.{All-tail, All-contains, All-filter, filter-append}
-use Rattle.std.proofs.lemmas.List.Elements.{All-contains_itself, filter_passes}
-use Rattle.std.proofs.lemmas.List.Elements.{Contains-append_cases, Contains-append_left}
-use Rattle.std.proofs.lemmas.List.Elements.{Contains-append_right}
+use Rattle.std.proofs.lemmas.List.Elements.{All-tail, All-contains, All-filter, filter-append, All-contains_itself, filter_passes, Contains-append_cases, Contains-append_left, Contains-append_right}
 use Rattle.std.proofs.lemmas.List.Sorted.{IsPermutation-sym, Contains-permutation}
 use Rattle.tele_lanes.specs.declared.task_lists.Task.{Task}
 use Rattle.tele_lanes.specs.Lines.{task_lines}
-use Rattle.tele_lanes.specs.Lanes.{lane_of, lane_tasks}
-use Rattle.tele_lanes.specs.Lanes.{TasksInLineOrder}
+use Rattle.tele_lanes.specs.Lanes.{lane_of, lane_tasks, TasksInLineOrder}
 use Rattle.tele_lanes.proofs.SplitLemmas.{is_in}
 use Rattle.tele_lanes.proofs.DistinctLemmas.{Contains-later}
-use Rattle.tele_lanes.proofs.ClimbLemmas.{Contains-cons_cases, Climb-from_increasing}
-use Rattle.tele_lanes.proofs.ClimbLemmas.{same_climbing, line_of, lane_tasks-rising}
+use Rattle.tele_lanes.proofs.ClimbLemmas.{Contains-cons_cases, Climb-from_increasing, same_climbing, line_of, lane_tasks-rising}
 
 -- an element that passes the test is kept
 pub Contains-filter : {X : Type 0} (p : X → Bool) (xs : List X) (x : X) → Contains xs x → p x

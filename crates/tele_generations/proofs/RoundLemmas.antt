@@ -1,7 +1,5 @@
 -- One generation of a round after another, and the last one. Serves `run_round`.
-use Rattle.std.proofs.Common.{◌≡◌, ℕ, ◌+◌, ◌<◌, ◌≤◌, List, [], ◌∷◌, ◌++◌, length}
-use Rattle.std.proofs.Common.{Option, Some, None}
-use Rattle.std.proofs.Common.{sym, subst, arith}
+use Rattle.std.proofs.Common.{◌≡◌, ℕ, ◌+◌, ◌<◌, ◌≤◌, List, [], ◌∷◌, ◌++◌, length, Option, Some, None, sym, subst, arith}
 use Rattle.std.specs.List.Sorted.{IsStrictlyIncreasing, IsPermutation, IsNonDecreasingBy}
 use Rattle.ist_core.specs.declared.pairs.Pair.{Pair}
 use Rattle.ist_core.specs.declared.ports.Full.{Full}
@@ -23,8 +21,7 @@ use Rattle.tele_generations.specs.declared.rests.Turn.{Turn}
 use Rattle.tele_generations.specs.declared.ways.RoundState.{RoundState}
 use Rattle.tele_generations.specs.Ways.{Rests, HasTables, IsOnItsWay, GoesOnAfter}
 use Rattle.tele_generations.proofs.LeadLemmas.{tables_more, tables_end}
-use Rattle.tele_generations.proofs.TableLemmas.{asks_more, table_map, turn, puts_few, rest_some}
-use Rattle.tele_generations.proofs.TableLemmas.{rest_none, after_rises, few_following}
+use Rattle.tele_generations.proofs.TableLemmas.{asks_more, table_map, turn, puts_few, rest_some, rest_none, after_rises, few_following}
 use Rattle.tele_generations.proofs.NextTableLemmas.{turn_ends, way_more}
 
 module _ {workers words : ℕ} {pairs now : List Pair} {tasks left : List Task}

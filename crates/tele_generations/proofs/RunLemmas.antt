@@ -1,13 +1,11 @@
 -- All lanes that ran on one table, each on its own. Serves `laws.lanes_answer_their_parts`.
-use Rattle.std.proofs.Common.{◌≡◌, ℕ, ◌+◌, ◌<◌, ◌≤◌, ◌%◌, List, [], ◌∷◌, map, take}
-use Rattle.std.proofs.Common.{drop, length, get_or, refl, sym, ap, ◌∙◌, subst, arith, All}
+use Rattle.std.proofs.Common.{◌≡◌, ℕ, ◌+◌, ◌<◌, ◌≤◌, ◌%◌, List, [], ◌∷◌, map, take, drop, length, get_or, refl, sym, ap, ◌∙◌, subst, arith, All}
 use Rattle.std.specs.FinMap as fin
 use Rattle.std.specs.FinMap.{same_map, nat_cmp-IsAntisymmetric}
 use Rattle.std.specs.Cmp.{nat_cmp_total}
 use Rattle.std.specs.List.{flat_map}
 use Rattle.std.specs.List.Sorted.{IsStrictlyIncreasing}
-use Rattle.std.proofs.lemmas.List.{length-map, get_or-map, take-map, drop-map}
-use Rattle.std.proofs.lemmas.List.{length-take, length-append}
+use Rattle.std.proofs.lemmas.List.{length-map, get_or-map, take-map, drop-map, length-take, length-append}
 use Rattle.std.proofs.lemmas.List.Elements.{All-take, All-drop}
 use Rattle.ist_core.specs.declared.pairs.Pair.{Pair}
 use Rattle.ist_core.specs.Map.{Map, map_of, replay, pairs_of}
@@ -18,22 +16,19 @@ use Rattle.laws_histories.specs.Telling.{map_now}
 use Rattle.tele_lanes.specs.declared.task_lists.Task.{Task}
 use Rattle.tele_lanes.specs.declared.answer_lists.Answer.{Answer}
 use Rattle.tele_lanes.specs.Lines.{commands_of, task_lines}
-use Rattle.tele_lanes.specs.Lanes.{lane_of, lane_tasks, ArePlainAnswers, AnswerAlone, InLineOrder}
-use Rattle.tele_lanes.specs.Lanes.{TasksInLineOrder}
+use Rattle.tele_lanes.specs.Lanes.{lane_of, lane_tasks, ArePlainAnswers, AnswerAlone, InLineOrder, TasksInLineOrder}
 use Rattle.tele_lanes.proofs.AloneLemmas.{Agree, answered, ArePlainAnswers-answered}
 use Rattle.tele_lanes.proofs.SplitLemmas.{get_or-all_lane_tasks, length-all_lane_tasks}
 use Rattle.tele_lanes.proofs.LineLemmas.{IsStrictlyIncreasing-take}
 use Rattle.tele_lanes.proofs.ClimbLemmas.{lane_tasks-rising}
 use Rattle.tele_lanes.proofs.LawLemmas.{InLineOrder-answered, InLineOrder-one, get-replay_lane}
 use Rattle.tele_generations.specs.Alone.{KeepToLanes, commands_told}
-use Rattle.tele_generations.specs.Runs.{LaneRun, HasRun, RanOn, told_of_runs, answers_of_runs}
-use Rattle.tele_generations.specs.Runs.{done_of_runs, left_of_runs, ArePlainly}
+use Rattle.tele_generations.specs.Runs.{LaneRun, HasRun, RanOn, told_of_runs, answers_of_runs, done_of_runs, left_of_runs, ArePlainly}
 use Rattle.tele_generations.proofs.RestingListLemmas.{each_from_map, lists_alone, keys_alone}
 use Rattle.tele_generations.proofs.PlainLemmas.{lane_commands-tasks}
 use Rattle.plain_map.proofs.PairCountLemmas.{adds_few_pairs}
 use Rattle.tele_generations.proofs.PartLemmas.{AreParts, lane_of_parts, lane_of_flat}
-use Rattle.tele_generations.proofs.LaneLemmas.{each_all, all_each, IsStrictlyIncreasing-drop, keeps_from}
-use Rattle.tele_generations.proofs.LaneLemmas.{of_lane, run_asked, run_plain}
+use Rattle.tele_generations.proofs.LaneLemmas.{each_all, all_each, IsStrictlyIncreasing-drop, keeps_from, of_lane, run_asked, run_plain}
 
 module _ (pairs : List Pair) (words : ℕ) (log : Log) (workers : ℕ) (tasks : List Task)
     (runs : List LaneRun) (r : RanOn pairs words log workers tasks runs) where

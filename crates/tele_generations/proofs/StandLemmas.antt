@@ -1,15 +1,12 @@
 -- A list of calls that belongs to the entries of a log, from one entry on. Serves
 -- `laws.lists_answer_alone`.
-use Rattle.std.proofs.Common.{◌≡◌, ◌≢◌, ℕ, suc, ◌+◌, ◌-◌, ◌≤◌, ◌⊎◌, ◌==◌, if◌then◌else◌}
-use Rattle.std.proofs.Common.{Bool, true, false, List, [], ◌∷◌, filter, length, slice_get}
-use Rattle.std.proofs.Common.{Some, refl, ap, subst, inl, inr, arith}
+use Rattle.std.proofs.Common.{◌≡◌, ◌≢◌, ℕ, suc, ◌+◌, ◌-◌, ◌≤◌, ◌⊎◌, ◌==◌, if◌then◌else◌, Bool, true, false, List, [], ◌∷◌, filter, length, slice_get, Some, refl, ap, subst, inl, inr, arith}
 use Rattle.std.proofs.lemmas.Bool.Decides.{eqb_tells}
 use Rattle.ist_core.specs.declared.calls.Call.{Call}
 use Rattle.ist_core.specs.Map.{Map, map_after, reply_to}
 use Rattle.ist_core.specs.Elements.{Among}
 use Rattle.ist_core.specs.Changes.{Entry, map_at}
-use Rattle.ist_core.specs.Standing.{is_change, entry_by, entries_by, position_after, Follows}
-use Rattle.ist_core.specs.Standing.{AllFollow, StandAmong}
+use Rattle.ist_core.specs.Standing.{is_change, entry_by, entries_by, position_after, Follows, AllFollow, StandAmong}
 use Rattle.ist_core.proofs.ElementLemmas.{each-among}
 
 -- ---- calls from a position on

@@ -1,12 +1,10 @@
 -- What turns leave of each lane. Serves `laws.turns_leave_suffixes`.
-use Rattle.std.proofs.Common.{◌≡◌, ℕ, ◌==◌, Bool, true, false, cond, List, [], ◌∷◌, drop, length}
-use Rattle.std.proofs.Common.{get_or, refl, ap, ◌∙◌}
+use Rattle.std.proofs.Common.{◌≡◌, ℕ, ◌==◌, Bool, true, false, cond, List, [], ◌∷◌, drop, length, get_or, refl, ap, ◌∙◌}
 use Rattle.std.proofs.lemmas.List.{drop-drop}
 use Rattle.ist_core.specs.declared.pairs.Pair.{Pair}
 use Rattle.ist_core.specs.Logs.{Log}
 use Rattle.tele_lanes.specs.declared.task_lists.Task.{Task}
-use Rattle.tele_lanes.specs.Lanes.{lane_of, lane_tasks}
-use Rattle.tele_lanes.specs.Lanes.{TasksInLineOrder}
+use Rattle.tele_lanes.specs.Lanes.{lane_of, lane_tasks, TasksInLineOrder}
 use Rattle.tele_generations.specs.Runs.{LaneRun, RanOn, left_of_runs}
 use Rattle.tele_generations.specs.Suffixes.{LeavesSuffixes}
 use Rattle.tele_generations.proofs.RunLemmas.{run_tasks, left_lane}

@@ -1,6 +1,5 @@
 -- The result of one generation, by the log of its table. Serves `run_round`.
-use Rattle.std.proofs.Common.{◌≡◌, inl, inr, ℕ, ◌+◌, ◌<◌, ◌≤◌, List, [], ◌∷◌, length}
-use Rattle.std.proofs.Common.{Option, sym, ap, subst, ◌∙◌, arith}
+use Rattle.std.proofs.Common.{◌≡◌, inl, inr, ℕ, ◌+◌, ◌<◌, ◌≤◌, List, [], ◌∷◌, length, Option, sym, ap, subst, ◌∙◌, arith}
 use Rattle.std.specs.List.{flat_map}
 use Rattle.std.specs.List.Sorted.{IsStrictlyIncreasing}
 use Rattle.std.proofs.lemmas.List.{length-map, nil_from_length}
@@ -17,8 +16,7 @@ use Rattle.laws_histories.proofs.ContentLemmas.{pairs_rise_at}
 use Rattle.tele_lanes.specs.declared.task_lists.Task.{Task}
 use Rattle.tele_lanes.specs.declared.answer_lists.Answer.{Answer}
 use Rattle.tele_lanes.specs.Lines.{commands_of, task_lines}
-use Rattle.tele_generations.specs.Runs.{RanOn, AreWhole, told_of_runs, answers_of_runs}
-use Rattle.tele_generations.specs.Runs.{left_of_runs}
+use Rattle.tele_generations.specs.Runs.{RanOn, AreWhole, told_of_runs, answers_of_runs, left_of_runs}
 use Rattle.tele_generations.specs.Turns.{IsUnderWay}
 use Rattle.tele_generations.specs.Suffixes.{LeavesSuffixes}
 use Rattle.tele_generations.proofs.RunLemmas.{done_leads}

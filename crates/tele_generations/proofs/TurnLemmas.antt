@@ -1,18 +1,14 @@
 -- Turns of a round: what one thread would answer to the tasks that are left completes the
 -- answers. Serves `laws.turns_answer_all`.
-use Rattle.std.proofs.Common.{◌≡◌, ℕ, ◌+◌, ◌<◌, ◌≤◌, ◌%◌, List, [], ◌∷◌, ◌++◌, map, take, drop}
-use Rattle.std.proofs.Common.{length, get_or, refl, sym, ap, ◌∙◌, subst, arith}
-use Rattle.std.proofs.lemmas.List.{append_assoc, append-nil, length-map, length-append}
-use Rattle.std.proofs.lemmas.List.{get_or-map, take-append-drop, same_lists, map-append}
+use Rattle.std.proofs.Common.{◌≡◌, ℕ, ◌+◌, ◌<◌, ◌≤◌, ◌%◌, List, [], ◌∷◌, ◌++◌, map, take, drop, length, get_or, refl, sym, ap, ◌∙◌, subst, arith}
+use Rattle.std.proofs.lemmas.List.{append_assoc, append-nil, length-map, length-append, get_or-map, take-append-drop, same_lists, map-append}
 use Rattle.std.proofs.lemmas.List.FromFn.{get_or-map-range_with_len, length-map-range_with_len}
 use Rattle.std.specs.FinMap as fin
 use Rattle.std.specs.FinMap.{same_map, nat_cmp-IsAntisymmetric}
 use Rattle.std.specs.Cmp.{nat_cmp_total}
 use Rattle.std.specs.List.{flat_map, range_with_len}
 use Rattle.std.specs.List.Sorted.{IsPermutation, IsStrictlyIncreasing, IsNonDecreasingBy}
-use Rattle.std.proofs.lemmas.List.Sorted.{length_permutation, IsPermutation-refl}
-use Rattle.std.proofs.lemmas.List.Sorted.{IsPermutation-sym, IsPermutation-trans}
-use Rattle.std.proofs.lemmas.List.Sorted.{IsPermutation-append_right, IsPermutation-append_left}
+use Rattle.std.proofs.lemmas.List.Sorted.{length_permutation, IsPermutation-refl, IsPermutation-sym, IsPermutation-trans, IsPermutation-append_right, IsPermutation-append_left}
 use Rattle.ist_core.specs.declared.pairs.Pair.{Pair}
 use Rattle.ist_core.specs.Map.{Map, map_of, pairs_of, map_after, replay}
 use Rattle.ist_core.specs.Logs.{Log}
@@ -21,22 +17,16 @@ use Rattle.laws_histories.proofs.MapLemmas.{replay-append}
 use Rattle.tele_lanes.specs.declared.task_lists.Task.{Task}
 use Rattle.tele_lanes.specs.declared.answer_lists.Answer.{Answer}
 use Rattle.tele_lanes.specs.Lines.{commands_of, task_lines, answer_lines}
-use Rattle.tele_lanes.specs.Lanes.{lane_tasks, ArePlainAnswers, InLineOrder}
-use Rattle.tele_lanes.specs.Lanes.{TasksInLineOrder}
-use Rattle.tele_lanes.proofs.AloneLemmas.{answered, ArePlainAnswers-answered}
-use Rattle.tele_lanes.proofs.AloneLemmas.{answered-from_ArePlainAnswers, picked, picked_is}
-use Rattle.tele_lanes.proofs.AloneLemmas.{IsPermutation-picked}
+use Rattle.tele_lanes.specs.Lanes.{lane_tasks, ArePlainAnswers, InLineOrder, TasksInLineOrder}
+use Rattle.tele_lanes.proofs.AloneLemmas.{answered, ArePlainAnswers-answered, answered-from_ArePlainAnswers, picked, picked_is, IsPermutation-picked}
 use Rattle.tele_lanes.proofs.LawLemmas.{InLineOrder-one, get-replay_lane}
 use Rattle.tele_lanes.proofs.DistinctLemmas.{IsDistinct-from_increasing, sorted_rises}
 use Rattle.tele_lanes.proofs.LineLemmas.{flat_map-map, line_of}
-use Rattle.tele_generations.specs.Runs.{LaneRun, RanOn, answers_of_runs, left_of_runs}
-use Rattle.tele_generations.specs.Runs.{ArePlainly}
+use Rattle.tele_generations.specs.Runs.{LaneRun, RanOn, answers_of_runs, left_of_runs, ArePlainly}
 use Rattle.tele_generations.specs.Turns.{IsUnderWay, plain_answer}
 use Rattle.plain_map.proofs.PairCountLemmas.{adds_few_pairs}
-use Rattle.tele_generations.proofs.PlainLemmas.{answered-append, lane_commands-tasks, flat_map-within}
-use Rattle.tele_generations.proofs.PlainLemmas.{flat_map-both}
-use Rattle.tele_generations.proofs.RunLemmas.{runs_long, keys_few, run_tasks, lane_plain, lane_sees}
-use Rattle.tele_generations.proofs.RunLemmas.{left_lane}
+use Rattle.tele_generations.proofs.PlainLemmas.{answered-append, lane_commands-tasks, flat_map-within, flat_map-both}
+use Rattle.tele_generations.proofs.RunLemmas.{runs_long, keys_few, run_tasks, lane_plain, lane_sees, left_lane}
 
 -- ---- any turn
 

@@ -1,6 +1,5 @@
 -- Lanes that answered all of their tasks. Serves `laws.lanes_answer_their_parts`.
-use Rattle.std.proofs.Common.{◌≡◌, ℕ, List, [], ◌∷◌, ◌++◌, drop, length, refl, sym, ap, ◌∙◌}
-use Rattle.std.proofs.Common.{subst, arith, All}
+use Rattle.std.proofs.Common.{◌≡◌, ℕ, List, [], ◌∷◌, ◌++◌, drop, length, refl, sym, ap, ◌∙◌, subst, arith, All}
 use Rattle.std.specs.List.{flat_map}
 use Rattle.std.specs.List.Sorted.{IsStrictlyIncreasing, IsPermutation}
 use Rattle.std.proofs.lemmas.List.{length-map, drop_all}
@@ -13,11 +12,9 @@ use Rattle.laws_histories.specs.Telling.{map_now}
 use Rattle.tele_lanes.specs.declared.task_lists.Task.{Task}
 use Rattle.tele_lanes.specs.declared.answer_lists.Answer.{Answer}
 use Rattle.tele_lanes.specs.Lines.{task_lines}
-use Rattle.tele_lanes.specs.Lanes.{InLineOrder}
-use Rattle.tele_lanes.specs.Lanes.{TasksInLineOrder}
+use Rattle.tele_lanes.specs.Lanes.{InLineOrder, TasksInLineOrder}
 use Rattle.tele_lanes.proofs.LineLemmas.{Rise-from_increasing}
-use Rattle.tele_generations.specs.Runs.{LaneRun, HasRun, LanesRan, RanOn, AreWhole}
-use Rattle.tele_generations.specs.Runs.{answers_of_runs, left_of_runs, ArePlainly}
+use Rattle.tele_generations.specs.Runs.{LaneRun, HasRun, LanesRan, RanOn, AreWhole, answers_of_runs, left_of_runs, ArePlainly}
 use Rattle.tele_generations.proofs.TurnLemmas.{lanes_turn, round_ends}
 
 -- a lane that was told as much as it has tasks leaves none

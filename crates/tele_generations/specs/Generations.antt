@@ -1,7 +1,6 @@
 -- The tables of a round's generations: each but the last ran full, and the next one goes on with
 -- the tasks that it left.
-use Rattle.std.specs.Prelude.{◌≡◌, ℕ, ◌+◌, ◌*◌, ◌<◌, ◌≤◌, ◌⊎◌, min, Bool, true, false, List, []}
-use Rattle.std.specs.Prelude.{◌∷◌, length, slice_get, slice_index, Some, Contains, count_by}
+use Rattle.std.specs.Prelude.{◌≡◌, ℕ, ◌+◌, ◌*◌, ◌<◌, ◌≤◌, ◌⊎◌, min, Bool, true, false, List, [], ◌∷◌, length, slice_get, slice_index, Some, Contains, count_by}
 use Rattle.std.specs.List.{flat_map}
 use Rattle.ist_core.specs.declared.commands.Command.{Command}
 use Rattle.ist_core.specs.declared.commands.Command.TheVariants.{Put, Remove, Get}
@@ -15,8 +14,7 @@ use Rattle.laws_calls.specs.Finishing.{is_put}
 use Rattle.tele_lanes.specs.declared.task_lists.Task.{Task}
 use Rattle.tele_lanes.specs.Lines.{commands_of}
 use Rattle.tele_lanes.specs.Lanes.{TasksInLineOrder}
-use Rattle.tele_generations.specs.Runs.{LaneRun, LanesRan, AreWhole, told_of_runs, done_of_runs}
-use Rattle.tele_generations.specs.Runs.{left_of_runs}
+use Rattle.tele_generations.specs.Runs.{LaneRun, LanesRan, AreWhole, told_of_runs, done_of_runs, left_of_runs}
 
 -- may the command need words?
 abbrev pub may_want_words : Command → Bool

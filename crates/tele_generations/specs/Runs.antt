@@ -11,10 +11,8 @@ use Rattle.ist_core.specs.Resting.{StandsFor}
 use Rattle.laws_histories.specs.Telling.{map_now}
 use Rattle.tele_lanes.specs.declared.task_lists.Task.{Task}
 use Rattle.tele_lanes.specs.declared.answer_lists.Answer.{Answer}
-use Rattle.tele_lanes.specs.Lines.{commands_of, task_lines, AnswerInOrder, CallInOrder}
-use Rattle.tele_lanes.specs.Lines.{TellReplies}
-use Rattle.tele_lanes.specs.Lanes.{all_lane_tasks, unanswered, ArePlainAnswers, InLineOrder}
-use Rattle.tele_lanes.specs.Lanes.{TasksInLineOrder}
+use Rattle.tele_lanes.specs.Lines.{commands_of, task_lines, AnswerInOrder, CallInOrder, TellReplies}
+use Rattle.tele_lanes.specs.Lanes.{all_lane_tasks, unanswered, ArePlainAnswers, InLineOrder, TasksInLineOrder}
 use Rattle.tele_generations.specs.Alone.{RestsWith}
 
 -- ---- lanes that ran

@@ -3,8 +3,7 @@ use Rattle.std.specs.Prelude.{◌≡◌, ℕ, ◌<◌, List, ◌∷◌, drop}
 use Rattle.ist_core.specs.declared.pairs.Pair.{Pair}
 use Rattle.ist_core.specs.Logs.{Log}
 use Rattle.tele_lanes.specs.declared.task_lists.Task.{Task}
-use Rattle.tele_lanes.specs.Lanes.{lane_tasks}
-use Rattle.tele_lanes.specs.Lanes.{TasksInLineOrder}
+use Rattle.tele_lanes.specs.Lanes.{lane_tasks, TasksInLineOrder}
 use Rattle.tele_generations.specs.Runs.{LaneRun, RanOn, left_of_runs}
 
 -- what is left in each lane are the last of its tasks

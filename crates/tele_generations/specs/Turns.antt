@@ -9,10 +9,8 @@ use Rattle.laws_histories.specs.Telling.{map_now}
 use Rattle.tele_lanes.specs.declared.task_lists.Task.{Task}
 use Rattle.tele_lanes.specs.declared.answer_lists.Answer.{Answer}
 use Rattle.tele_lanes.specs.Lines.{commands_of, task_lines}
-use Rattle.tele_lanes.specs.Lanes.{ArePlainAnswers, InLineOrder}
-use Rattle.tele_lanes.specs.Lanes.{TasksInLineOrder}
-use Rattle.tele_generations.specs.Runs.{LaneRun, RanOn, answers_of_runs, left_of_runs}
-use Rattle.tele_generations.specs.Runs.{ArePlainly}
+use Rattle.tele_lanes.specs.Lanes.{ArePlainAnswers, InLineOrder, TasksInLineOrder}
+use Rattle.tele_generations.specs.Runs.{LaneRun, RanOn, answers_of_runs, left_of_runs, ArePlainly}
 
 -- the round is under way: its tasks began on the map `m`, and the answers so far leave some tasks
 -- and the map `now`. Together with one thread's answers to the tasks left, from `now`, they are one

@@ -1,5 +1,5 @@
 //! A round of tasks on tables, in as many generations as it needs.
-ghost use Rattle.std.specs.Prelude.{◌≡◌, ◌+◌, ◌≤◌, ◌^◌, All, IfOk, length};
+ghost use Rattle.std.specs.Prelude.{◌+◌, ◌≤◌, ◌^◌, All, IfOk, length};
 ghost use Rattle.std.specs.List.Sorted.{IsStrictlyIncreasing};
 ghost use Rattle.ist_core.specs.Map.{map_of};
 ghost use Rattle.tele_lanes.specs.Lines.{task_lines};

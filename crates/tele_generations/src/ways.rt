@@ -1,7 +1,7 @@
 //! The state of a round between two tables.
-ghost use Rattle.std.specs.Prelude.{◌≡◌, [], ◌∷◌, ◌++◌, ◌+◌, ◌<◌, ◌≤◌, ◌^◌, IfOk, length};
+ghost use Rattle.std.specs.Prelude.{◌≡◌, [], ◌+◌, ◌<◌, ◌≤◌, ◌^◌, IfOk, length};
 ghost use Rattle.plain_map.specs.Rising.{IsRising};
-ghost use Rattle.tele_generations.specs.Sizes.{least_words, first_words, next_words};
+ghost use Rattle.tele_generations.specs.Sizes.{least_words, first_words};
 ghost use Rattle.tele_generations.specs.Ways.{GoesOnAfter};
 
 use crate::rests::{Turn, rest};

@@ -1,5 +1,5 @@
 //! A source and a sink in memory that have no faults.
-ghost use Rattle.std.specs.Prelude.{◌≡◌, ℕ, ◌<◌, ◌≤◌, min, List, [], ◌++◌, length, take, drop, Ok, Some, vec_len, IsOk, IfOk, OnOk, OnErr, IfErr};
+ghost use Rattle.std.specs.Prelude.{◌≡◌, ℕ, ◌≤◌, min, List, [], ◌++◌, length, take, drop, Ok, Some, vec_len, IsOk, IfOk, OnOk, OnErr, IfErr};
 
 use super::sinks::{Sink, SinkFault};
 use super::sources::{Failed, Source};

@@ -1,5 +1,5 @@
 //! The command, and what it makes of arguments.
-ghost use Rattle.std.specs.Prelude.{◌≡◌, ◌≤◌, true, false, map, codes, [], Err, IfOk, IsOk, IfSome, option_map};
+ghost use Rattle.std.specs.Prelude.{◌≡◌, ◌≤◌, false, map, [], Err, IfOk, IsOk, IfSome, option_map};
 ghost use Rattle.clap.specs.Words.{app_of, first_value, found_of, rule_of, rows_of, fault_of, matches_of};
 ghost use Rattle.tele_jobs.specs.CommandLine.{sized, tele, number_option, number_said, options_at};
 ghost use Rattle.tele_jobs.specs.Numbers.{IsNumber, AreNumbers};

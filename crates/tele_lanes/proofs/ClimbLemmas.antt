@@ -1,13 +1,10 @@
 -- Lists whose lines increase from each element to all later ones. Serves the laws of lanes.
-use Rattle.std.proofs.Common.{◌≡◌, ◌≢◌, ◌⊎◌, inl, inr, ◌+◌, ◌<◌, ℕ, zero, suc, true, List, [], ◌∷◌}
-use Rattle.std.proofs.Common.{length, map, get_or, sym, ap, subst, ◌∙◌, refl, arith, AllPairs}
-use Rattle.std.proofs.Common.{Contains, eqb}
+use Rattle.std.proofs.Common.{◌≡◌, ◌≢◌, ◌⊎◌, inl, inr, ◌+◌, ◌<◌, ℕ, zero, suc, true, List, [], ◌∷◌, length, map, get_or, sym, ap, subst, ◌∙◌, refl, arith, AllPairs, Contains, eqb}
 use Rattle.std.specs.List.{range_with_len, IsDistinct}
 use Rattle.std.specs.List.Sorted.{IsStrictlyIncreasing}
 use Rattle.std.proofs.lemmas.Bool.{cases_lt, eqb-true}
 use Rattle.std.proofs.lemmas.List.{get_or-map, get_or_default, length-map}
-use Rattle.std.proofs.lemmas.List.Elements.{All-contains, All-filter, All-contains_itself}
-use Rattle.std.proofs.lemmas.List.Elements.{filter_passes, Contains-get_or}
+use Rattle.std.proofs.lemmas.List.Elements.{All-contains, All-filter, All-contains_itself, filter_passes, Contains-get_or}
 use Rattle.std.proofs.lemmas.List.FromFn.{get_or-range_with_len, length-range_with_len}
 use Rattle.std.proofs.lemmas.List.Kept.{AllPairs-from_increasing, AllPairs-filter}
 use Rattle.ist_core.specs.declared.commands.Command.TheVariants.{Get}

@@ -1,23 +1,14 @@
 -- Distinct numbers: in lists put one after another, in parts of them, and sorted. Serves `gather`,
 -- `open_tasks` and the law of lanes that can be gathered.
-use Rattle.std.proofs.Common.{◌≡◌, inl, inr, ◌+◌, ◌<◌, ℕ, suc, Bool, true, false, List, [], ◌∷◌}
-use Rattle.std.proofs.Common.{◌++◌, length, map, get_or, eqb, sym, subst, ◌∙◌, refl, arith, All}
-use Rattle.std.proofs.Common.{AllPairs, Contains}
+use Rattle.std.proofs.Common.{◌≡◌, inl, inr, ◌+◌, ◌<◌, ℕ, suc, Bool, true, false, List, [], ◌∷◌, ◌++◌, length, map, get_or, eqb, sym, subst, ◌∙◌, refl, arith, All, AllPairs, Contains}
 use Rattle.std.specs.List.{flat_map, IsDistinct}
-use Rattle.std.specs.List.Sorted.{IsPermutation, IsNonDecreasing, IsNonDecreasingBy}
-use Rattle.std.specs.List.Sorted.{IsStrictlyIncreasing}
+use Rattle.std.specs.List.Sorted.{IsPermutation, IsNonDecreasing, IsNonDecreasingBy, IsStrictlyIncreasing}
 use Rattle.std.proofs.lemmas.Bool.{ne_eqb, eqb-true, eqb-false, eq-eqb}
-use Rattle.std.proofs.lemmas.List.{get_or-map, length-map, length-append, get_or_append_left}
-use Rattle.std.proofs.lemmas.List.{get_or-append-add}
-use Rattle.std.proofs.lemmas.List.Elements.{All-head, All-tail, All-append, All-from_recursion}
-use Rattle.std.proofs.lemmas.List.Elements.{recursion_from_All, Contains-get_or}
-use Rattle.std.proofs.lemmas.List.Elements.{Contains-append_left, Contains-append_right}
-use Rattle.std.proofs.lemmas.List.Elements.{Contains-append_cases}
+use Rattle.std.proofs.lemmas.List.{get_or-map, length-map, length-append, get_or_append_left, get_or-append-add}
+use Rattle.std.proofs.lemmas.List.Elements.{All-head, All-tail, All-append, All-from_recursion, recursion_from_All, Contains-get_or, Contains-append_left, Contains-append_right, Contains-append_cases}
 use Rattle.std.proofs.lemmas.List.Sorted.{IsPermutation-map}
 use Rattle.std.proofs.lemmas.List.Kept.{AllPairs-from_increasing}
-use Rattle.std.proofs.lemmas.Map.Keys.{IsDistinct-head, IsDistinct-tail, IsDistinct-cons}
-use Rattle.std.proofs.lemmas.Map.Keys.{IsDistinct-from_apart, IsDistinct-IsPermutation}
-use Rattle.std.proofs.lemmas.Map.Keys.{IsStrictlyIncreasing-from_distinct, apart_from_distinct}
+use Rattle.std.proofs.lemmas.Map.Keys.{IsDistinct-head, IsDistinct-tail, IsDistinct-cons, IsDistinct-from_apart, IsDistinct-IsPermutation, IsStrictlyIncreasing-from_distinct, apart_from_distinct}
 
 -- no number is in both lists
 abbrev pub ShareNoNumber : List ℕ → List ℕ → Type 0

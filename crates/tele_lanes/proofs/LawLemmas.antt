@@ -1,6 +1,5 @@
 -- The lanes' answers, merged in line order, are one thread's. Serves the law of lanes.
-use Rattle.std.proofs.Common.{◌≡◌, ◌<◌, ◌%◌, ◌==◌, ℕ, Bool, true, false, cond, List, [], ◌∷◌, map}
-use Rattle.std.proofs.Common.{get_or, sym, ap, subst, ◌∙◌, refl, arith}
+use Rattle.std.proofs.Common.{◌≡◌, ◌<◌, ◌%◌, ◌==◌, ℕ, Bool, true, false, cond, List, [], ◌∷◌, map, get_or, sym, ap, subst, ◌∙◌, refl, arith}
 use Rattle.std.specs.FinMap as fin
 use Rattle.std.specs.List.{flat_map, range_with_len}
 use Rattle.std.specs.List.Sorted.{IsPermutation, IsStrictlyIncreasing}
@@ -13,13 +12,9 @@ use Rattle.ist_core.specs.Map.{Map, map_after, replay}
 use Rattle.tele_lanes.specs.declared.task_lists.Task.{Task}
 use Rattle.tele_lanes.specs.declared.answer_lists.Answer.{Answer}
 use Rattle.tele_lanes.specs.Lines.{task_lines}
-use Rattle.tele_lanes.specs.Lanes.{lane_of, lane_commands, lane_tasks, ArePlainAnswers, AnswerAlone}
-use Rattle.tele_lanes.specs.Lanes.{InLineOrder}
+use Rattle.tele_lanes.specs.Lanes.{lane_of, lane_commands, lane_tasks, ArePlainAnswers, AnswerAlone, InLineOrder}
 use Rattle.tele_lanes.proofs.LineLemmas.{flat_map-map, line_of}
-use Rattle.tele_lanes.proofs.AloneLemmas.{answered, ArePlainAnswers-answered}
-use Rattle.tele_lanes.proofs.AloneLemmas.{answered-from_ArePlainAnswers, picked, picked_is}
-use Rattle.tele_lanes.proofs.AloneLemmas.{IsPermutation-picked, get-map_after_same}
-use Rattle.tele_lanes.proofs.AloneLemmas.{get-map_after_other}
+use Rattle.tele_lanes.proofs.AloneLemmas.{answered, ArePlainAnswers-answered, answered-from_ArePlainAnswers, picked, picked_is, IsPermutation-picked, get-map_after_same, get-map_after_other}
 use Rattle.tele_lanes.proofs.ClimbLemmas.{Climb-from_increasing, same_climbing}
 
 -- lanes that answer alone have the answers that are picked for each from one thread's answers

@@ -1,9 +1,7 @@
 -- The tasks of each lane, one task at a time. Serves `split`.
-use Rattle.std.proofs.Common.{◌≡◌, ◌≢◌, inl, inr, ◌+◌, ◌<◌, ◌==◌, ℕ, Bool, cond, List, [], ◌∷◌}
-use Rattle.std.proofs.Common.{◌++◌, length, set, take, get_or, sym, ap, ◌∙◌, arith, eq-eqb}
+use Rattle.std.proofs.Common.{◌≡◌, ◌≢◌, inl, inr, ◌+◌, ◌<◌, ◌==◌, ℕ, Bool, cond, List, [], ◌∷◌, ◌++◌, length, set, take, get_or, sym, ap, ◌∙◌, arith, eq-eqb}
 use Rattle.std.proofs.lemmas.Bool.{cases_eq, ne_eqb}
-use Rattle.std.proofs.lemmas.List.{same_lists, take_more, append-nil, length-set, get_or-set_same}
-use Rattle.std.proofs.lemmas.List.{get_or-set_other}
+use Rattle.std.proofs.lemmas.List.{same_lists, take_more, append-nil, length-set, get_or-set_same, get_or-set_other}
 use Rattle.std.proofs.lemmas.List.Elements.{filter-append}
 use Rattle.std.proofs.lemmas.List.FromFn.{get_or-map-range_with_len, length-map-range_with_len}
 use Rattle.tele_lanes.specs.declared.task_lists.Task.{Task}

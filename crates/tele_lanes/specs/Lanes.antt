@@ -1,6 +1,5 @@
 -- Which lane a command goes to, what the lanes answer, and what it means to gather the answers.
-use Rattle.std.specs.Prelude.{◌≡◌, ℕ, ◌%◌, ◌<◌, ◌==◌, List, [], ◌∷◌, filter, map, drop, length}
-use Rattle.std.specs.Prelude.{slice_index_or, Option, Some, None}
+use Rattle.std.specs.Prelude.{◌≡◌, ℕ, ◌%◌, ◌<◌, ◌==◌, List, [], ◌∷◌, filter, map, drop, length, slice_index_or, Option, Some, None}
 use Rattle.std.specs.List.{flat_map, range_with_len, IsDistinct}
 use Rattle.std.specs.List.Sorted.{IsStrictlyIncreasing, IsPermutation}
 use Rattle.ist_core.specs.declared.commands.Command.{Command}

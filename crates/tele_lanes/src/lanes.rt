@@ -1,5 +1,5 @@
 //! Lanes: the tasks of one worker, the port that they go through, and the results.
-ghost use Rattle.std.specs.Prelude.{◌≡◌, ◌+◌, ◌<◌, ◌≤◌, ℕ, [], List, length, map, All, Some, None, IfSome, IfNone, slice_get, option_map};
+ghost use Rattle.std.specs.Prelude.{◌≡◌, ◌≤◌, [], length, map, All, Some, None, IfSome, IfNone, slice_get, option_map};
 ghost use Rattle.tele_lanes.specs.Lines.{commands_of, AnswerInOrder, CallInOrder, TellReplies};
 ghost use Rattle.tele_lanes.specs.Lanes.{unanswered};
 

@@ -1,10 +1,9 @@
 -- The numbers of a line. A signed number of version 2 is kept as a natural number greater by 2 ^
 -- 63, which preserves the order.
-use Rattle.std.specs.Prelude.{ℕ, ℤ, pos, ◌-ℤ◌, ◌+◌, ◌-◌, ◌*◌, ◌^◌, nat_eq, nat_lt, nat_le, ◌&&◌, Bool, if◌then◌else◌, List, length, drop, fold, codes, Option, Some, None}
+use Rattle.std.specs.Prelude.{ℕ, ℤ, pos, ◌-ℤ◌, ◌+◌, ◌-◌, ◌*◌, ◌^◌, nat_eq, nat_lt, nat_le, ◌&&◌, Bool, if◌then◌else◌, List, length, drop, fold, codes, Option, Some, None, decimal}
 use Rattle.std.specs.List.{list_all, starts_with}
 use Rattle.std.specs.Char.{is_ascii_digit}
 use Rattle.std.specs.Fmt.{signed_decimal}
-use Rattle.std.specs.Prelude.{decimal}
 use Rattle.tele_lines.specs.declared.items.Version.{Version}
 use Rattle.tele_lines.specs.declared.items.Version.TheVariants.{One, Two}
 

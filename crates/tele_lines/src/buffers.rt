@@ -1,5 +1,5 @@
 //! The bytes between a source and the lines that are cut from them.
-ghost use Rattle.std.specs.Prelude.{◌≡◌, ◌+◌, ◌-◌, ◌<◌, ◌≤◌, [], length, take, drop, slice_range, IfOk, OnErr, OnOk};
+ghost use Rattle.std.specs.Prelude.{◌≡◌, ◌+◌, ◌-◌, ◌<◌, ◌≤◌, [], length, take, drop, slice_range, IfOk, OnErr};
 ghost use Rattle.tele_io.specs.Bytes.{HaveRisen, GivesBytes, Keeps};
 ghost use Rattle.tele_lines.specs.Buffers.{Fills};
 

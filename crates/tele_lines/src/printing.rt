@@ -3,7 +3,7 @@ ghost use Rattle.std.specs.Prelude.{◌≡◌, ◌+◌, ◌≤◌, ◌++◌, Err
 ghost use Rattle.std.specs.List.{flat_map};
 ghost use Rattle.tele_io.specs.Bytes.{HaveRisen, Appends, AppendsPart};
 ghost use Rattle.tele_lines.specs.Numerals.{number_text};
-ghost use Rattle.tele_lines.specs.Answer.{answer_text, reply_text, pair_text, count_text, interval_text, cause_text, bad_text};
+ghost use Rattle.tele_lines.specs.Answer.{answer_text, pair_text, count_text, interval_text, cause_text, bad_text};
 
 use crate::items::{Cause, Version};
 use crate::numerals::signed;

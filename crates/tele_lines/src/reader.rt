@@ -262,7 +262,8 @@ impl Lines {
             reading self.old.limit (self.old.count + 1) self.old.mode (take len self.old.buffer) }
 
         ensures rest { Continues result → self.new.buffer ≡ drop taken self.old.buffer }
-        ensures place { Continues result → place_of self.new ≡ following (place_of self.old) result }
+        ensures place { Continues result
+            → place_of self.new ≡ following (place_of self.old) result }
         ensures going { Continues result → self.new.stop ≡ self.old.stop }
 
         ensures stop { (cause : _) → result ≡ Said.Fails cause → self.new.stop ≡ Some cause }

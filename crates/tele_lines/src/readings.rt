@@ -2,7 +2,7 @@
 ghost use Rattle.std.specs.Prelude.{◌≡◌};
 ghost use Rattle.tele_lines.specs.Lines.{words_in_line};
 ghost use Rattle.tele_lines.specs.Words.{BeginsWord};
-ghost use Rattle.tele_lines.specs.Readings.{one_number, two_numbers, version_in, next_mode, chosen, by_letter, letter_of, is_note, by_words, reading};
+ghost use Rattle.tele_lines.specs.Readings.{one_number, two_numbers, next_mode, chosen, by_letter, letter_of, is_note, reading};
 
 use crate::items::{Cause, Item, Said, Version};
 use crate::numerals::read_number;

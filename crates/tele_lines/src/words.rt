@@ -1,5 +1,5 @@
 //! The words of a line.
-ghost use Rattle.std.specs.Prelude.{◌≡◌, ◌<◌, ◌≤◌, [], ◌∷◌, length, take, drop};
+ghost use Rattle.std.specs.Prelude.{◌≡◌, ◌<◌, ◌≤◌, ◌∷◌, length, take, drop};
 ghost use Rattle.tele_lines.specs.Lines.{without_return, words_in_line};
 ghost use Rattle.tele_lines.specs.Words.{BeginsWord};
 

@@ -1,7 +1,5 @@
 -- How a round on one tree ended. Serves `run_on_tree`.
-use Rattle.std.proofs.Common.{◌≡◌, ◌≢◌, inl, inr, ℕ, ◌+◌, ◌<◌, ◌≤◌, List, map, length}
-use Rattle.std.proofs.Common.{Contains, Option, Some, None, IfSome, IfNone, true, refl, sym}
-use Rattle.std.proofs.Common.{ap, subst, ◌∙◌, arith, slice_get, slice_index}
+use Rattle.std.proofs.Common.{◌≡◌, ◌≢◌, inl, inr, ℕ, ◌+◌, ◌<◌, ◌≤◌, List, map, length, Contains, Option, Some, None, IfSome, IfNone, true, refl, sym, ap, subst, ◌∙◌, arith, slice_get, slice_index}
 use Rattle.std.specs.List.{range_with_len}
 use Rattle.std.proofs.lemmas.List.FromFn.{length-range_with_len}
 use Rattle.std.proofs.lemmas.List.{length-map, get_or-map}
@@ -35,8 +33,7 @@ use Rattle.tele_lanes.specs.declared.answer_lists.Answer.{Answer}
 use Rattle.tele_lanes.specs.Lines.{commands_of}
 use Rattle.tele_lanes.specs.Lanes.{InLineOrder, TasksInLineOrder, unanswered, first_refusal}
 use Rattle.tele_generations.specs.Runs.{LaneRun, HasRun, LanesRan, AreWhole, told_of_runs}
-use Rattle.tele_generations.specs.Generations.{RanFull, MayAsk, may_want_words}
-use Rattle.tele_generations.specs.Generations.{puts_done}
+use Rattle.tele_generations.specs.Generations.{RanFull, MayAsk, may_want_words, puts_done}
 use Rattle.tele_generations.specs.Tables.{RanOnTable, EndedWith}
 use Rattle.tele_run.specs.Ends.{TreeLane, run_of, LaneHasEnded, CameTo}
 use Rattle.tele_run.proofs.PutLemmas.{puts_few, has_run, called_puts, called_puts-done}

@@ -1,6 +1,5 @@
 -- The refusal of the lowest lane that stopped. Serves `run_on_tree`.
-use Rattle.std.proofs.Common.{◌≡◌, ℕ, zero, suc, List, [], ◌∷◌, map, refl, ◌∙◌}
-use Rattle.std.proofs.Common.{Option, Some, None, option_map, All, Contains, slice_get, arith}
+use Rattle.std.proofs.Common.{◌≡◌, ℕ, zero, suc, List, [], ◌∷◌, map, refl, ◌∙◌, Option, Some, None, option_map, All, Contains, slice_get, arith}
 use Rattle.std.proofs.lemmas.List.Elements.{All-cons}
 use Rattle.ist_core.specs.declared.commands.Command.{Command}
 use Rattle.ist_core.specs.declared.ports.Full.{Full}

@@ -1,6 +1,5 @@
 -- Lanes that were made and run on a tree, and whose passes were taken back. Serves `run_tree`.
-use Rattle.std.proofs.Common.{◌≡◌, ℕ, List, [], ◌++◌, length, map, sym, ap, subst, ◌∙◌, All}
-use Rattle.std.proofs.Common.{Option, IfSome}
+use Rattle.std.proofs.Common.{◌≡◌, ℕ, List, [], ◌++◌, length, map, sym, ap, subst, ◌∙◌, All, Option, IfSome}
 use Rattle.std.proofs.lemmas.List.{append-nil, length-map}
 use Rattle.std.proofs.lemmas.Simd.{map-map}
 use Rattle.std.specs.List.{range_with_len}
@@ -12,8 +11,7 @@ use Rattle.ist_tree.specs.Refusals.{PassWasRefused}
 use Rattle.tele_lanes.specs.declared.task_lists.Task.{Task}
 use Rattle.tele_lanes.specs.declared.answer_lists.Answer.{Answer}
 use Rattle.tele_lanes.specs.Lines.{task_lines}
-use Rattle.tele_lanes.specs.Lanes.{HaveOwnLines, InLineOrder, TasksInLineOrder, unanswered}
-use Rattle.tele_lanes.specs.Lanes.{first_refusal, all_lane_tasks}
+use Rattle.tele_lanes.specs.Lanes.{HaveOwnLines, InLineOrder, TasksInLineOrder, unanswered, first_refusal, all_lane_tasks}
 use Rattle.tele_lanes.proofs.ClimbLemmas.{HaveOwnLines-all_lane_tasks}
 use Rattle.tele_lanes.proofs.SplitLemmas.{length-all_lane_tasks}
 use Rattle.tele_run.specs.Ends.{TreeLane, LaneHasEnded, AreMade, CameTo}

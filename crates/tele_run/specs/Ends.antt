@@ -12,8 +12,7 @@ use Rattle.ist_tree.specs.Refusals.{PassWasRefused}
 use Rattle.tele_lanes.specs.declared.lanes.Lane.{Lane}
 use Rattle.tele_lanes.specs.declared.task_lists.Task.{Task}
 use Rattle.tele_lanes.specs.declared.answer_lists.Answer.{Answer}
-use Rattle.tele_lanes.specs.Lanes.{all_lane_tasks, unanswered, first_refusal, InLineOrder}
-use Rattle.tele_lanes.specs.Lanes.{TasksInLineOrder}
+use Rattle.tele_lanes.specs.Lanes.{all_lane_tasks, unanswered, first_refusal, InLineOrder, TasksInLineOrder}
 use Rattle.tele_generations.specs.Runs.{LaneRun}
 use Rattle.tele_steal.specs.Runs.{IsNewLane, IsRunLane}
 

@@ -1,6 +1,5 @@
 -- Lanes that came back in the order of their numbers. Serves a run of stolen lanes.
-use Rattle.std.proofs.Common.{◌≡◌, ◌+◌, ◌<◌, ℕ, List, [], ◌∷◌, ◌++◌, length, map, IsPermutation, eqb}
-use Rattle.std.proofs.Common.{sym, refl, ap, ◌∙◌, subst, arith, length-append}
+use Rattle.std.proofs.Common.{◌≡◌, ◌+◌, ◌<◌, ℕ, List, [], ◌∷◌, ◌++◌, length, map, IsPermutation, eqb, sym, refl, ap, ◌∙◌, subst, arith, length-append}
 use Rattle.std.specs.List.{range_with_len}
 use Rattle.std.proofs.lemmas.List.FromFn.{length-map-range_with_len, get_or-map-range_with_len, map-range_with_len_more}
 use Rattle.std.specs.List.Sorted.{IsNonDecreasingBy, IsNonDecreasing, IsStrictlyIncreasing}

@@ -1,11 +1,9 @@
 -- Lanes that were run, as the runs of lanes say. Serves the worker.
-use Rattle.std.proofs.Common.{◌≡◌, ℕ, ◌+◌, List, [], ◌∷◌, ◌++◌, length, map, drop, All, get_or}
-use Rattle.std.proofs.Common.{sym, refl, ap, ◌∙◌, subst, arith, take, take-append-drop, drop_of_length-le, take_all, append-nil, length-append, append_assoc, IsPermutation}
+use Rattle.std.proofs.Common.{◌≡◌, ℕ, ◌+◌, List, [], ◌∷◌, ◌++◌, length, map, drop, All, get_or, sym, refl, ap, ◌∙◌, subst, arith, take, take-append-drop, drop_of_length-le, take_all, append-nil, length-append, append_assoc, IsPermutation}
 use Rattle.std.proofs.lemmas.List.Sorted.{IsPermutation-refl}
 use Rattle.tele_steal.proofs.ShuffleLemmas.{one_over}
-use lib.Seq.{take-append_seam}
+use lib.Seq.{take-append_seam, drop-append_seam}
 use Rattle.std.proofs.lemmas.List.{map-append, length-map}
-use lib.Seq.{drop-append_seam}
 use Rattle.std.proofs.lemmas.List.Elements.{All-append, All-head, All-push, All-take, All-drop}
 use Rattle.tele_lanes.specs.declared.lanes.Lane.{Lane}
 use Rattle.tele_steal.specs.Runs.{ticket}

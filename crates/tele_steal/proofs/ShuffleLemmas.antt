@@ -1,7 +1,6 @@
 -- Parts of a list in another order. Serves the rule over the deque and its passes.
 use Rattle.std.proofs.Common.{◌≡◌, List, ◌++◌, IsPermutation, sym, subst, append_assoc}
-use Rattle.std.proofs.lemmas.List.Sorted.{IsPermutation-sym, IsPermutation-trans}
-use Rattle.std.proofs.lemmas.List.Sorted.{IsPermutation-append_left, IsPermutation-append_right, IsPermutation-append_comm}
+use Rattle.std.proofs.lemmas.List.Sorted.{IsPermutation-sym, IsPermutation-trans, IsPermutation-append_left, IsPermutation-append_right, IsPermutation-append_comm}
 
 module _ {X : Type 0} where
   -- the second of three parts comes first

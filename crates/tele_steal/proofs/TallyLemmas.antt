@@ -1,6 +1,5 @@
 -- Each step of a pass keeps the rule over the deque and all passes. Serves the calls of the deque.
-use Rattle.std.proofs.Common.{◌≡◌, ◌≢◌, ℕ, ◌+◌, ◌-◌, ◌<◌, ◌≤◌, true≢false, List, [], ◌∷◌, ◌++◌, length, set, flat_map, All}
-use Rattle.std.proofs.Common.{IsPermutation, sym, refl, ap, ◌∙◌, subst, ⊎_elim, arith, append-nil, length-append}
+use Rattle.std.proofs.Common.{◌≡◌, ◌≢◌, ℕ, ◌+◌, ◌-◌, ◌<◌, ◌≤◌, true≢false, List, [], ◌∷◌, ◌++◌, length, set, flat_map, All, IsPermutation, sym, refl, ap, ◌∙◌, subst, ⊎_elim, arith, append-nil, length-append}
 use mathlib.Core.Option.{some, some-injective}
 use lib.ListN.{get_elem?}
 use lib.Seq.{take-append_seam, drop-append_seam}

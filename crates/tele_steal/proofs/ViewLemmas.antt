@@ -1,6 +1,5 @@
 -- One tally among those of all passes. Serves the rule over the deque and its passes.
-use Rattle.std.proofs.Common.{◌≡◌, ℕ, zero, suc, ◌+◌, ◌<◌, List, [], ◌∷◌, ◌++◌, length, set, sum_by, flat_map, All}
-use Rattle.std.proofs.Common.{IsPermutation, sym, refl, ap, ◌∙◌, subst, arith}
+use Rattle.std.proofs.Common.{◌≡◌, ℕ, zero, suc, ◌+◌, ◌<◌, List, [], ◌∷◌, ◌++◌, length, set, sum_by, flat_map, All, IsPermutation, sym, refl, ap, ◌∙◌, subst, arith}
 use mathlib.Core.Option.{some, some-ne-none, some-injective}
 use lib.ListN.{get_elem?}
 use Rattle.std.proofs.lemmas.List.Sums.{sum_by-cons}

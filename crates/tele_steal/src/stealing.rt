@@ -1,5 +1,5 @@
 //! Lanes run by workers that steal them.
-ghost use Rattle.std.specs.Prelude.{◌≡◌, ◌<◌, ◌≤◌, [], map, All, length, None, Some, IfSome, IfNone, slice_get, option_map};
+ghost use Rattle.std.specs.Prelude.{◌≡◌, ◌≤◌, [], map, All, length, None, Some, IfSome, IfNone, slice_get, option_map};
 ghost use Rattle.std.specs.List.Sorted.{IsPermutation, IsNonDecreasingBy, IsStrictlyIncreasing};
 ghost use Rattle.tele_lanes.specs.Lines.{commands_of, AnswerInOrder, CallInOrder, TellReplies};
 ghost use Rattle.tele_steal.specs.Runs.{IsNewLane, IsRunLane, ticket};

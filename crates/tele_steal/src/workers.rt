@@ -1,8 +1,8 @@
 //! A worker: it takes a lane from the deque, runs it, and takes the next until the deque is empty.
-ghost use Rattle.std.specs.Prelude.{◌≡◌, ◌<◌, ◌≤◌, ℕ, List, [], ◌++◌, ◌∷◌, map, take, drop, All, length, IfSome, IfNone, MatchOption, vec_capacity};
+ghost use Rattle.std.specs.Prelude.{◌≡◌, ◌<◌, ◌≤◌, ℕ, List, [], ◌++◌, ◌∷◌, map, take, drop, All, length, IfSome, IfNone, vec_capacity};
 ghost use mathlib.Core.Option.{some};
 ghost use lib.ListN.{get_elem?};
-ghost use Rattle.crossbeam_deque.specs.Handles.{view, IsPassOf, SamePass, stealer_deque, stealer_flavor};
+ghost use Rattle.crossbeam_deque.specs.Handles.{view, IsPassOf, stealer_deque, stealer_flavor};
 ghost use Rattle.tele_steal.specs.Runs.{IsNewLane, IsRunLane, ticket};
 ghost use Rattle.tele_steal.specs.Tallies.{Balances, HasTakenLanes, of_worker, taken_by};
 ghost use Rattle.tele_steal.specs.declared.tallies.Tally.{Tally};

@@ -1,5 +1,5 @@
 //! What no clause says of lanes: small rounds whole, and a lane that stops at a refused task.
-ghost use Rattle.std.specs.Prelude.{◌≡◌, [], All, Option, None, ◌≤◌, length, map, IfOk};
+ghost use Rattle.std.specs.Prelude.{◌≡◌, [], All, None, ◌≤◌, length, map, IfOk};
 ghost use Rattle.tele_lanes.specs.Lanes.{all_lane_tasks};
 
 use crate::judging::same;

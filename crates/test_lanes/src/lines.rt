@@ -1,5 +1,5 @@
 //! Lines read from bytes, what is printed for them, and the map of one thread, call by call.
-ghost use Rattle.std.specs.Prelude.{◌<◌, ◌≤◌, ◌^◌};
+ghost use Rattle.std.specs.Prelude.{◌<◌};
 
 use crate::judging::same;
 use ist_core::{Command, Pair, Reply};

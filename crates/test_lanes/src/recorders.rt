@@ -1,7 +1,6 @@
 //! A port that keeps what it is asked, lanes with it, and a gate that counts.
-ghost use Rattle.std.specs.Prelude.{◌≡◌, ◌≤◌, [], List, Option, None, IfOk, length, map};
+ghost use Rattle.std.specs.Prelude.{◌≡◌, ◌≤◌, [], None, IfOk, length, map};
 ghost use Rattle.std.specs.Option.{option_map};
-ghost use Rattle.ist_core.specs.Replies.{Answered, Refused};
 
 use ist_core::{Command, Full, Port, Reply};
 use std::alloc::{AllocError, Global};

@@ -1,5 +1,5 @@
 //! A port can be met, and rows come back as they went in.
-ghost use Rattle.std.specs.Prelude.{[], List, ◌∷◌, Option, None, option_map};
+ghost use Rattle.std.specs.Prelude.{None, option_map};
 ghost use Rattle.std.specs.Option.{option_to_list};
 ghost use Rattle.ist_core.specs.Replies.{told, refusal};
 

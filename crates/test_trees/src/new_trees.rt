@@ -1,5 +1,5 @@
 //! New trees, which are searched by passes that tell each other what they know, and closed.
-ghost use Rattle.std.specs.Prelude.{◌≡◌, ◌≤◌, length, map};
+ghost use Rattle.std.specs.Prelude.{◌≤◌, length, map};
 ghost use Rattle.std.specs.List.Sorted.{IsStrictlyIncreasing};
 
 use crate::asking::{find, find_when_told};

@@ -1,5 +1,5 @@
 //! Worked rows: what one pass is answered, and the words that it leaves.
-ghost use Rattle.std.specs.Prelude.{◌≡◌, ◌≤◌};
+ghost use Rattle.std.specs.Prelude.{◌≤◌};
 
 use crate::asking::{ask, ask_each, find, find_when_told};
 use crate::judging::same;

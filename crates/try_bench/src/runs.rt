@@ -1,5 +1,5 @@
 //! A run: a tree is opened with its keys, and its threads make their calls.
-ghost use Rattle.std.specs.Prelude.{◌≡◌, ◌≤◌, ◌+◌, [], length, All, IfOk};
+ghost use Rattle.std.specs.Prelude.{◌≡◌, ◌≤◌, [], length, All, IfOk};
 ghost use Rattle.ist_core.specs.RowLayout.{place_limit};
 
 use crate::clocks::{Moment, Spent};

@@ -1,6 +1,5 @@
 //! Runs on one map, one after another, each judged whole.
-ghost use Rattle.std.specs.Prelude.{◌≡◌, ◌≤◌, length, IfOk};
-ghost use Rattle.ist_core.specs.Enabled.{caller_limit};
+ghost use Rattle.std.specs.Prelude.{◌≤◌, length, IfOk};
 
 use crate::faults::Fault;
 use crate::plans::{MOST_WORKERS, Plan};

@@ -1,5 +1,5 @@
 //! A thread of a run: calls that are drawn, by a pass of its own, and what it was told.
-ghost use Rattle.std.specs.Prelude.{◌≡◌, ◌≤◌, ◌<◌};
+ghost use Rattle.std.specs.Prelude.{◌≡◌, ◌≤◌};
 ghost use Rattle.ist_tree.specs.Freezing.{IsFrozenFor};
 
 use crate::plans::Plan;

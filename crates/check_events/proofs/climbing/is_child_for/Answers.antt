@@ -3,10 +3,7 @@ use Rattle.ist_core.specs.RowLayout.{anchor}
 use Rattle.check_fairness.proofs.AnswerLemmas.{iff_trans}
 use Rattle.check_events.proofs.WayUpLemmas.{child_of_row}
 use Rattle.check_events.proofs.climbing.is_child_for.Goals as goal
-use Rattle.check_events.proofs.climbing.is_child_for.Goals.{
-  else-node-from-via-then-node-from+else-i-eq0,
-  else-node-from-via-else-node-from,
-}
+use Rattle.check_events.proofs.climbing.is_child_for.Goals.{else-node-from-via-then-node-from+else-i-eq0, else-node-from-via-else-node-from}
 
 pub returns : goal.returns
 returns c =

@@ -1,7 +1,6 @@
 use Rattle.std.proofs.Common.{arith}
 use Rattle.check_fairness.proofs.AnswerLemmas.{iff_trans, never, is_zero}
-use Rattle.check_events.proofs.MarkLemmas.{passed_none, passed_first, passed_beyond}
-use Rattle.check_events.proofs.MarkLemmas.{passed_without}
+use Rattle.check_events.proofs.MarkLemmas.{passed_none, passed_first, passed_beyond, passed_without}
 use Rattle.check_events.proofs.marking.+are_passed.Goals as goal
 
 pub returns-in-empty : goal.returns-in-empty

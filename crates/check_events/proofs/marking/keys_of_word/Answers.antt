@@ -1,6 +1,5 @@
 use Rattle.ist_core.specs.References.{ref_of}
-use Rattle.check_events.proofs.MarkLemmas.{finds_empty, finds_leaf, finds_inner}
-use Rattle.check_events.proofs.MarkLemmas.{finds_rebuild}
+use Rattle.check_events.proofs.MarkLemmas.{finds_empty, finds_leaf, finds_inner, finds_rebuild}
 use Rattle.check_events.proofs.marking.keys_of_word.Goals as goal
 use Rattle.ist_layout.proofs.MeaningLemmas.{word_names}
 

@@ -1,5 +1,4 @@
-use Rattle.std.proofs.Common.{◌≡◌, ◌↔◌, ◌∙◌, ◌++◌, ◌==◌, vec_len, map, length, [], true}
-use Rattle.std.proofs.Common.{ap, subst, arith, append-nil}
+use Rattle.std.proofs.Common.{◌≡◌, ◌↔◌, ◌∙◌, ◌++◌, ◌==◌, vec_len, map, length, [], true, ap, subst, arith, append-nil}
 use Rattle.ist_core.specs.Elements.{Among}
 use Rattle.check_fairness.specs.Searching.{Goes, all_spare}
 use Rattle.check_fairness.specs.Readings.{SomeGoes}

@@ -1,11 +1,5 @@
 use Rattle.std.proofs.Common.{◌<◌, ◌^◌, arith}
-use Rattle.ist_math.proofs.QuotientLemmas.{
-  shift_of,
-  first_of,
-  first_is,
-  low_quotient-le,
-  low_quotient-pos,
-}
+use Rattle.ist_math.proofs.QuotientLemmas.{shift_of, first_of, first_is, low_quotient-le, low_quotient-pos}
 use Rattle.ist_math.proofs.quotients.low_quotient.Goals as goal
 
 -- the first bits have a word's length

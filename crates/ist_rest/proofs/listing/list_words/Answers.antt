@@ -1,6 +1,5 @@
 use Rattle.std.proofs.Common.{arith, rules}
-use Rattle.ist_rest.proofs.ListingLemmas.{come_start, come_good, come_less, come_step, come_end}
-use Rattle.ist_rest.proofs.ListingLemmas.{none_between}
+use Rattle.ist_rest.proofs.ListingLemmas.{come_start, come_good, come_less, come_step, come_end, none_between}
 use Rattle.ist_rest.proofs.listing.list_words.Goals as goal
 
 -- an interval that ends before it begins

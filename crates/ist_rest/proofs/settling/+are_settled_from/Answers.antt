@@ -2,12 +2,10 @@ use borrow.Author.Gap.{counting}
 use borrow.Author.Rules.{rules}
 use Rattle.std.proofs.Common.{◌≤◌, refl, sym, ◌∙◌, subst, arith}
 use Rattle.ist_rest.specs.Settling.{itself, AreSettledFrom}
-use Rattle.ist_rest.proofs.SlotReadLemmas.{slot_good, child_row_good, child_in_shape, child_settled}
-use Rattle.ist_rest.proofs.SlotReadLemmas.{one_more_settled, settled_by_slots}
+use Rattle.ist_rest.proofs.SlotReadLemmas.{slot_good, child_row_good, child_in_shape, child_settled, one_more_settled, settled_by_slots}
 use Rattle.laws_links.proofs.ReturnLemmas.{one_inner}
 use Rattle.ist_rest.proofs.settling.+are_settled_from.Goals as goal
-use Rattle.ist_rest.proofs.settling.+are_settled_from.Goals.{in-Some+else-not-are_settled_from}
-use Rattle.ist_rest.proofs.settling.+are_settled_from.Goals.{in_default}
+use Rattle.ist_rest.proofs.settling.+are_settled_from.Goals.{in-Some+else-not-are_settled_from, in_default}
 
 -- a row that isn't settled
 pub returns-then-not-is_settled_row : goal.returns-then-not-is_settled_row

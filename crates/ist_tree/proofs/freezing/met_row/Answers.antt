@@ -1,7 +1,6 @@
-use Rattle.std.proofs.Common.{subst}
+use Rattle.std.proofs.Common.{subst, Ok, ap}
 use Rattle.ist_tree.specs.FreezeSteps.{HasStarted}
 use Rattle.ist_tree.proofs.FreezeLookLemmas.{begun_met}
-use Rattle.std.proofs.Common.{Ok, ap}
 use Rattle.ist_tree.proofs.freezing.met_row.Goals as goal
 
 -- the rebuild that was started is met

@@ -1,10 +1,7 @@
 use Rattle.std.proofs.Common.{false, IsTrue, length, arith}
 use Rattle.ist_core.proofs.WordLemmas.{ideal_words_is}
 use Rattle.log_check.proofs.logs.may_open.Goals as goal
-use Rattle.log_check.proofs.logs.may_open.Goals.{
-  then-count-words-via-then-count-words,
-  then-count-words-via-else-count-words+then-from-ideal_words,
-}
+use Rattle.log_check.proofs.logs.may_open.Goals.{then-count-words-via-then-count-words, then-count-words-via-else-count-words+then-from-ideal_words}
 
 clash : {A : Type 0} → IsTrue false → A
 clash e = absurd (let none : ⊥ = cc in none)

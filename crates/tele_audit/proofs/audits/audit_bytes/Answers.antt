@@ -1,6 +1,5 @@
 use Rattle.std.proofs.Common.{◌∙◌, sym}
-use Rattle.tele_audit.proofs.ReadLemmas.{AreRead, words_read, read_long, read_bounds}
-use Rattle.tele_audit.proofs.ReadLemmas.{read_lawfully, read_broken, lawful_pairs_rise}
+use Rattle.tele_audit.proofs.ReadLemmas.{AreRead, words_read, read_long, read_bounds, read_lawfully, read_broken, lawful_pairs_rise}
 use Rattle.tele_audit.proofs.audits.audit_bytes.Goals as goal
 use Rattle.tele_audit.proofs.audits.audit_bytes.Goals.{After-know_fit}
 

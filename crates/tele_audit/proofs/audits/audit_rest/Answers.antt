@@ -2,8 +2,7 @@ use Rattle.std.proofs.Common.{rules}
 use Rattle.tele_io.proofs.OutcomeLemmas.{at_ok}
 use Rattle.tele_audit.specs.Dumps.{IsLawfulDump}
 use Rattle.tele_audit.specs.Flaws.{IsFirstFlaw}
-use Rattle.tele_audit.proofs.FrontLemmas.{Reaches, reached_flaw, reached_so, reached_end}
-use Rattle.tele_audit.proofs.FrontLemmas.{extended_head, extended_used}
+use Rattle.tele_audit.proofs.FrontLemmas.{Reaches, reached_flaw, reached_so, reached_end, extended_head, extended_used}
 use Rattle.tele_audit.proofs.audits.audit_rest.Goals as goal
 use Rattle.tele_audit.proofs.audits.audit_rest.Goals.{After-length_flaw}
 use Rattle.ist_rest.proofs.WholeLemmas.{if_ok_so}

@@ -2,8 +2,7 @@ use Rattle.std.proofs.Common.{ap, Err}
 use Rattle.std.proofs.lemmas.Result.{on_err_weaker}
 use Rattle.tele_audit.specs.declared.jobs.Job.TheVariants.{Pack}
 use Rattle.tele_audit.specs.declared.outcomes.TheConstants.{DONE, BAD_LINE}
-use Rattle.tele_audit.proofs.RunLemmas.{writes_if, part_if, packed_due, bad_due, done_text}
-use Rattle.tele_audit.proofs.RunLemmas.{same_bad, same_bad_part}
+use Rattle.tele_audit.proofs.RunLemmas.{writes_if, part_if, packed_due, bad_due, done_text, same_bad, same_bad_part}
 use Rattle.tele_audit.proofs.packing.pack.Goals as goal
 
 -- the dump was written

@@ -2,8 +2,7 @@ use Rattle.std.proofs.Common.{ap, Err}
 use Rattle.tele_audit.specs.declared.jobs.Job.TheVariants.{Tell}
 use Rattle.tele_audit.specs.declared.outcomes.TheConstants.{DONE, FLAWED}
 use Rattle.tele_audit.specs.Runs.{flaw_text}
-use Rattle.tele_audit.proofs.RunLemmas.{writes_if, part_if, answer_due, flaw_due, same_flaw}
-use Rattle.tele_audit.proofs.RunLemmas.{same_flaw_part}
+use Rattle.tele_audit.proofs.RunLemmas.{writes_if, part_if, answer_due, flaw_due, same_flaw, same_flaw_part}
 use Rattle.tele_audit.proofs.runs.tell.Goals as goal
 
 -- a part of the answer was written

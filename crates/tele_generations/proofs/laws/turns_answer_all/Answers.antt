@@ -1,5 +1,4 @@
-use Rattle.tele_generations.proofs.TurnLemmas.{round_begins, round_goes_on, lanes_turn, one_line}
-use Rattle.tele_generations.proofs.TurnLemmas.{tasks_counted, round_ends}
+use Rattle.tele_generations.proofs.TurnLemmas.{round_begins, round_goes_on, lanes_turn, one_line, tasks_counted, round_ends}
 use Rattle.tele_generations.proofs.laws.turns_answer_all.Goals as goal
 use Rattle.ist_core.proofs.MapLemmas.{map_of-pairs_of}
 

@@ -1,5 +1,4 @@
-use Rattle.tele_generations.proofs.SuffixLemmas.{suffixes_begin, suffixes_go_on, lanes_leave}
-use Rattle.tele_generations.proofs.SuffixLemmas.{line_leaves}
+use Rattle.tele_generations.proofs.SuffixLemmas.{suffixes_begin, suffixes_go_on, lanes_leave, line_leaves}
 use Rattle.tele_generations.proofs.laws.turns_leave_suffixes.Goals as goal
 
 pub returns : goal.returns

@@ -6,9 +6,7 @@ use Rattle.tele_generations.specs.Sizes.{first_words}
 use Rattle.tele_generations.proofs.CountLemmas.{some_lanes}
 use Rattle.tele_generations.proofs.LeadLemmas.{tables_begin}
 use Rattle.tele_generations.proofs.NextTableLemmas.{way_begins}
-use Rattle.tele_generations.proofs.RoundLemmas.{some_left, after_rise, after_few, ends_plain}
-use Rattle.tele_generations.proofs.RoundLemmas.{ends_round, last_table, ends_with, ends_for}
-use Rattle.tele_generations.proofs.RoundLemmas.{way_goes_on, tables_go_on}
+use Rattle.tele_generations.proofs.RoundLemmas.{some_left, after_rise, after_few, ends_plain, ends_round, last_table, ends_with, ends_for, way_goes_on, tables_go_on}
 use Rattle.tele_generations.proofs.running.run_round.Goals as goal
 
 -- before the first table

@@ -3,8 +3,7 @@ use Rattle.std.specs.List.Sorted.{IsStrictlyIncreasing}
 use Rattle.tele_lanes.specs.Lines.{task_lines, ShareNoLine}
 use Rattle.tele_lanes.specs.Lanes.{lane_tasks, all_lane_tasks}
 use Rattle.tele_lanes.proofs.SplitLemmas.{get_or-all_lane_tasks, length-all_lane_tasks}
-use Rattle.tele_lanes.proofs.ClimbLemmas.{lane_tasks-rising, lane_tasks-apart}
-use Rattle.tele_lanes.proofs.ClimbLemmas.{HaveOwnLines-all_lane_tasks}
+use Rattle.tele_lanes.proofs.ClimbLemmas.{lane_tasks-rising, lane_tasks-apart, HaveOwnLines-all_lane_tasks}
 use Rattle.tele_lanes.proofs.laws.lanes_can_be_gathered.Goals as goal
 
 pub returns-clause-own_lines : goal.returns-clause-own_lines

@@ -1,5 +1,4 @@
-use Rattle.std.proofs.Common.{◌≡◌, ◌≤◌, [], All, IsPermutation, map, length, vec_capacity, Vec, Global}
-use Rattle.std.proofs.Common.{sym, ap, ◌∙◌, subst, arith, rules, length-append}
+use Rattle.std.proofs.Common.{◌≡◌, ◌≤◌, [], All, IsPermutation, map, length, vec_capacity, Vec, Global, sym, ap, ◌∙◌, subst, arith, rules, length-append}
 use Rattle.std.proofs.lemmas.List.{length-map}
 use Rattle.crossbeam_deque.specs.Handles.{view, IsPassOf, worker_deque, worker_view}
 use Rattle.tele_lanes.specs.declared.lanes.Lane.{Lane}

@@ -1,5 +1,4 @@
-use Rattle.std.proofs.Common.{subst, rules, arith}
-use Rattle.std.proofs.Common.{◌≡◌, []}
+use Rattle.std.proofs.Common.{subst, rules, arith, ◌≡◌, []}
 use Rattle.std.proofs.lemmas.List.{nil_from_length}
 use Rattle.tele_steal.proofs.TallyLemmas.{takes}
 use Rattle.tele_steal.specs.Tallies.{Balances}
