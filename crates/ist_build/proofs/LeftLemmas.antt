@@ -8,7 +8,7 @@ use Rattle.ist_core.specs.declared.states.InnerRow.{InnerRow}
 use Rattle.ist_core.specs.Arithmetic.{degree, part_len, part_lens}
 use Rattle.ist_core.specs.Pieces.{Piece, Inner}
 use Rattle.ist_core.specs.References.{unset_word}
-use Rattle.ist_core.specs.RowLayout.{inner_words}
+use Rattle.ist_core.specs.RowLayout.{inner_words, slot_place}
 use Rattle.ist_core.specs.Shapes.{shape, share_from}
 use Rattle.ist_core.specs.Slots.{SlotHolds, in_anchor, in_row}
 use Rattle.ist_core.specs.Snapshots.{Snapshot}
@@ -18,11 +18,9 @@ use Rattle.laws_calls.specs.Dividing.{lens_to}
 use Rattle.laws_calls.proofs.PartLemmas.{lens_all}
 use Rattle.ist_rule.specs.declared.view.View.{View}
 use Rattle.ist_rule.specs.Rule.{IsSound}
-use Rattle.ist_rule.specs.Learning.{now}
-use Rattle.ist_core.specs.RowLayout.{slot_place}
+use Rattle.ist_rule.specs.Learning.{now, Looked}
 use Rattle.ist_core.specs.Shown.{IsShown}
 use Rattle.ist_rule.proofs.GoingOnLemmas.{looked_goes_on}
-use Rattle.ist_rule.specs.Learning.{Looked}
 use Rattle.ist_build.specs.declared.shared.SharedRoot.{SharedRoot}
 use Rattle.ist_build.specs.Calls.{parts_words, root_words}
 use Rattle.ist_build.specs.Left.{left_in, slot_is_set, word_is_set, words_left}

@@ -5,6 +5,7 @@ ghost use Rattle.ist_core.specs.References.{InnerAt};
 ghost use Rattle.ist_core.specs.RowLayout.{place_limit};
 ghost use Rattle.ist_rule.specs.Learning.{now, GoesOnTo};
 ghost use Rattle.ist_build.specs.Calls.{HasKeys};
+ghost use Rattle.ist_rule.specs.Faces.{IsViewAt};
 ghost use Rattle.ist_build.specs.Reading.{HasReadOne};
 
 use crate::below::FinishedChild;
@@ -21,8 +22,7 @@ pub(crate) struct Reached {
 // Goes down to the leaf number `i` below a finished node: skips what lies before it by the finished
 // counts, and enters one child per row.
 fn go_down(table: &TreeTable, token: &mut TreeToken, node: u32, i: u64) -> Reached
-    requires same_table { token.old.view.table ≡ table.now.table }
-    requires finished { HasKeys (now token.old.view) node (i + 1) }
+    requires finished { IsViewAt table.now (λ v. HasKeys (now v) node (i + 1)) token.old.view }
     ensures seen { GoesOnTo token.old.view token.new.view }
     ensures read { (leaves : List PlacedLeaf)
         → HasLeaves (now token.old.view).pieces (Some (InnerAt node)) leaves
@@ -63,8 +63,7 @@ fn go_down(table: &TreeTable, token: &mut TreeToken, node: u32, i: u64) -> Reach
 /// Returns the leaf of the key number `i` of a finished target, counted from 0, and how many loads
 /// it took.
 pub(crate) fn leaf_base(table: &TreeTable, token: &mut TreeToken, target: u32, i: u64) -> Reached
-    requires same_table { token.old.view.table ≡ table.now.table }
-    requires finished { HasKeys (now token.old.view) target (i + 1) }
+    requires finished { IsViewAt table.now (λ v. HasKeys (now v) target (i + 1)) token.old.view }
     ensures seen { GoesOnTo token.old.view token.new.view }
     ensures leaf { (leaves : List PlacedLeaf)
         → HasLeaves (now token.old.view).pieces (Some (InnerAt target)) leaves

@@ -6,7 +6,7 @@ ghost use Rattle.ist_core.specs.Marking.{HasTarget};
 ghost use Rattle.ist_core.specs.References.{unset_word};
 ghost use Rattle.ist_core.specs.Shapes.{shape, share_from};
 ghost use Rattle.ist_core.specs.RowLayout.{slot_place};
-ghost use Rattle.ist_rule.specs.Faces.{word_count_of};
+ghost use Rattle.ist_rule.specs.Faces.{word_count_of, IsViewAt};
 ghost use Rattle.ist_rule.specs.Learning.{now, ExchangedOrLost};
 ghost use Rattle.ist_rule.specs.Conditions.{CanExchangeOrLose};
 ghost use Rattle.ist_rows.specs.Taken.{HasTakenFewIn, TakesNoWords};
@@ -58,10 +58,9 @@ fn put_part(
     word: u64,
 ) -> u64
     ghost which: { ℕ × ℕ }
-    requires same_table { token.old.view.table ≡ table.now.table }
+    requires events { IsViewAt table.now (λ v. CanExchangeOrLose v place unset_word word
+        (placing v which.0 which.1 word) (losing v word)) token.old.view }
     requires within { place < word_count_of table.now }
-    requires events { CanExchangeOrLose token.old.view place unset_word word
-        (placing token.old.view which.0 which.1 word) (losing token.old.view word) }
     ensures exchanged { ExchangedOrLost token.old.view (placing token.old.view which.0 which.1 word)
         (losing token.old.view word) place unset_word result token.new.view }
 {
@@ -71,8 +70,7 @@ fn put_part(
 
 // Puts part `i` of a shared root, which was built, into its slot if that is still Unset.
 fn put_slot(table: &TreeTable, who: &mut Caller, shared: SharedRoot, i: u64, word: u64)
-    requires same_table { who.old.token.view.table ≡ table.now.table }
-    requires made { PartWasMade who.old shared i word }
+    requires made { IsAtTable table.now (λ x. PartWasMade x shared i word) who.old }
     ensures put { EndsPart who.old shared i word who.new }
     ensures none { TakesNoWords who.old who.new }
 {

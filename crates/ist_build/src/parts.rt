@@ -1,13 +1,12 @@
 //! Leaves and parts of a finished target.
-ghost use Rattle.std.specs.Prelude.{◌≡◌, ◌+◌, ◌<◌, ◌≤◌, ℕ, List, [], ◌∷◌, length, map, take, drop, Some, IfOk, IfErr};
+ghost use Rattle.std.specs.Prelude.{◌≡◌, ◌+◌, ◌<◌, ◌≤◌, List, [], length, take, drop, Some, IfOk, IfErr};
 ghost use Rattle.std.specs.List.{sum};
 ghost use Rattle.ist_core.specs.Leaves.{PlacedLeaf, HasLeaves};
-ghost use Rattle.ist_core.specs.Rebuilding.{IsFinishedWith};
 ghost use Rattle.ist_core.specs.References.{InnerAt};
 ghost use Rattle.ist_core.specs.RowLayout.{place_limit};
 ghost use Rattle.ist_core.specs.Shapes.{shape};
-ghost use Rattle.ist_rule.specs.Faces.{word_count_of};
-ghost use Rattle.ist_rule.specs.Learning.{now, GoesOnTo};
+ghost use Rattle.ist_rule.specs.Faces.{word_count_of, IsViewAt};
+ghost use Rattle.ist_rule.specs.Learning.{now};
 ghost use Rattle.ist_rows.specs.Rows.{IsCaller, IsAtTable, spares_of};
 ghost use Rattle.ist_rows.specs.Building.{HasTaken, HasRefused, IsInBuild, sizes_built};
 ghost use Rattle.ist_rows.specs.Taken.{HasTakenFewIn};
@@ -37,8 +36,8 @@ fn read_out(
     leaves: &mut [u32],
     keys: &mut [u64],
 )
-    requires same_table { token.old.view.table ≡ table.now.table }
-    requires finished { HasKeys (now token.old.view) target (start + length leaves.old) }
+    requires finished { IsViewAt table.now (λ v. HasKeys (now v) target (start + length leaves.old))
+        token.old.view }
     requires many { length keys.old ≡ length leaves.old }
     ensures read { HasReadOut token.old.view target start (length leaves.old) leaves.new
         token.new.view }

@@ -7,6 +7,7 @@ ghost use Rattle.ist_core.specs.References.{InnerAt};
 ghost use Rattle.ist_core.specs.Slots.{SlotHolds, logical};
 ghost use Rattle.laws_links.specs.Linking.{IsFinished};
 ghost use Rattle.ist_rule.specs.Learning.{now, GoesOnTo};
+ghost use Rattle.ist_rule.specs.Faces.{IsViewAt};
 ghost use Rattle.ist_build.specs.Reading.{HasSlots, IsUnder, HasRead};
 
 use crate::below::FinishedChild;
@@ -32,8 +33,7 @@ fn passed_word(
     degree: u64,
     index: u64,
 ) -> (u64, u64)
-    requires same_table { token.old.view.table ≡ table.now.table }
-    requires slots { HasSlots token.old.view node degree }
+    requires slots { IsViewAt table.now (λ v. HasSlots v node degree) token.old.view }
     requires within { index < degree }
     ensures seen { GoesOnTo token.old.view token.new.view }
     ensures frozen { IsFrozen token.new.view.log node index result.0 }
@@ -53,8 +53,7 @@ fn passed_word(
 
 // Returns the number of keys with which the node is finished.
 pub(crate) fn keys_of(table: &TreeTable, token: &mut TreeToken, node: u32) -> u64
-    requires same_table { token.old.view.table ≡ table.now.table }
-    requires finished { IsFinished (now token.old.view) node }
+    requires finished { IsViewAt table.now (λ v. IsFinished (now v) node) token.old.view }
     ensures seen { GoesOnTo token.old.view token.new.view }
     ensures finished { IsFinishedWith (now token.new.view) node result }
     ensures counted { token.new.view.loaded ≡ token.old.view.loaded + 1 }
@@ -74,8 +73,7 @@ pub(crate) fn look_below(
     degree: u64,
     index: u64,
 ) -> (FinishedChild, u64)
-    requires same_table { token.old.view.table ≡ table.now.table }
-    requires slots { HasSlots token.old.view node degree }
+    requires slots { IsViewAt table.now (λ v. HasSlots v node degree) token.old.view }
     requires within { index < degree }
     ensures seen { GoesOnTo token.old.view token.new.view }
     ensures under { IsUnder token.new.view node index result.0 }
@@ -127,8 +125,7 @@ fn take_leaf(base: u32, into: &mut [u32], at: Cursor) -> Cursor
 
 // Returns the number of slots of the finished node.
 pub(crate) fn degree_of(table: &TreeTable, token: &mut TreeToken, node: u32) -> u64
-    requires same_table { token.old.view.table ≡ table.now.table }
-    requires finished { IsFinished (now token.old.view) node }
+    requires finished { IsViewAt table.now (λ v. IsFinished (now v) node) token.old.view }
     ensures seen { GoesOnTo token.old.view token.new.view }
     ensures slots { HasSlots token.new.view node result }
     ensures counted { token.new.view.loaded ≡ token.old.view.loaded + 1 }
@@ -148,8 +145,7 @@ fn read_slot(
     into: &mut [u32],
     at: Cursor,
 ) -> Cursor
-    requires same_table { token.old.view.table ≡ table.now.table }
-    requires slots { HasSlots token.old.view node degree }
+    requires slots { IsViewAt table.now (λ v. HasSlots v node degree) token.old.view }
     requires index_within { index < degree }
     requires within { at.count ≤ length into.old }
     ensures seen { GoesOnTo token.old.view token.new.view }
@@ -185,8 +181,7 @@ pub(crate) fn read_leaves(
     into: &mut [u32],
     at: Cursor,
 ) -> Cursor
-    requires same_table { token.old.view.table ≡ table.now.table }
-    requires finished { IsFinished (now token.old.view) node }
+    requires finished { IsViewAt table.now (λ v. IsFinished (now v) node) token.old.view }
     requires within { at.count ≤ length into.old }
     ensures seen { GoesOnTo token.old.view token.new.view }
     ensures within { result.count ≤ length into.new }

@@ -6,7 +6,7 @@ ghost use Rattle.ist_core.specs.Marking.{HasTarget};
 ghost use Rattle.ist_core.specs.Rebuilding.{IsFinishedWith};
 ghost use Rattle.ist_core.specs.References.{InnerAt, unset_word};
 ghost use Rattle.ist_core.specs.RowLayout.{rebuild_root_offset};
-ghost use Rattle.ist_rule.specs.Faces.{word_count_of};
+ghost use Rattle.ist_rule.specs.Faces.{word_count_of, IsViewAt};
 ghost use Rattle.ist_rule.specs.Learning.{now, GoesOnTo};
 ghost use Rattle.ist_rows.specs.Rows.{IsCaller, IsAtTable, spares_of};
 ghost use Rattle.ist_rows.specs.Building.{HasRefused};
@@ -74,8 +74,7 @@ fn build_root(table: &TreeTable, who: &mut Caller, target: u32, keys: u64) -> Re
 // Puts a root that was built in place, if the rebuild has none yet, and returns the root that it then
 // has.
 fn put_root(table: &TreeTable, who: &mut Caller, rebuild: u32, word: u64) -> u64
-    requires same_table { who.old.token.view.table ≡ table.now.table }
-    requires made { RootWasMade who.old rebuild word }
+    requires made { IsAtTable table.now (λ x. RootWasMade x rebuild word) who.old }
     ensures put { EndsRoot who.old rebuild word who.new result }
     ensures none { TakesNoWords who.old who.new }
 {
@@ -107,8 +106,8 @@ fn set_rows(table: &TreeTable, who: &mut Caller, rebuild: u32, target: Target) -
 
 // Returns the root over no key or over one, which has no rows.
 fn small_root(table: &TreeTable, token: &mut TreeToken, target: u32, keys: u64) -> u64
-    requires same_table { token.old.view.table ≡ table.now.table }
-    requires finished { IsFinishedWith (now token.old.view) target keys }
+    requires finished { IsViewAt table.now (λ v. IsFinishedWith (now v) target keys)
+        token.old.view }
     requires few { keys < 2 }
     ensures seen { GoesOnTo token.old.view token.new.view }
     ensures root { (leaves : List PlacedLeaf)

@@ -1,5 +1,4 @@
 //! The target of a rebuild.
-ghost use Rattle.std.specs.Prelude.{◌≡◌};
 ghost use Rattle.ist_core.specs.Marking.{HasTarget};
 ghost use Rattle.ist_rule.specs.Learning.{now, GoesOnTo};
 ghost use Rattle.ist_rows.specs.Rows.{IsAtTable};

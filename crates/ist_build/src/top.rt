@@ -1,11 +1,11 @@
 //! Building only the top row of the ideal tree over the leaves of a finished target.
-ghost use Rattle.std.specs.Prelude.{◌≡◌, ◌+◌, ◌<◌, ◌≤◌, ℕ, List, [], ◌∷◌, ◌++◌, drop, Some, IfOk, IfErr};
+ghost use Rattle.std.specs.Prelude.{◌≡◌, ◌+◌, ◌<◌, ◌≤◌, List, [], ◌∷◌, ◌++◌, drop, Some, IfOk, IfErr};
 ghost use Rattle.ist_core.specs.Arithmetic.{degree as degree_of};
 ghost use Rattle.ist_core.specs.Leaves.{PlacedLeaf, HasLeaves};
 ghost use Rattle.ist_core.specs.References.{InnerAt};
 ghost use Rattle.ist_core.specs.RowLayout.{inner_words, place_limit};
 ghost use Rattle.ist_core.specs.Shapes.{share_from};
-ghost use Rattle.ist_rule.specs.Faces.{word_count_of};
+ghost use Rattle.ist_rule.specs.Faces.{word_count_of, IsViewAt};
 ghost use Rattle.ist_rule.specs.Learning.{now, GoesOnTo};
 ghost use Rattle.ist_rows.specs.Rows.{IsCaller, IsAtTable, spares_of};
 ghost use Rattle.ist_rows.specs.Building.{HasRefused, sizes_built};
@@ -24,8 +24,7 @@ use ist_rule::{TreeTable, TreeToken, know};
 
 // Returns the key number `i` of a finished target, counted from 0.
 fn key_at(table: &TreeTable, token: &mut TreeToken, target: u32, i: u64) -> u64
-    requires same_table { token.old.view.table ≡ table.now.table }
-    requires finished { HasKeys (now token.old.view) target (i + 1) }
+    requires finished { IsViewAt table.now (λ v. HasKeys (now v) target (i + 1)) token.old.view }
     ensures seen { GoesOnTo token.old.view token.new.view }
     ensures key { (leaves : List PlacedLeaf)
         → HasLeaves (now token.old.view).pieces (Some (InnerAt target)) leaves
@@ -54,8 +53,8 @@ fn begin_top(
     requires small { degree < place_limit }
     ensures begun { IfOk result (λ base. IsTopMidway who.old target keys base degree 0 who.new) }
     ensures few { HasTakenFewIn result (inner_words degree) 0 who.old who.new }
-    ensures refused { IfErr result (λ full. IsTopRowRefused who.old (word_count_of table.now) keys full
-        who.new) }
+    ensures refused { IfErr result (λ full.
+        IsTopRowRefused who.old (word_count_of table.now) keys full who.new) }
 {
     know(&who.token);
     let base = reserve_inner(table, who, degree)?;

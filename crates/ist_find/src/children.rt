@@ -7,6 +7,7 @@ ghost use Rattle.ist_rule.specs.Conditions.{MayWalk};
 ghost use Rattle.ist_rule.specs.Learning.{now, GoesOnTo};
 ghost use Rattle.ist_math.specs.Guess.{guess_in, distance};
 ghost use Rattle.ist_rule.specs.Watching.{IsNode};
+ghost use Rattle.ist_rule.specs.Faces.{IsViewAt};
 ghost use Rattle.ist_find.specs.Searches.{IsRow, keys_at};
 ghost use Rattle.ist_find.specs.Looks.{ReadsChild};
 ghost use Rattle.ist_find.specs.Turns.{IsSlotForKey};
@@ -25,8 +26,7 @@ pub(crate) fn place_in_row(
     node: u32,
     key: u64,
 ) -> Counted<Place>
-    requires same_table { token.old.view.table ≡ table.now.table }
-    requires row { IsRow token.old.view node }
+    requires row { IsViewAt table.now (λ v. IsRow v node) token.old.view }
     ensures seen { GoesOnTo token.old.view token.new.view }
     ensures at { let place = result.value in
         IsSlotForKey token.new.view node key place.index place.count }
@@ -58,8 +58,7 @@ pub(crate) fn slot_of_row(
     count: u64,
     index: u64,
 ) -> u64
-    requires same_table { token.old.view.table ≡ table.now.table }
-    requires row { IsRow token.old.view node }
+    requires row { IsViewAt table.now (λ v. IsRow v node) token.old.view }
     requires count { count ≡ length (keys_at token.old.view node) }
     requires within { index ≤ count }
     ensures seen { GoesOnTo token.old.view token.new.view }
@@ -96,8 +95,7 @@ pub fn child_at(table: &TreeTable, token: &mut TreeToken, node: u32, key: u64) -
 // The same, with its loads.
 #[inline(always)]
 fn child_and_loads(table: &TreeTable, token: &mut TreeToken, node: u32, key: u64) -> Counted<Child>
-    requires same_table { token.old.view.table ≡ table.now.table }
-    requires row { IsRow token.old.view node }
+    requires row { IsViewAt table.now (λ v. IsRow v node) token.old.view }
     ensures index { IsChildFor (now token.new.view) node key result.value.index }
     ensures word { SlotHolds (now token.new.view) node result.value.index result.value.word }
     ensures seen { GoesOnTo token.old.view token.new.view }
@@ -126,8 +124,7 @@ pub(crate) fn slot_for(
     node: u32,
     key: u64,
 ) -> Counted<Child>
-    requires same_table { token.old.view.table ≡ table.now.table }
-    requires node { IsNode (now token.old.view) node }
+    requires node { IsViewAt table.now (λ v. IsNode (now v) node) token.old.view }
     requires top { node ≡ anchor → MayWalk token.old.view }
     ensures index { IsChildFor (now token.new.view) node key result.value.index }
     ensures word { SlotHolds (now token.new.view) node result.value.index result.value.word }
@@ -158,8 +155,7 @@ pub(crate) fn read_child(
     node: u32,
     key: u64,
 ) -> Counted<Look>
-    requires same_table { token.old.view.table ≡ table.now.table }
-    requires node { IsNode (now token.old.view) node }
+    requires node { IsViewAt table.now (λ v. IsNode (now v) node) token.old.view }
     requires top { node ≡ anchor → MayWalk token.old.view }
     ensures read { let look = result.value in ReadsChild token.old.view token.new.view node key
         look.index result.loads (ref_meant look.reference) }

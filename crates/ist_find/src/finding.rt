@@ -8,6 +8,7 @@ ghost use Rattle.ist_layout.specs.Meanings.{ref_meant};
 ghost use Rattle.ist_rule.specs.Conditions.{MayWalk};
 ghost use Rattle.ist_rule.specs.Learning.{now};
 ghost use Rattle.laws_histories.specs.Searching.{HasPosition};
+ghost use Rattle.ist_rule.specs.Faces.{IsViewAt};
 ghost use Rattle.ist_find.specs.Searches.{Came, HasSearched, HasFound, HasFewLoads};
 ghost use Rattle.ist_find.specs.Looks.{LooksAtChild};
 
@@ -21,8 +22,7 @@ use ist_rule::{TreeTable, TreeToken, begin_search, know};
 // ignore the number of loads pay nothing for it.
 #[inline(always)]
 fn look_at(table: &TreeTable, token: &mut TreeToken, node: u32, key: u64) -> Counted<Look>
-    requires same_table { token.old.view.table ≡ table.now.table }
-    requires come { Came token.old.view key node }
+    requires come { IsViewAt table.now (λ v. Came v key node) token.old.view }
     requires top { node ≡ anchor → MayWalk token.old.view }
     ensures looked { let look = result.value in LooksAtChild token.old.view token.new.view node key
         look.index result.loads (ref_meant look.reference) }

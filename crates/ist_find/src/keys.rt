@@ -4,6 +4,7 @@ ghost use Rattle.ist_core.specs.RowLayout.{place_limit};
 ghost use Rattle.ist_core.specs.Arithmetic.{child_count};
 ghost use Rattle.ist_rule.specs.Learning.{GoesOnTo};
 ghost use Rattle.ist_math.specs.Guess.{guess_in};
+ghost use Rattle.ist_rule.specs.Faces.{IsViewAt};
 ghost use Rattle.ist_find.specs.Searches.{IsRow, keys_at};
 ghost use Rattle.ist_find.specs.Looks.{FindsChild};
 
@@ -14,8 +15,7 @@ use ist_rule::{TreeTable, TreeToken, know, load};
 
 /// Returns how many keys an inner row has.
 pub(crate) fn key_count(table: &TreeTable, token: &mut TreeToken, node: u32) -> u64
-    requires same_table { token.old.view.table ≡ table.now.table }
-    requires row { IsRow token.old.view node }
+    requires row { IsViewAt table.now (λ v. IsRow v node) token.old.view }
     ensures seen { GoesOnTo token.old.view token.new.view }
     ensures loads { token.new.view.loaded ≡ token.old.view.loaded + 1 }
     ensures value { result ≡ length (keys_at token.old.view node) }
@@ -28,8 +28,7 @@ pub(crate) fn key_count(table: &TreeTable, token: &mut TreeToken, node: u32) -> 
 
 /// Returns key `j` of an inner row, counted from 0.
 pub(crate) fn key_at(table: &TreeTable, token: &mut TreeToken, node: u32, j: u64) -> u64
-    requires same_table { token.old.view.table ≡ table.now.table }
-    requires row { IsRow token.old.view node }
+    requires row { IsViewAt table.now (λ v. IsRow v node) token.old.view }
     requires within { j < length (keys_at token.old.view node) }
     ensures seen { GoesOnTo token.old.view token.new.view }
     ensures loads { token.new.view.loaded ≡ token.old.view.loaded + 1 }
@@ -48,8 +47,7 @@ struct EndKeys {
 
 // The keys at both ends of a row that has keys.
 fn end_keys(table: &TreeTable, token: &mut TreeToken, node: u32, count: u64) -> EndKeys
-    requires same_table { token.old.view.table ≡ table.now.table }
-    requires row { IsRow token.old.view node }
+    requires row { IsViewAt table.now (λ v. IsRow v node) token.old.view }
     requires count { count ≡ length (keys_at token.old.view node) }
     requires some { 1 ≤ count }
     ensures seen { GoesOnTo token.old.view token.new.view }
@@ -65,8 +63,7 @@ fn end_keys(table: &TreeTable, token: &mut TreeToken, node: u32, count: u64) -> 
 
 // How many keys of a row are at most `key`, found by a look at each.
 fn count_through(table: &TreeTable, token: &mut TreeToken, node: u32, count: u64, key: u64) -> u64
-    requires same_table { token.old.view.table ≡ table.now.table }
-    requires row { IsRow token.old.view node }
+    requires row { IsViewAt table.now (λ v. IsRow v node) token.old.view }
     requires count { count ≡ length (keys_at token.old.view node) }
     ensures seen { GoesOnTo token.old.view token.new.view }
     ensures loads { token.new.view.loaded ≡ token.old.view.loaded + count }
@@ -91,8 +88,7 @@ fn gallop_from(
     from: u64,
     key: u64,
 ) -> Counted<u64>
-    requires same_table { token.old.view.table ≡ table.now.table }
-    requires row { IsRow token.old.view node }
+    requires row { IsViewAt table.now (λ v. IsRow v node) token.old.view }
     requires count { count ≡ length (keys_at token.old.view node) }
     requires fits { count < place_limit }
     requires some { 1 ≤ from }
@@ -126,8 +122,7 @@ fn child_among_many(
     count: u64,
     key: u64,
 ) -> Counted<u64>
-    requires same_table { token.old.view.table ≡ table.now.table }
-    requires row { IsRow token.old.view node }
+    requires row { IsViewAt table.now (λ v. IsRow v node) token.old.view }
     requires count { count ≡ length (keys_at token.old.view node) }
     requires fits { count < place_limit }
     requires many { 4 < count }
@@ -160,8 +155,7 @@ pub(crate) fn child_for(
     count: u64,
     key: u64,
 ) -> Counted<u64>
-    requires same_table { token.old.view.table ≡ table.now.table }
-    requires row { IsRow token.old.view node }
+    requires row { IsViewAt table.now (λ v. IsRow v node) token.old.view }
     requires count { count ≡ length (keys_at token.old.view node) }
     requires fits { count < place_limit }
     ensures finds { let guess = guess_in (keys_at token.old.view node) key in

@@ -3,11 +3,11 @@ ghost use Rattle.std.specs.Prelude.{◌≡◌, ◌≢◌, ◌==◌, ◌+◌, ◌
 ghost use Rattle.ist_core.specs.RowLayout.{change_words};
 ghost use Rattle.ist_core.specs.References.{ChangeAt, RebuildAt, LeafAt, ref_of};
 ghost use Rattle.ist_layout.specs.Meanings.{ref_meant};
+ghost use Rattle.ist_rule.specs.Faces.{IsViewAt};
 ghost use Rattle.ist_find.specs.Searches.{SeesLeaf, SeesChange, SeesRebuild, Names};
-ghost use Rattle.ist_find.specs.Reads.{IsPlain, IsEnd};
+ghost use Rattle.ist_find.specs.Reads.{IsPlain, IsEnd, TellsSide, TellsTarget, TellsValue};
 ghost use Rattle.ist_core.specs.Statuses.{decided_yes};
 ghost use Rattle.ist_dcss.specs.HelpEvents.{outcome_offset_of};
-ghost use Rattle.ist_find.specs.Reads.{TellsSide, TellsTarget, TellsValue};
 
 use crate::answers::Counted;
 use ist_dcss::change_in;
@@ -32,9 +32,8 @@ fn side_offset(decision: u64) -> u64
 // What the slot of the change at `base` reads as: `to` if the change was decided yes at the first
 // step of this call, and otherwise `from`.
 fn side(table: &TreeTable, token: &mut TreeToken, word: u64, base: u32) -> u64
-    requires same_table { token.old.view.table ≡ table.now.table }
+    requires row { IsViewAt table.now (λ v. SeesChange v base) token.old.view }
     requires change { ref_of word ≡ Some (ChangeAt base) }
-    requires row { SeesChange token.old.view base }
     ensures side { TellsSide token.old.view token.new.view word result }
     ensures loads { token.new.view.loaded ≡ token.old.view.loaded + 2 }
 {
@@ -46,8 +45,7 @@ fn side(table: &TreeTable, token: &mut TreeToken, word: u64, base: u32) -> u64
 
 /// What the word of a slot reads as after its change, if it names one, is followed.
 pub(crate) fn past_change(table: &TreeTable, token: &mut TreeToken, word: u64) -> Counted<u64>
-    requires same_table { token.old.view.table ≡ table.now.table }
-    requires names { Names token.old.view (ref_of word) }
+    requires names { IsViewAt table.now (λ v. Names v (ref_of word)) token.old.view }
     ensures side { TellsSide token.old.view token.new.view word result.value }
     ensures counted { token.new.view.loaded ≡ token.old.view.loaded + result.loads }
     ensures loads { result.loads ≤ 2 }
@@ -89,9 +87,8 @@ fn named(word: u64) -> Ref
 
 // The target of the rebuild at `base`.
 fn target(table: &TreeTable, token: &mut TreeToken, word: u64, base: u32) -> Ref
-    requires same_table { token.old.view.table ≡ table.now.table }
+    requires row { IsViewAt table.now (λ v. SeesRebuild v base) token.old.view }
     requires rebuild { ref_of word ≡ Some (RebuildAt base) }
-    requires row { SeesRebuild token.old.view base }
     ensures target { TellsTarget token.old.view token.new.view word (ref_meant result) }
     ensures loads { token.new.view.loaded ≡ token.old.view.loaded + 1 }
 {
@@ -105,8 +102,7 @@ fn target(table: &TreeTable, token: &mut TreeToken, word: u64, base: u32) -> Ref
 
 /// What such a word reads as after its rebuild, if it names one, is followed too.
 pub(crate) fn past_rebuild(table: &TreeTable, token: &mut TreeToken, word: u64) -> Counted<Ref>
-    requires same_table { token.old.view.table ≡ table.now.table }
-    requires names { Names token.old.view (ref_of word) }
+    requires names { IsViewAt table.now (λ v. Names v (ref_of word)) token.old.view }
     requires plain { IsPlain (ref_of word) }
     ensures target { TellsTarget token.old.view token.new.view word (ref_meant result.value) }
     ensures counted { token.new.view.loaded ≡ token.old.view.loaded + result.loads }
@@ -138,8 +134,7 @@ pub(crate) fn leaf_in(reference: Ref) -> Option<u32>
 
 // The value that the leaf gives the key.
 fn leaf_value(table: &TreeTable, token: &mut TreeToken, base: u32, key: u64) -> Counted<Option<u64>>
-    requires same_table { token.old.view.table ≡ table.now.table }
-    requires leaf { SeesLeaf token.old.view base }
+    requires leaf { IsViewAt table.now (λ v. SeesLeaf v base) token.old.view }
     ensures value { TellsValue token.old.view token.new.view key (LeafAt base) result.value }
     ensures counted { token.new.view.loaded ≡ token.old.view.loaded + result.loads }
     ensures loads { result.loads ≤ 2 }
@@ -166,8 +161,7 @@ pub(crate) fn value_in(
     reference: Ref,
     key: u64,
 ) -> Counted<Option<u64>>
-    requires same_table { token.old.view.table ≡ table.now.table }
-    requires end { IsEnd token.old.view (ref_meant reference) }
+    requires end { IsViewAt table.now (λ v. IsEnd v (ref_meant reference)) token.old.view }
     ensures value { TellsValue token.old.view token.new.view key (ref_meant reference) result.value }
     ensures counted { token.new.view.loaded ≡ token.old.view.loaded + result.loads }
     ensures loads { result.loads ≤ 2 }

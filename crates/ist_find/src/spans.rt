@@ -1,6 +1,5 @@
 //! A search for all keys that share the slot of a key.
-ghost use Rattle.std.specs.Prelude.{◌≡◌, ℕ, ◌+◌, ◌-◌, ◌<◌, ◌≤◌, length, slice_index, Some};
-ghost use Rattle.std.specs.Prelude.{IfSome};
+ghost use Rattle.std.specs.Prelude.{◌≡◌, ℕ, ◌+◌, ◌-◌, ◌<◌, ◌≤◌, length, slice_index, Some, IfSome};
 ghost use Rattle.ist_core.specs.Elements.{Among};
 ghost use Rattle.ist_core.specs.RowLayout.{anchor};
 ghost use Rattle.ist_core.specs.Arithmetic.{child_count};
@@ -11,6 +10,7 @@ ghost use Rattle.ist_rule.specs.Conditions.{MayWalk};
 ghost use Rattle.ist_rule.specs.Learning.{now, GoesOnTo};
 ghost use Rattle.ist_rule.specs.Watching.{IsNode};
 ghost use Rattle.laws_histories.specs.Searching.{HasPosition};
+ghost use Rattle.ist_rule.specs.Faces.{IsViewAt};
 ghost use Rattle.ist_find.specs.Searches.{IsRow, SeesLeaf, HasBegunSearch, keys_at};
 ghost use Rattle.ist_find.specs.Reads.{IsEnd, TellsValue};
 ghost use Rattle.ist_find.specs.Looks.{LooksForAll};
@@ -28,8 +28,7 @@ use ist_rule::{TreeTable, TreeToken, know, load};
 
 // The least key from `first` on that isn't below the child's keys.
 fn first_of(table: &TreeTable, token: &mut TreeToken, node: u32, index: u64, first: u64) -> u64
-    requires same_table { token.old.view.table ≡ table.now.table }
-    requires row { IsRow token.old.view node }
+    requires row { IsViewAt table.now (λ v. IsRow v node) token.old.view }
     requires within { index ≤ length (keys_at token.old.view node) }
     ensures seen { GoesOnTo token.old.view token.new.view }
     ensures loads { token.new.view.loaded ≤ token.old.view.loaded + 1 }
@@ -58,8 +57,7 @@ pub(crate) fn last_of(
     key: u64,
     last: u64,
 ) -> u64
-    requires same_table { token.old.view.table ≡ table.now.table }
-    requires row { IsRow token.old.view node }
+    requires row { IsViewAt table.now (λ v. IsRow v node) token.old.view }
     requires count { count ≡ length (keys_at token.old.view node) }
     requires within { index ≤ length (keys_at token.old.view node) }
     requires below { index < length (keys_at token.old.view node)
@@ -92,8 +90,7 @@ fn row_ends(
     key: u64,
     ends: KeyRange,
 ) -> KeyRange
-    requires same_table { token.old.view.table ≡ table.now.table }
-    requires row { IsRow token.old.view node }
+    requires row { IsViewAt table.now (λ v. IsRow v node) token.old.view }
     requires child { index ≡ child_count (keys_at token.old.view node) key }
     requires first { ends.first ≤ key }
     requires last { key ≤ ends.last }
@@ -126,8 +123,7 @@ fn shared_ends(
     key: u64,
     ends: KeyRange,
 ) -> KeyRange
-    requires same_table { token.old.view.table ≡ table.now.table }
-    requires node { IsNode (now token.old.view) node }
+    requires node { IsViewAt table.now (λ v. IsNode (now v) node) token.old.view }
     requires child { IsChildFor (now token.old.view) node key index }
     requires first { ends.first ≤ key }
     requires last { key ≤ ends.last }
@@ -161,8 +157,7 @@ fn look_for_all(
     key: u64,
     ends: KeyRange,
 ) -> SharedSlot
-    requires same_table { token.old.view.table ≡ table.now.table }
-    requires come { AllCome token.old.view ends.first ends.last node }
+    requires come { IsViewAt table.now (λ v. AllCome v ends.first ends.last node) token.old.view }
     requires top { node ≡ anchor → MayWalk token.old.view }
     requires first { ends.first ≤ key }
     requires last { key ≤ ends.last }
@@ -202,8 +197,7 @@ pub fn leaf_pair(table: &TreeTable, token: &mut TreeToken, base: u32) -> Pair
 
 // The pair in the slot, if it holds a leaf.
 pub(crate) fn end_pair(table: &TreeTable, token: &mut TreeToken, reference: Ref) -> Option<Pair>
-    requires same_table { token.old.view.table ≡ table.now.table }
-    requires end { IsEnd token.old.view (ref_meant reference) }
+    requires end { IsViewAt table.now (λ v. IsEnd v (ref_meant reference)) token.old.view }
     ensures seen { GoesOnTo token.old.view token.new.view }
     ensures loads { token.new.view.loaded ≤ token.old.view.loaded + 2 }
     ensures values { (k : ℕ) → TellsValue token.old.view token.new.view k (ref_meant reference)

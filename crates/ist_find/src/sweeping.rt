@@ -6,6 +6,7 @@ ghost use Rattle.ist_layout.specs.Meanings.{ref_meant};
 ghost use Rattle.ist_rule.specs.Conditions.{MayWalk};
 ghost use Rattle.ist_rule.specs.Learning.{now, GoesOnTo};
 ghost use Rattle.ist_rule.specs.Watching.{IsNode};
+ghost use Rattle.ist_rule.specs.Faces.{IsViewAt};
 ghost use Rattle.ist_find.specs.Searches.{keys_at};
 ghost use Rattle.ist_find.specs.Reads.{IsFoundAs, IsEnd};
 ghost use Rattle.ist_find.specs.Sweeps.{WereLed, HasSwept, SweptBetween, LookedSince, starting, one_of};
@@ -29,8 +30,7 @@ struct SlotRead {
 
 // The slot of a node for the key. The anchor has no keys, and one slot.
 fn first_slot(table: &TreeTable, token: &mut TreeToken, node: u32, key: u64) -> Place
-    requires same_table { token.old.view.table ≡ table.now.table }
-    requires node { IsNode (now token.old.view) node }
+    requires node { IsViewAt table.now (λ v. IsNode (now v) node) token.old.view }
     ensures seen { GoesOnTo token.old.view token.new.view }
     ensures loads { token.new.view.loaded ≤ token.old.view.loaded + starting token.old.view node key }
     ensures at { IsSlotForKey token.new.view node key result.index result.count }
@@ -52,8 +52,8 @@ fn slot_end(
     from: u64,
     last: u64,
 ) -> u64
-    requires same_table { token.old.view.table ≡ table.now.table }
-    requires at { IsSlotForKey token.old.view node from place.index place.count }
+    requires at { IsViewAt table.now
+        (λ v. IsSlotForKey v node from place.index place.count) token.old.view }
     requires some { from ≤ last }
     ensures seen { GoesOnTo token.old.view token.new.view }
     ensures loads { token.new.view.loaded ≤ token.old.view.loaded + 1 }
@@ -69,8 +69,7 @@ fn slot_end(
 
 // The word in a slot of a node.
 fn slot_word(table: &TreeTable, token: &mut TreeToken, node: u32, place: Place) -> u64
-    requires same_table { token.old.view.table ≡ table.now.table }
-    requires node { IsNode (now token.old.view) node }
+    requires node { IsViewAt table.now (λ v. IsNode (now v) node) token.old.view }
     requires count { place.count ≡ length (keys_at token.old.view node) }
     requires within { place.index ≤ place.count }
     requires top { node ≡ anchor → MayWalk token.old.view }
@@ -87,8 +86,7 @@ fn slot_word(table: &TreeTable, token: &mut TreeToken, node: u32, place: Place) 
 
 // What a slot of a node reads as, by loads that are a look for each key of that slot.
 fn read_slot(table: &TreeTable, token: &mut TreeToken, node: u32, place: Place) -> Ref
-    requires same_table { token.old.view.table ≡ table.now.table }
-    requires node { IsNode (now token.old.view) node }
+    requires node { IsViewAt table.now (λ v. IsNode (now v) node) token.old.view }
     requires count { place.count ≡ length (keys_at token.old.view node) }
     requires within { place.index ≤ place.count }
     requires top { node ≡ anchor → MayWalk token.old.view }
@@ -116,8 +114,8 @@ fn read_from(
     from: u64,
     last: u64,
 ) -> SlotRead
-    requires same_table { token.old.view.table ≡ table.now.table }
-    requires at { IsSlotForKey token.old.view node from place.index place.count }
+    requires at { IsViewAt table.now
+        (λ v. IsSlotForKey v node from place.index place.count) token.old.view }
     requires some { from ≤ last }
     requires top { node ≡ anchor → MayWalk token.old.view }
     ensures read { HasReadSlot token.old.view token.new.view node from result.to last
@@ -150,8 +148,7 @@ fn sweep_end(
     read: SlotRead,
     found: &mut Vec<Pair>,
 ) -> Result<(), AllocError>
-    requires same_table { token.old.view.table ≡ table.now.table }
-    requires end { IsEnd token.old.view (ref_meant read.reference) }
+    requires end { IsViewAt table.now (λ v. IsEnd v (ref_meant read.reference)) token.old.view }
     ensures seen { GoesOnTo token.old.view token.new.view }
     ensures read { OnOk result (HasReadEnd token.old.view token.new.view from read.to
         (ref_meant read.reference) found.old.items found.new.items) }
@@ -174,8 +171,8 @@ fn sweep_slot(
     read: SlotRead,
     found: &mut Vec<Pair>,
 ) -> Result<(), AllocError>
-    requires same_table { token.old.view.table ≡ table.now.table }
-    requires below { LeadsBelow token.old.view node from read.to (ref_meant read.reference) }
+    requires below { IsViewAt table.now
+        (λ v. LeadsBelow v node from read.to (ref_meant read.reference)) token.old.view }
     requires some { from ≤ read.to }
     ensures seen { GoesOnTo token.old.view token.new.view }
     ensures swept { OnOk result (HasSweptSlot token.old.view token.new.view from read.to
@@ -198,8 +195,7 @@ fn sweep_below(
     last: u64,
     found: &mut Vec<Pair>,
 ) -> Result<(), AllocError>
-    requires same_table { token.old.view.table ≡ table.now.table }
-    requires led { WereLed token.old.view first last node }
+    requires led { IsViewAt table.now (λ v. WereLed v first last node) token.old.view }
     requires some { first ≤ last }
     requires top { node ≡ anchor → MayWalk token.old.view }
     ensures seen { GoesOnTo token.old.view token.new.view }

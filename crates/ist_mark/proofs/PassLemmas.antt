@@ -33,11 +33,11 @@ use Rattle.ist_core.proofs.IntervalLemmas.{both_true}
 use Rattle.ist_rule.specs.Rule.{IsSound}
 use Rattle.ist_rule.specs.Learning.{now, Looked, LoggedLoad, LoadedAs, as_event, as_load}
 use Rattle.ist_rule.specs.Watching.{number_of, is_marked, is_change_ref, pass_of, CanLoadPass}
-use Rattle.ist_rule.proofs.WatchLemmas.{if_some, no_change}
+use Rattle.ist_rule.proofs.WatchLemmas.{if_some, no_change, place_inner}
 use Rattle.ist_dcss.proofs.FieldLemmas.{row_low}
 use Rattle.ist_dcss.proofs.SlotPlaceLemmas.{slot_shown, no_anchor}
 use Rattle.ist_rule.specs.Going.{WentOn}
-use Rattle.ist_rule.proofs.WentOnLemmas.{logged_load_went, looked_went}
+use Rattle.ist_rule.proofs.WentOnLemmas.{logged_load_went, looked_went, went_now}
 use Rattle.ist_mark.specs.Marking.{the_node, Marks}
 use Rattle.ist_dcss.specs.Reading.{IsNoChange}
 use Rattle.ist_dcss.proofs.DecideLemmas.{not_named}
@@ -48,8 +48,6 @@ use Rattle.laws_links.proofs.ClosedLemmas.{closed_was_linked}
 use Rattle.laws_links.proofs.LinkLemmas.{linked_or_finished}
 use Rattle.laws_links.proofs.ResolvedLemmas.{resolved_gone}
 use Rattle.laws_links.proofs.ContentLemmas.{linked_set}
-use Rattle.ist_rule.proofs.WatchLemmas.{place_inner}
-use Rattle.ist_rule.proofs.WentOnLemmas.{went_now}
 
 -- ---- the slots of a node that isn't open
 

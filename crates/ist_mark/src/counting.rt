@@ -4,6 +4,7 @@ ghost use Rattle.ist_core.specs.Rebuilding.{IsFinishedWith};
 ghost use Rattle.ist_rule.specs.Learning.{now};
 ghost use Rattle.ist_rule.specs.Going.{WentOn, KeepsSearch};
 ghost use Rattle.ist_mark.specs.Marking.{MayMark, Marks};
+ghost use Rattle.ist_rule.specs.Faces.{IsViewAt};
 ghost use Rattle.ist_mark.specs.Passing.{MayPass, HasMarked, IsSlotCounted};
 
 use crate::below::PassedChild;
@@ -14,8 +15,7 @@ use ist_rule::{TreeTable, TreeToken, know};
 // Passes a slot of the node, marks what hangs below it, and returns how many keys that has.
 #[cycle(marking)]
 fn count_slot(table: &TreeTable, token: &mut TreeToken, node: u32, degree: u64, index: u64) -> u64
-    requires same_table { token.old.view.table ≡ table.now.table }
-    requires may_pass { MayPass token.old.view node degree }
+    requires may_pass { IsViewAt table.now (λ v. MayPass v node degree) token.old.view }
     requires within { index < degree }
     ensures marked { HasMarked node token.old token.new }
     ensures counted { IsSlotCounted token.new.view node index result }

@@ -3,6 +3,7 @@ ghost use Rattle.std.specs.Prelude.{◌≡◌, ℕ, ◌<◌, Some};
 ghost use Rattle.ist_core.specs.References.{ref_of, ChangeAt};
 ghost use Rattle.ist_core.specs.Marking.{IsFrozen};
 ghost use Rattle.ist_dcss.specs.Reading.{IsNoChange};
+ghost use Rattle.ist_rule.specs.Faces.{IsViewAt};
 ghost use Rattle.ist_mark.specs.Passing.{HasMarked, MayPass, IsMetAt, PassedWith};
 
 use crate::below::PassedChild;
@@ -13,8 +14,7 @@ use ist_rule::{TreeTable, TreeToken, know, load_pass};
 // Loads a slot of the node and returns its word. The slot is then passed, unless the word is a
 // change's.
 fn look(table: &TreeTable, token: &mut TreeToken, node: u32, degree: u64, index: u64) -> u64
-    requires same_table { token.old.view.table ≡ table.now.table }
-    requires may_pass { MayPass token.old.view node degree }
+    requires may_pass { IsViewAt table.now (λ v. MayPass v node degree) token.old.view }
     requires within { index < degree }
     ensures marked { HasMarked node token.old token.new }
     ensures change { (change : ℕ) → ref_of result ≡ Some (ChangeAt change)
@@ -31,8 +31,7 @@ fn look(table: &TreeTable, token: &mut TreeToken, node: u32, degree: u64, index:
 // Passes a slot of the node, and returns its word. Helps each change that it meets there. Helping
 // resolves the change, so that there are few.
 fn pass(table: &TreeTable, token: &mut TreeToken, node: u32, degree: u64, index: u64) -> u64
-    requires same_table { token.old.view.table ≡ table.now.table }
-    requires may_pass { MayPass token.old.view node degree }
+    requires may_pass { IsViewAt table.now (λ v. MayPass v node degree) token.old.view }
     requires within { index < degree }
     ensures marked { HasMarked node token.old token.new }
     ensures frozen { IsFrozen token.new.view.log node index result }
@@ -55,8 +54,7 @@ pub(crate) fn pass_slot(
     degree: u64,
     index: u64,
 ) -> PassedChild
-    requires same_table { token.old.view.table ≡ table.now.table }
-    requires may_pass { MayPass token.old.view node degree }
+    requires may_pass { IsViewAt table.now (λ v. MayPass v node degree) token.old.view }
     requires within { index < degree }
     ensures marked { HasMarked node token.old token.new }
     ensures passed { PassedWith token.new.view node index result }

@@ -4,6 +4,7 @@ ghost use Rattle.ist_core.specs.Rebuilding.{IsFinishedWith};
 ghost use Rattle.ist_rule.specs.Learning.{now};
 ghost use Rattle.ist_rule.specs.Going.{WentOn, KeepsSearch};
 ghost use Rattle.ist_mark.specs.Marking.{MayMark, Marks};
+ghost use Rattle.ist_rule.specs.Faces.{IsViewAt};
 ghost use Rattle.ist_mark.specs.Passing.{MayPass, MayGoOn, HasMarked};
 
 use crate::below::PassedChild;
@@ -45,8 +46,7 @@ fn open_below(
     degree: u64,
     index: u64,
 ) -> Option<u32>
-    requires same_table { token.old.view.table ≡ table.now.table }
-    requires may_pass { MayPass token.old.view node degree }
+    requires may_pass { IsViewAt table.now (λ v. MayPass v node degree) token.old.view }
     requires within { index < degree }
     ensures marked { HasMarked node token.old token.new }
     ensures below { IfSome result (λ child. MayGoOn token.new.view node child) }
@@ -65,8 +65,7 @@ fn open_below(
 
 // Marks the node if it has many slots, and returns their number, unless the node is finished.
 fn begin_wide(table: &TreeTable, token: &mut TreeToken, node: u32) -> Option<u64>
-    requires same_table { token.old.view.table ≡ table.now.table }
-    requires may_mark { MayMark token.old.view node }
+    requires may_mark { IsViewAt table.now (λ v. MayMark v node) token.old.view }
     ensures marked { HasMarked node token.old token.new }
     ensures slots { IfSome result (λ degree. MayPass token.new.view node degree) }
     ensures few { IfSome result (λ degree. degree < 2 ^ 32) }
@@ -92,8 +91,7 @@ fn mark_slot(
     index: u64,
     turn: u32,
 )
-    requires same_table { token.old.view.table ≡ table.now.table }
-    requires may_pass { MayPass token.old.view node degree }
+    requires may_pass { IsViewAt table.now (λ v. MayPass v node degree) token.old.view }
     requires within { index < degree }
     ensures marked { HasMarked node token.old token.new }
 {
@@ -105,8 +103,7 @@ fn mark_slot(
 // Marks a node of many slots, and goes once through them, starting from the slot that `turn` chooses.
 #[cycle(spreading)]
 fn mark_ahead(table: &TreeTable, token: &mut TreeToken, node: u32, turn: u32)
-    requires same_table { token.old.view.table ≡ table.now.table }
-    requires may_mark { MayMark token.old.view node }
+    requires may_mark { IsViewAt table.now (λ v. MayMark v node) token.old.view }
     ensures marked { HasMarked node token.old token.new }
 {
     let Some(degree) = begin_wide(table, token, node) else {

@@ -1,9 +1,10 @@
 //! The status of a node, from open to marked to finished.
-ghost use Rattle.std.specs.Prelude.{◌≡◌, ◌+◌, ◌<◌, ℕ, None, Some};
+ghost use Rattle.std.specs.Prelude.{◌≡◌, ◌+◌, ◌<◌, ℕ, Some};
 ghost use Rattle.ist_core.specs.Statuses.{status_of, Finished};
 ghost use Rattle.ist_core.specs.Rebuilding.{IsFinishedWith};
 ghost use Rattle.ist_rule.specs.Learning.{now, GoesOnTo, Looked};
 ghost use Rattle.ist_mark.specs.Marking.{MayMark};
+ghost use Rattle.ist_rule.specs.Faces.{IsViewAt};
 ghost use Rattle.ist_mark.specs.Passing.{HasMarked, IsClosed, MayPass, MayFinish};
 
 use ist_layout::{INNER_DEGREE_OFFSET, INNER_STATUS_OFFSET, Status};
@@ -21,8 +22,7 @@ fn keys_of(status: u64) -> Option<u64>
 
 // Loads one of the first three words of a row that may be marked: its status, its count or its degree.
 pub(crate) fn own_word(table: &TreeTable, token: &mut TreeToken, node: u32, offset: u64) -> u64
-    requires same_table { token.old.view.table ≡ table.now.table }
-    requires may_mark { MayMark token.old.view node }
+    requires may_mark { IsViewAt table.now (λ v. MayMark v node) token.old.view }
     requires first { offset < 3 }
     ensures looked { Looked token.old.view (node + offset) result token.new.view }
 {
@@ -33,8 +33,7 @@ pub(crate) fn own_word(table: &TreeTable, token: &mut TreeToken, node: u32, offs
 
 // Returns the number of keys of the node, if it is finished.
 fn finished_keys(table: &TreeTable, token: &mut TreeToken, node: u32) -> Option<u64>
-    requires same_table { token.old.view.table ≡ table.now.table }
-    requires may_mark { MayMark token.old.view node }
+    requires may_mark { IsViewAt table.now (λ v. MayMark v node) token.old.view }
     ensures seen { GoesOnTo token.old.view token.new.view }
     ensures finished { (k : ℕ) → result ≡ Some k → IsFinishedWith (now token.new.view) node k }
 {
@@ -45,8 +44,7 @@ fn finished_keys(table: &TreeTable, token: &mut TreeToken, node: u32) -> Option<
 
 // Marks the node if it is open, and returns its number of keys if it is finished.
 fn mark_open(table: &TreeTable, token: &mut TreeToken, node: u32) -> Option<u64>
-    requires same_table { token.old.view.table ≡ table.now.table }
-    requires may_mark { MayMark token.old.view node }
+    requires may_mark { IsViewAt table.now (λ v. MayMark v node) token.old.view }
     ensures marked { HasMarked node token.old token.new }
     ensures closed { IsClosed (now token.new.view) node }
     ensures finished { (k : ℕ) → result ≡ Some k → IsFinishedWith (now token.new.view) node k }
@@ -66,8 +64,7 @@ fn mark_open(table: &TreeTable, token: &mut TreeToken, node: u32) -> Option<u64>
 // Marks the node if it is open, and returns its number of keys if it is finished. A caller that comes late
 // finds it finished by a load, and so takes the cache line of its status from nobody.
 pub(crate) fn mark(table: &TreeTable, token: &mut TreeToken, node: u32) -> Option<u64>
-    requires same_table { token.old.view.table ≡ table.now.table }
-    requires may_mark { MayMark token.old.view node }
+    requires may_mark { IsViewAt table.now (λ v. MayMark v node) token.old.view }
     ensures marked { HasMarked node token.old token.new }
     ensures may_mark { MayMark token.new.view node }
     ensures closed { IsClosed (now token.new.view) node }
@@ -81,8 +78,7 @@ pub(crate) fn mark(table: &TreeTable, token: &mut TreeToken, node: u32) -> Optio
 
 // Returns the number of slots of the node.
 pub(crate) fn degree_of(table: &TreeTable, token: &mut TreeToken, node: u32) -> u64
-    requires same_table { token.old.view.table ≡ table.now.table }
-    requires may_mark { MayMark token.old.view node }
+    requires may_mark { IsViewAt table.now (λ v. MayMark v node) token.old.view }
     requires closed { IsClosed (now token.old.view) node }
     ensures seen { GoesOnTo token.old.view token.new.view }
     ensures degree { MayPass token.new.view node result }
@@ -92,8 +88,7 @@ pub(crate) fn degree_of(table: &TreeTable, token: &mut TreeToken, node: u32) -> 
 
 // Finishes the node, all of whose slots were passed, with this number of keys.
 pub(crate) fn finish(table: &TreeTable, token: &mut TreeToken, node: u32, keys: u64)
-    requires same_table { token.old.view.table ≡ table.now.table }
-    requires may_finish { MayFinish token.old.view node keys }
+    requires may_finish { IsViewAt table.now (λ v. MayFinish v node keys) token.old.view }
     ensures marked { HasMarked node token.old token.new }
     ensures finished { IsFinishedWith (now token.new.view) node keys }
 {

@@ -4,12 +4,12 @@ use Rattle.std.proofs.Common.{◌≡◌, ℕ, ◌+◌, ◌≤◌, List, [], ◌�
 use Rattle.ist_core.specs.declared.calls.Call.{Call}
 use Rattle.ist_core.specs.declared.commands.Command.{Command}
 use Rattle.ist_core.specs.declared.pairs.Pair.{Pair}
-use Rattle.ist_core.specs.Logs.{Log}
+use Rattle.ist_core.specs.Logs.{Log, GoesOn, same_log, one_event}
 use Rattle.ist_core.specs.Deciding.{AllResolvedOf}
-use Rattle.ist_core.specs.Standing.{StandsIn}
+use Rattle.ist_core.specs.Standing.{StandsIn, entry_by, IsFresh}
 use Rattle.ist_core.specs.Lawful.{Lawful, state_of}
-use Rattle.ist_core.specs.Elements.{Each}
-use Rattle.ist_core.proofs.ElementLemmas.{each_append}
+use Rattle.ist_core.specs.Elements.{Each, Among}
+use Rattle.ist_core.proofs.ElementLemmas.{each_append, among_right}
 use Rattle.ist_rule.specs.declared.view.View.{View}
 use Rattle.ist_rule.specs.declared.view.Loads.{Loads}
 use Rattle.ist_rule.specs.declared.view.Pending.{Pending}
@@ -17,18 +17,13 @@ use Rattle.ist_rule.specs.declared.view.About.{About}
 use Rattle.ist_core.specs.declared.events.Who.{Who}
 use Rattle.ist_core.specs.declared.events.Who.TheVariants.{Caller, Note}
 use Rattle.ist_core.specs.Authors.{Later}
-use Rattle.ist_core.proofs.PrefixLemmas.{goes_on_by}
-use Rattle.ist_rule.specs.Standings.{StandsInPrefix, HasMade, IsBetween, CallStands}
+use Rattle.ist_core.proofs.PrefixLemmas.{goes_on_by, goes_on_more, goes_on_length}
+use Rattle.ist_rule.specs.Standings.{StandsInPrefix, HasMade, IsBetween, CallStands, entries_made}
 use Rattle.ist_rule.specs.Rule.{KeepsCalls, its_own, noted, Recalls, NeverFall, IsHeard, Fits, Kept}
 use Rattle.ist_rule.specs.Learning.{searching}
 use Rattle.ist_core.specs.Map.{map_of}
 use Rattle.ist_core.specs.StartLayout.{start}
-use Rattle.ist_core.specs.Logs.{GoesOn, same_log, one_event}
 use Rattle.ist_core.specs.Changes.{changes_of}
-use Rattle.ist_core.specs.Standing.{entry_by, IsFresh}
-use Rattle.ist_core.specs.Elements.{Among}
-use Rattle.ist_core.proofs.ElementLemmas.{among_right}
-use Rattle.ist_core.proofs.PrefixLemmas.{goes_on_more, goes_on_length}
 use Rattle.laws_histories.proofs.ChangeLemmas.{changes_on, get_left, read_on}
 use Rattle.laws_real_time.specs.declared.moments.Deed.{Deed}
 use Rattle.laws_real_time.specs.declared.moments.Deed.TheVariants.{Begins, Returns, GivesUp}
@@ -36,7 +31,6 @@ use Rattle.laws_real_time.specs.Moments.{Moments, in_call}
 use Rattle.laws_real_time.specs.Keeping.{moment_now, KeepsTime, IsPlacedCall}
 use Rattle.laws_real_time.proofs.DeedLemmas.{in_call_own}
 use Rattle.laws_real_time.proofs.KeepLemmas.{begun_counted, begins_keep, returns_keep, gives_up_keeps}
-use Rattle.ist_rule.specs.Standings.{entries_made}
 use Rattle.ist_rule.specs.Speaking.{HasSpoken}
 use Rattle.ist_rule.proofs.LaterLemmas.{between}
 use Rattle.ist_rule.proofs.FrameLemmas.{Table}

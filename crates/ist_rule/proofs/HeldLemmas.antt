@@ -6,7 +6,7 @@ use Rattle.ist_core.specs.declared.states.ChangeRow.{ChangeRow}
 use Rattle.ist_core.specs.declared.events.Event.{Event}
 use Rattle.ist_core.specs.declared.events.Event.TheVariants.{Reserve, Install, Resolve, Root, Place, Lose}
 use Rattle.ist_core.specs.Elements.{Among, Each}
-use Rattle.ist_core.specs.Pieces.{Change}
+use Rattle.ist_core.specs.Pieces.{Change, as_change}
 use Rattle.ist_core.specs.Snapshots.{Snapshot, bases_of}
 use Rattle.ist_core.specs.StartLayout.{start, rows_within, rows_from, placed_parts}
 use Rattle.ist_core.specs.Logs.{Log, state}
@@ -18,7 +18,6 @@ use Rattle.ist_core.proofs.MoveLemmas.{HeldLieApart, without-fate}
 use Rattle.ist_core.proofs.ShapedLemmas.{each-flat_map}
 use Rattle.ist_core.proofs.SoundLemmas.{sound, moves_or_reserves}
 use Rattle.ist_core.proofs.StartLemmas.{sound_start}
-use Rattle.ist_core.specs.Pieces.{as_change}
 use Rattle.ist_core.specs.declared.events.Who.TheVariants.{Caller}
 use Rattle.ist_core.specs.Authors.{no_more, one_more, whose, Later, IsIdleIn}
 use Rattle.ist_rule.specs.Standings.{IsBetween}

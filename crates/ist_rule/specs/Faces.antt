@@ -1,5 +1,5 @@
 -- The table and a seat, as contracts see them.
-use Rattle.std.specs.Prelude.{ℕ, List}
+use Rattle.std.specs.Prelude.{◌≡◌, ℕ, List}
 use Rattle.atomic_table.specs.Seated.{TableId}
 use Rattle.ist_core.specs.declared.pairs.Pair.{Pair}
 use Rattle.ist_rule.specs.declared.view.TableName.{TableName}
@@ -26,6 +26,10 @@ pub record TableFace : Type 0 where
 -- a seat: what it knows
 pub record TokenFace : Type 0 where
   pub view : View
+
+-- it is said of what a seat has seen, which is of this table
+abbrev pub IsViewAt : TableFace → (View → Type 0) → View → Type 0
+IsViewAt table Is v = Is v × (v.table ≡ table.table)
 
 -- how many words the table has
 abbrev pub word_count_of : TableFace → ℕ

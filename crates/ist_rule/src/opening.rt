@@ -29,7 +29,8 @@ pub fn open_table(
     requires image { IsImage (start pairs.now.items (length image.items)) image.items }
     ensures words { IfOk result (λ t. word_count_of t.0 ≡ length image.items) }
     ensures start { IfOk result (λ t. t.0.start ≡ pairs.now.items) }
-    ensures token { IfOk result (λ t. t.1.view ≡ opened_view t.0.table pairs.now.items (length image.items)) }
+    ensures token { IfOk result (λ t.
+        t.1.view ≡ opened_view t.0.table pairs.now.items (length image.items)) }
 {
     open_table_over(alloc, image.as_slice(), pairs)
 }
@@ -47,7 +48,8 @@ pub fn open_table_over(
     requires image { IsImage (start pairs.now.items (length image.now)) image.now }
     ensures words { IfOk result (λ t. word_count_of t.0 ≡ length image.now) }
     ensures start { IfOk result (λ t. t.0.start ≡ pairs.now.items) }
-    ensures token { IfOk result (λ t. t.1.view ≡ opened_view t.0.table pairs.now.items (length image.now)) }
+    ensures token { IfOk result (λ t.
+        t.1.view ≡ opened_view t.0.table pairs.now.items (length image.now)) }
     ensures first { (v : View) → IsNewMaker v → HasImage v (start v.start v.words) }
 {
     let about = About {

@@ -1,7 +1,6 @@
 //! Loads that are events: of a status that shows a node open, of a slot of a marked node, and one
 //! that gives up a pair row.
-ghost use Rattle.std.specs.Prelude.{◌≡◌, ◌+◌, ◌<◌};
-ghost use Rattle.ist_core.specs.RowLayout.{inner_status_offset};
+ghost use Rattle.std.specs.Prelude.{◌≡◌, ◌<◌};
 ghost use Rattle.ist_rule.specs.Faces.{word_count_of};
 ghost use Rattle.ist_rule.specs.Learning.{LoadedAs, Naming};
 ghost use Rattle.ist_rule.specs.Conditions.{CanLoadAs};

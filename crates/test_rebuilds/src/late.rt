@@ -8,7 +8,6 @@ ghost use Rattle.ist_dcss.specs.declared.decisions.Installed.TheVariants.{Yes};
 ghost use Rattle.ist_dcss.specs.Helping.{MayHelp};
 ghost use Rattle.ist_dcss.specs.Installing.{rows_of, Filling};
 ghost use Rattle.ist_find.specs.Searches.{SeesLeaf};
-ghost use Rattle.ist_rows.specs.declared.callers.Caller.{Caller};
 ghost use Rattle.ist_rows.specs.Building.{HasRefused};
 ghost use Rattle.ist_rows.specs.Rows.{IsCaller, IsAtTable, row_of, spares_of, with_spare};
 ghost use Rattle.ist_rule.specs.Conditions.{StoredAll};

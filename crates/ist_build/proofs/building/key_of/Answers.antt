@@ -9,9 +9,9 @@ use Rattle.ist_build.proofs.building.key_of.Goals as goal
 -- the leaf lies within the table
 pub load-requires : goal.load-requires
 load-requires c =
-    let there = word_there c.know.ensures.sound c.know.ensures.words c.requires.same_table _ _
-    c.requires.leaf.published 0 (c.from.result + 0) (omega arith) (omega (arith, c.from.ensures)) in
-    record { same_table = c.requires.same_table; within = there.0; no_walk = there.1 }
+    let there = word_there c.know.ensures.sound c.know.ensures.words c.requires.leaf.1 _ _
+    c.requires.leaf.0.published 0 (c.from.result + 0) (omega arith) (omega (arith, c.from.ensures)) in
+    record { same_table = c.requires.leaf.1; within = there.0; no_walk = there.1 }
 
 pub returns-clause-seen : goal.returns-clause-seen
 returns-clause-seen c = looked_goes_on _ _ _ _ c.load.ensures.looked

@@ -1,4 +1,4 @@
-use Rattle.std.proofs.Common.{◌∙◌}
+use Rattle.std.proofs.Common.{◌∙◌, rules}
 use Rattle.std.proofs.lemmas.List.{length-set}
 use Rattle.ist_rule.proofs.GoingOnLemmas.{goes_on_same, goes_on_more}
 use Rattle.ist_build.proofs.KeyLemmas.{leaf_after, keys_more, keys_all}
@@ -8,10 +8,11 @@ pub loop-i-init : goal.loop-i-init
 loop-i-init c = (goes_on_same _ c.know.ensures.sound, c.requires.many, tt)
 
 -- each base is a leaf's
-pub key_of-requires-clause-leaf : goal.key_of-requires-clause-leaf
-key_of-requires-clause-leaf c =
-    leaf_after _ _ c.args.leaves.now c.loop-i.i c.requires.leaves c.loop-i-test.true
-    c.loop-i.invariant.0
+pub key_of-requires : goal.key_of-requires
+key_of-requires c =
+    let it = leaf_after _ _ c.args.leaves.now c.loop-i.i c.requires.leaves.0 c.loop-i-test.true
+    c.loop-i.invariant.0 in
+    search rules
 
 -- one key more
 pub loop-i-preserved : goal.loop-i-preserved
@@ -20,7 +21,7 @@ loop-i-preserved c =
     let e = c.key_of.ensures in (
       goes_on_more _ _ _ i.0 e.seen,
       length-set _ _ _ ∙ i.1,
-      keys_more _ _ _ c.args.leaves.now _ c.loop-i.i c.key_of.result c.requires.leaves
+      keys_more _ _ _ c.args.leaves.now _ c.loop-i.i c.key_of.result c.requires.leaves.0
           c.loop-i-test.true i.1 i.0 e.seen i.2 e.key,
     )
 

@@ -1,7 +1,6 @@
 use Rattle.std.proofs.Common.{arith}
 use Rattle.ist_rule.proofs.GoingOnLemmas.{goes_on_more}
-use Rattle.ist_build.proofs.DescentLemmas.{few_loads, few_below, past, past_nothing, past_leaf, past_row}
-use Rattle.ist_build.proofs.DescentLemmas.{at_leaf, below_row, not_past}
+use Rattle.ist_build.proofs.DescentLemmas.{few_loads, few_below, past, past_nothing, past_leaf, past_row, at_leaf, below_row, not_past}
 use Rattle.ist_build.proofs.ReadingLemmas.{reading_begun}
 use Rattle.ist_build.proofs.SlotLemmas.{slots_on}
 use Rattle.ist_build.proofs.descent.+go_down.Goals as goal
@@ -14,7 +13,7 @@ loop-index-init t c =
       e.slots,
       e.counted,
       omega arith,
-      reading_begun _ _ _ _ _ c.know.ensures.sound e.seen (c.requires.finished.k, c.requires.finished.finished)
+      reading_begun _ _ _ _ _ c.know.ensures.sound e.seen (c.requires.finished.0.k, c.requires.finished.0.finished)
           (omega arith),
     )
 
@@ -81,4 +80,4 @@ loop-index-preserved t c =
 pub unreachable-requires : goal.unreachable-requires
 unreachable-requires t c =
     let i = c.loop-index.invariant in
-    not_past _ _ c.know.ensures.sound i.0.sound _ _ _ _ _ i.1 c.loop-index-test.false c.requires.finished i.4
+    not_past _ _ c.know.ensures.sound i.0.sound _ _ _ _ _ i.1 c.loop-index-test.false c.requires.finished.0 i.4

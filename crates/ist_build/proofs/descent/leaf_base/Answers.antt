@@ -6,5 +6,5 @@ pub returns-clause-leaf : goal.returns-clause-leaf
 returns-clause-leaf c =
     λ leaves has.
     sym (read_whole _ _ _ _ leaves refl
-    (enough_leaves _ c.know.ensures.sound c.args.target _ c.requires.finished leaves has)
+    (enough_leaves _ c.know.ensures.sound c.args.target _ c.requires.finished.0 leaves has)
     (c.go_down.ensures.read leaves has))

@@ -7,8 +7,9 @@ use Rattle.ist_build.proofs.filling.fill_slot.Goals as goal
 pub build_slot-requires-clause-shared : goal.build_slot-requires-clause-shared
 build_slot-requires-clause-shared c = shared_back _ _ c.args.shared c.slot_of.ensures.back c.requires.shared
 
-pub put_slot-requires-clause-made : goal.put_slot-requires-clause-made
-put_slot-requires-clause-made c = record { old = c.slot_of.new.who; made = c.in_ok-word.ensures.made }
+pub put_slot-requires : goal.put_slot-requires
+put_slot-requires c =
+    record { made = (record { old = c.slot_of.new.who; made = c.in_ok-word.ensures.made }, search rules) }
 
 -- no word is taken until the slot is seen Unset, and then those of its part
 pub returns-then-slot_of-to_word-clause-few : goal.returns-then-slot_of-to_word-clause-few

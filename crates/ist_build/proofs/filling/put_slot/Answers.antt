@@ -6,7 +6,7 @@ use Rattle.ist_build.proofs.filling.put_slot.Goals as goal
 
 pub slot_place-place-requires : goal.slot_place-place-requires
 slot_place-place-requires c =
-    let m = c.requires.made in
+    let m = c.requires.made.0 in
     record {
       within = m.made.within;
       fits = (degree_low _ c.know.ensures.sound _ _ (made_slots _ _ _ _ _ m.made)).0;
@@ -14,14 +14,14 @@ slot_place-place-requires c =
 
 pub put_part-requires : goal.put_part-requires
 put_part-requires c =
-    let m = c.requires.made.made in
-    let there = slot_there c.know.ensures.sound c.know.ensures.words c.requires.same_table _ _ _ _
+    let m = c.requires.made.0.made in
+    let there = slot_there c.know.ensures.sound c.know.ensures.words c.requires.made.1 _ _ _ _
     (made_slots _ _ _ _ _ m) m.within c.slot_place-place.ensures.value in
-    (c.requires.same_table, (there.0, (may_put _ _ _ _ _ m _ c.slot_place-place.ensures.value).allowed))
+    (((may_put _ _ _ _ _ m _ c.slot_place-place.ensures.value).allowed, c.requires.made.1), there.0)
 
 pub returns : goal.returns
 returns c =
-    let m = c.requires.made in
+    let m = c.requires.made.0 in
     let x = c.put_part.ensures.exchanged in
     record {
       put = λ old made. (may_put old c.args.who.now c.args.shared c.args.i c.args.word made _

@@ -1,4 +1,4 @@
-use Rattle.std.proofs.Common.{length, refl, ◌∙◌, sym}
+use Rattle.std.proofs.Common.{length, rules, refl, ◌∙◌, sym}
 use Rattle.ist_rule.specs.declared.view.View.{View}
 use Rattle.ist_rule.specs.Learning.{GoesOnTo}
 use Rattle.ist_rule.proofs.GoingOnLemmas.{goes_on_same}
@@ -13,12 +13,14 @@ read : (c : After-know-2) (w : View) → GoesOnTo c.read_leaves.new.token.view w
     c.read_leaves.new.into w
 read c w on =
     has_read_out _ _ w c.know.ensures.sound c.args.target _ _ c.args.leaves.now _ refl
-    c.requires.finished c.read_leaves.ensures.seen on c.read_leaves.ensures.read
+    c.requires.finished.0 c.read_leaves.ensures.seen on c.read_leaves.ensures.read
 
 pub load_keys-requires-clause-leaves : goal.load_keys-requires-clause-leaves
-load_keys-requires-clause-leaves c =
-    (read (goal.at.load_keys-requires-clause-leaves c).After-know-2 _
-    (goes_on_same _ c.know-2.ensures.sound)).some
+load_keys-requires-clause-leaves c = (
+  (read (goal.at.load_keys-requires-clause-leaves c).After-know-2 _
+      (goes_on_same _ c.know-2.ensures.sound)).some,
+  search rules,
+)
 
 pub load_keys-requires-clause-many : goal.load_keys-requires-clause-many
 load_keys-requires-clause-many c =

@@ -1,10 +1,12 @@
+use Rattle.std.proofs.Common.{rules}
 use Rattle.ist_build.proofs.RootFewLemmas.{target_done, found_so}
 use Rattle.ist_build.proofs.targets.find_target.Goals as goal
 
-pub keys_of-keys-requires-clause-finished : goal.keys_of-keys-requires-clause-finished
-keys_of-keys-requires-clause-finished c =
-    target_done _ _ c.target_of-base.ensures.seen c.args.rebuild _ c.requires.buildable.k
-    c.requires.buildable.told c.target_of-base.ensures.target
+pub keys_of-keys-requires : goal.keys_of-keys-requires
+keys_of-keys-requires c =
+    let it = target_done _ _ c.target_of-base.ensures.seen c.args.rebuild _ c.requires.buildable.k
+    c.requires.buildable.told c.target_of-base.ensures.target in
+    search rules
 
 -- the number of keys that was read is the one that is known
 pub returns : goal.returns

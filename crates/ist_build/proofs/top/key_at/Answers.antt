@@ -1,11 +1,13 @@
+use Rattle.std.proofs.Common.{rules}
 use Rattle.ist_rule.proofs.GoingOnLemmas.{goes_on_more}
 use Rattle.ist_build.proofs.TopLeafLemmas.{leaf_there, key_told_at}
 use Rattle.ist_build.proofs.top.key_at.Goals as goal
 
-pub key_of-requires-clause-leaf : goal.key_of-requires-clause-leaf
-key_of-requires-clause-leaf c =
-    leaf_there _ _ c.know.ensures.sound c.leaf_base-leaf.ensures.seen c.args.target c.args.i _
-    c.requires.finished c.leaf_base-leaf.ensures.leaf
+pub key_of-requires : goal.key_of-requires
+key_of-requires c =
+    let it = leaf_there _ _ c.know.ensures.sound c.leaf_base-leaf.ensures.seen c.args.target c.args.i _
+    c.requires.finished.0 c.leaf_base-leaf.ensures.leaf in
+    search rules
 
 pub returns-clause-seen : goal.returns-clause-seen
 returns-clause-seen c =

@@ -1,3 +1,4 @@
+use Rattle.std.proofs.Common.{rules}
 use Rattle.ist_rule.proofs.GoingOnLemmas.{goes_on_more}
 use Rattle.ist_find.proofs.RowLemmas.{row_on}
 use Rattle.ist_find.proofs.SpanLemmas.{child_on}
@@ -6,7 +7,7 @@ use Rattle.ist_find.proofs.children.child_and_loads.Goals as goal
 -- the row is published still
 pub slot_of_row-word-requires-clause-row : goal.slot_of_row-word-requires-clause-row
 slot_of_row-word-requires-clause-row c =
-    row_on _ _ c.place_in_row-place.ensures.seen c.args.node c.requires.row
+    (row_on _ _ c.place_in_row-place.ensures.seen c.args.node c.requires.row.0, search rules)
 
 pub returns-clause-seen : goal.returns-clause-seen
 returns-clause-seen c =

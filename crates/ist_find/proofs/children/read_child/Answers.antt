@@ -1,12 +1,18 @@
+use Rattle.std.proofs.Common.{rules}
 use Rattle.ist_find.proofs.LookLemmas.{holds_named}
 use Rattle.ist_find.proofs.ChildReadLemmas.{child_read}
 use Rattle.ist_find.proofs.children.read_child.Goals as goal
 
 -- the word in the slot names a row
-pub past_change-side-requires-clause-names : goal.past_change-side-requires-clause-names
-past_change-side-requires-clause-names c =
-    holds_named _ c.know-2.ensures.sound c.args.node c.slot_for-child.result.value.index
-    c.slot_for-child.result.value.word c.slot_for-child.ensures.word
+pub past_change-side-requires : goal.past_change-side-requires
+past_change-side-requires c =
+    record {
+      names = (
+        holds_named _ c.know-2.ensures.sound c.args.node c.slot_for-child.result.value.index
+            c.slot_for-child.result.value.word c.slot_for-child.ensures.word,
+        search rules,
+      );
+    }
 
 -- what it reads as is what the slot reads as
 pub returns : goal.returns

@@ -1,4 +1,4 @@
-use Rattle.std.proofs.Common.{[], ap, arith}
+use Rattle.std.proofs.Common.{[], ap, arith, rules}
 use Rattle.ist_layout.specs.Meanings.{ref_meant}
 use Rattle.ist_find.proofs.SearchLemmas.{begun_comes}
 use Rattle.ist_find.proofs.SearchTurnLemmas.{fewer_left, search_begins, search_came, search_rises, search_goes_on, search_ends}
@@ -6,7 +6,7 @@ use Rattle.ist_find.proofs.finding.find_and_loads.Goals as goal
 
 -- the search begins at the anchor
 pub look_at-look-requires-clause-come : goal.look_at-look-requires-clause-come
-look_at-look-requires-clause-come c = ([], begun_comes _ _ c.args.key c.begin_search.ensures.begun)
+look_at-look-requires-clause-come c = (([], begun_comes _ _ c.args.key c.begin_search.ensures.begun), search rules)
 
 pub loop-look-init : goal.loop-look-init
 loop-look-init c = search_begins _ _ _ c.begin_search.ensures.begun _ _ _ _ c.look_at-look.ensures.looked
@@ -14,7 +14,7 @@ loop-look-init c = search_begins _ _ _ c.begin_search.ensures.begun _ _ _ _ c.lo
 -- it has reached the row that it read
 pub look_at-look-requires-in-Inner-clause-come : goal.look_at-look-requires-in-Inner-clause-come
 look_at-look-requires-in-Inner-clause-come c =
-    search_came _ _ _ _ _ _ _ c.loop-look.invariant _ (ap ref_meant c.in-Inner.is)
+    (search_came _ _ _ _ _ _ _ c.loop-look.invariant _ (ap ref_meant c.in-Inner.is), search rules)
 
 pub look_at-look-requires-in-Inner-clause-top : goal.look_at-look-requires-in-Inner-clause-top
 look_at-look-requires-in-Inner-clause-top c is =

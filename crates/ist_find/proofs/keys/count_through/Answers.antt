@@ -4,7 +4,7 @@ use Rattle.ist_find.proofs.keys.count_through.Goals.{then-key_at-key, else-key_a
 use Rattle.ist_find.proofs.keys.count_through.Goals as goal
 
 pub loop-j-init : goal.loop-j-init
-loop-j-init c = none_counted _ c.know.ensures.sound c.args.node c.requires.row c.args.key
+loop-j-init c = none_counted _ c.know.ensures.sound c.args.node c.requires.row.0 c.args.key
 
 -- the loaded key is counted if it is at most the key
 pub loop-j-preserved : goal.loop-j-preserved

@@ -8,7 +8,7 @@ loop-gallop-init c =
     let k = c.key_at.ensures in
     let b = c.begin-gallop.ensures in
     run_begins _ _ c.know.ensures.sound c.args.node c.args.from c.args.key _ c.key_at.result
-    c.requires.row k.seen k.loads k.value
+    c.requires.row.0 k.seen k.loads k.value
     (subst (λ n. c.args.from < n) c.requires.count c.requires.within) c.requires.first
     c.requires.last b.low
     (b.high
@@ -34,6 +34,6 @@ loop-gallop-preserved c =
 pub returns : goal.returns
 returns c =
     record {
-      finds = run_ends _ _ c.know.ensures.sound _ _ _ _ _ _ c.requires.row c.loop-gallop.invariant
+      finds = run_ends _ _ c.know.ensures.sound _ _ _ _ _ _ c.requires.row.0 c.loop-gallop.invariant
           c.loop-gallop-test.ensures.exact c.requires.count c.requires.within;
     }

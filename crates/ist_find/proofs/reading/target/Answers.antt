@@ -8,14 +8,14 @@ use Rattle.ist_find.proofs.reading.target.Goals as goal
 -- the rebuild lies within the table
 pub load-target-requires : goal.load-target-requires
 load-target-requires c =
-    let may = may_load c.know.ensures.sound c.know.ensures.words c.requires.same_table c.args.base
-    c.requires.row.published 0 (omega arith) _ (ap (λ n. n + 0) c.from.ensures) in
-    record { same_table = c.requires.same_table; within = may.0; no_walk = may.1 }
+    let may = may_load c.know.ensures.sound c.know.ensures.words c.requires.row.1 c.args.base
+    c.requires.row.0.published 0 (omega arith) _ (ap (λ n. n + 0) c.from.ensures) in
+    record { same_table = c.requires.row.1; within = may.0; no_walk = may.1 }
 
 -- so does its target, and the table is small
 pub overflow_cast-result : goal.overflow_cast-result
 overflow_cast-result c =
-    let told = target_told _ _ c.args.word c.args.base _ _ c.requires.rebuild c.requires.row
+    let told = target_told _ _ c.args.word c.args.base _ _ c.requires.rebuild c.requires.row.0
     c.load-target.ensures.looked (ap (λ n. n + 0) c.from.ensures) in
     let r = told.found in
     let low = row_low _ c.know-2.ensures.sound c.load-target.result (Inner r.row) r.published 0
@@ -28,5 +28,5 @@ overflow_cast-result c =
 -- the load shows how the slot reads
 pub returns-clause-target : goal.returns-clause-target
 returns-clause-target c =
-    target_told _ _ c.args.word c.args.base _ _ c.requires.rebuild c.requires.row
+    target_told _ _ c.args.word c.args.base _ _ c.requires.rebuild c.requires.row.0
     c.load-target.ensures.looked (ap (λ n. n + 0) c.from.ensures)

@@ -1,4 +1,4 @@
-use Rattle.std.proofs.Common.{ap}
+use Rattle.std.proofs.Common.{ap, rules}
 use Rattle.ist_layout.specs.Meanings.{ref_meant}
 use Rattle.ist_find.proofs.SearchTurnLemmas.{fewer_left}
 use Rattle.ist_find.proofs.SpanTurnLemmas.{all_at_anchor, span_begins, span_came, span_rises, span_goes_on, span_ends}
@@ -6,7 +6,7 @@ use Rattle.ist_find.proofs.spans.find_span.Goals as goal
 
 -- the search for each key begins at the anchor
 pub look_for_all-look-requires-clause-come : goal.look_for_all-look-requires-clause-come
-look_for_all-look-requires-clause-come c = all_at_anchor _ c.know.ensures.sound _ _
+look_for_all-look-requires-clause-come c = (all_at_anchor _ c.know.ensures.sound _ _, c.requires.same_table)
 
 pub loop-look-init : goal.loop-look-init
 loop-look-init c = span_begins _ _ c.know.ensures.sound _ _ _ _ _ _ _ c.look_for_all-look.ensures.looked
@@ -14,7 +14,7 @@ loop-look-init c = span_begins _ _ c.know.ensures.sound _ _ _ _ _ _ _ c.look_for
 -- it has reached the row that it read, for each key that has this child
 pub look_for_all-look-requires-in-Inner-clause-come : goal.look_for_all-look-requires-in-Inner-clause-come
 look_for_all-look-requires-in-Inner-clause-come c =
-    span_came _ _ _ _ _ _ _ _ c.loop-look.invariant _ (ap ref_meant c.in-Inner.is)
+    (span_came _ _ _ _ _ _ _ _ c.loop-look.invariant _ (ap ref_meant c.in-Inner.is), search rules)
 
 pub look_for_all-look-requires-in-Inner-clause-top : goal.look_for_all-look-requires-in-Inner-clause-top
 look_for_all-look-requires-in-Inner-clause-top c is =

@@ -7,16 +7,16 @@ use Rattle.ist_find.proofs.spans.row_ends.Goals as goal
 pub first_of-first-requires : goal.first_of-first-requires
 first_of-first-requires c =
     let g = c.key_count-count.ensures.seen in
-    let here = child_stays c.know.ensures.sound c.requires.row c.args.key c.requires.child g in
-    record { same_table = ap (λ v. v.table) g.same ∙ c.requires.same_table; row = here.row; within = here.within }
+    let here = child_stays c.know.ensures.sound c.requires.row.0 c.args.key c.requires.child g in
+    record { row = (here.row, ap (λ v. v.table) g.same ∙ c.requires.row.1); within = here.within }
 
 pub last_of-last-requires : goal.last_of-last-requires
 last_of-last-requires c =
     let g = goes_on_more _ _ _ c.key_count-count.ensures.seen c.first_of-first.ensures.seen in
-    let here = child_stays c.know.ensures.sound c.requires.row c.args.key c.requires.child g in
-    let same = ap (λ v. v.table) g.same ∙ c.requires.same_table in
+    let here = child_stays c.know.ensures.sound c.requires.row.0 c.args.key c.requires.child g in
+    let same = ap (λ v. v.table) g.same ∙ c.requires.row.1 in
     let count = c.key_count-count.ensures.value ∙ sym (ap length here.keys) in
-    record { same_table = same; row = here.row; count = count; within = here.within; below = here.below }
+    record { row = (here.row, same); count = count; within = here.within; below = here.below }
 
 -- the ends are keys with the child, and others than before are keys of the row
 pub returns : goal.returns
@@ -25,8 +25,8 @@ returns c =
     let last = c.last_of-last.ensures in
     let g = c.key_count-count.ensures.seen in
     let h = goes_on_more _ _ _ g first.seen in
-    let one = child_stays c.know.ensures.sound c.requires.row c.args.key c.requires.child g in
-    let two = child_stays c.know.ensures.sound c.requires.row c.args.key c.requires.child h in
+    let one = child_stays c.know.ensures.sound c.requires.row.0 c.args.key c.requires.child g in
+    let two = child_stays c.know.ensures.sound c.requires.row.0 c.args.key c.requires.child h in
     record {
       seen = goes_on_more _ _ _ h last.seen;
       loads = omega arith;
@@ -36,5 +36,5 @@ returns c =
       high = last.high;
       first_edge = rw one.keys at first.edge;
       last_edge = rw two.keys at last.edge;
-      share = between c.know.ensures.sound c.requires.row c.args.key c.requires.child g h _ _ first.above last.under;
+      share = between c.know.ensures.sound c.requires.row.0 c.args.key c.requires.child g h _ _ first.above last.under;
     }

@@ -16,7 +16,8 @@ returns-then-node-eq-ANCHOR-clause-share c k low high =
 
 -- another node is a row
 pub row_ends-requires-clause-row : goal.row_ends-requires-clause-row
-row_ends-requires-clause-row c = node_row c.args.token.now.view c.args.node c.if-node-eq-ANCHOR.false c.requires.node
+row_ends-requires-clause-row c =
+    (node_row c.args.token.now.view c.args.node c.if-node-eq-ANCHOR.false c.requires.node.0, c.requires.node.1)
 
 pub row_ends-requires-clause-child : goal.row_ends-requires-clause-child
 row_ends-requires-clause-child c =
@@ -24,7 +25,7 @@ row_ends-requires-clause-child c =
 
 pub returns-clause-share : goal.returns-clause-share
 returns-clause-share c k low high =
-    child_is c.args.token.now.view c.args.node (node_row c.args.token.now.view c.args.node c.if-node-eq-ANCHOR.false c.requires.node) k
+    child_is c.args.token.now.view c.args.node (node_row c.args.token.now.view c.args.node c.if-node-eq-ANCHOR.false c.requires.node.0) k
     c.args.index (sym (c.row_ends.ensures.share k low high))
 
 -- they end at edges, as before or by keys of the row
@@ -33,6 +34,6 @@ returns-clause-edges c =
     let v = c.args.token.now.view in
     let other = c.if-node-eq-ANCHOR.false in
     edges_on _ _ c.row_ends.ensures.seen _ _
-    (edges_row v c.args.node (node_row v c.args.node other c.requires.node) c.args.ends.first
+    (edges_row v c.args.node (node_row v c.args.node other c.requires.node.0) c.args.ends.first
     c.args.ends.last _ _ c.requires.edges c.row_ends.ensures.low c.row_ends.ensures.high
     c.row_ends.ensures.first_edge c.row_ends.ensures.last_edge)

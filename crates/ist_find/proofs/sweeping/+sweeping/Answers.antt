@@ -15,20 +15,21 @@ use Rattle.ist_find.proofs.sweeping.+sweeping.Goals as goal
 -- the row lies above the node, and the keys led to it
 pub sweep_slot-sweep_below-requires : goal.sweep_slot-sweep_below-requires
 sweep_slot-sweep_below-requires t c =
-    let below = c.requires.below.inner c.in-Inner.base (ap ref_meant c.in-Inner.is) in
+    let below = c.requires.below.0.inner c.in-Inner.base (ap ref_meant c.in-Inner.is) in
     let up = below.0 in
     let falls = c.decreases in
     let small = c.ranges.node.fits in
-    (omega arith, (c.requires.same_table, (below.2, (c.requires.some, λ is. absurd (below.1 is)))))
+    (omega arith, ((below.2, c.requires.below.1), (c.requires.some, λ is. absurd (below.1 is))))
 
 pub sweep_slot-returns-in-Inner-clause-swept : goal.sweep_slot-returns-in-Inner-clause-swept
 sweep_slot-returns-in-Inner-clause-swept t c =
     row_is_swept _ _ c.args.from c.args.read.to c.in-Inner.base _ _ _ (ap ref_meant c.in-Inner.is)
     c.sweep_below.result c.sweep_below.ensures.swept
 
-pub sweep_slot-sweep_end-requires-clause-end : goal.sweep_slot-sweep_end-requires-clause-end
-sweep_slot-sweep_end-requires-clause-end t c =
-    c.requires.below.end (not_inner c.args.read.reference c.in_default.not-Inner)
+pub sweep_slot-sweep_end-requires : goal.sweep_slot-sweep_end-requires
+sweep_slot-sweep_end-requires t c = record {
+  end = (c.requires.below.0.end (not_inner c.args.read.reference c.in_default.not-Inner), c.requires.below.1);
+}
 
 pub sweep_slot-returns-in_default-clause-swept : goal.sweep_slot-returns-in_default-clause-swept
 sweep_slot-returns-in_default-clause-swept t c =
@@ -36,14 +37,18 @@ sweep_slot-returns-in_default-clause-swept t c =
 
 -- ---- slot after slot
 
-pub sweep_below-first_slot-place-requires-clause-node : goal.sweep_below-first_slot-place-requires-clause-node
-sweep_below-first_slot-place-requires-clause-node t c =
-    led_node _ c.know.ensures.sound c.args.first c.args.last c.args.node c.requires.some c.requires.led
+pub sweep_below-first_slot-place-requires : goal.sweep_below-first_slot-place-requires
+sweep_below-first_slot-place-requires t c = record {
+  node = (
+    led_node _ c.know.ensures.sound c.args.first c.args.last c.args.node c.requires.some c.requires.led.0,
+    c.requires.led.1,
+  );
+}
 
 pub sweep_below-slots-init : goal.sweep_below-slots-init
 sweep_below-slots-init t c = record {
   here = sweeps_none _ _ c.first_slot-place.ensures.seen c.args.node c.args.first c.args.last _ _ _ _
-      c.first_slot-place.ensures.loads c.first_slot-place.ensures.at c.requires.some c.requires.led;
+      c.first_slot-place.ensures.loads c.first_slot-place.ensures.at c.requires.some c.requires.led.0;
   top = λ is. subst MayWalk (sym (c.first_slot-place.ensures.stays is)) (c.requires.top is);
 }
 
@@ -54,13 +59,13 @@ sweep_below-sweep_slot-requires t c =
     let small = c.ranges.node.fits in (
       omega arith,
       (
-        ap (λ (v : View). v.table) c.read_from-read.ensures.read.seen.same
-            ∙ ap (λ (v : View). v.table) c.slots.invariant.here.seen.same ∙ c.requires.same_table,
         (
           slot_leads _ _ _ c.args.node c.args.first c.slots.from c.read_from-read.result.to c.args.last _ _ _ _
               _ _ c.slots.invariant.here c.read_from-read.ensures.read,
-          c.read_from-read.ensures.read.ends.some,
+          ap (λ (v : View). v.table) c.read_from-read.ensures.read.seen.same
+              ∙ ap (λ (v : View). v.table) c.slots.invariant.here.seen.same ∙ c.requires.led.1,
         ),
+        c.read_from-read.ensures.read.ends.some,
       ),
     )
 

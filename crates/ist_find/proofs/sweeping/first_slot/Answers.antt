@@ -13,9 +13,10 @@ returns-then-node-eq-ANCHOR-clause-at c =
     anchor_at _ c.know.ensures.sound c.args.node c.args.key c.if-node-eq-ANCHOR.true
 
 -- another node is a row
-pub place_in_row-requires-clause-row : goal.place_in_row-requires-clause-row
-place_in_row-requires-clause-row c =
-    node_row c.args.token.now.view c.args.node c.if-node-eq-ANCHOR.false c.requires.node
+pub place_in_row-requires : goal.place_in_row-requires
+place_in_row-requires c = record {
+  row = (node_row c.args.token.now.view c.args.node c.if-node-eq-ANCHOR.false c.requires.node.0, c.requires.node.1);
+}
 
 -- which has another slot
 pub returns-clause-stays : goal.returns-clause-stays
@@ -26,6 +27,6 @@ returns-clause-loads c =
     let v = c.args.token.now.view in
     let few = few_to_start v _ c.place_in_row.ensures.seen c.args.node c.args.key _ _
     c.place_in_row.result.loads c.if-node-eq-ANCHOR.false
-    (node_row v c.args.node c.if-node-eq-ANCHOR.false c.requires.node) c.place_in_row.ensures.at
+    (node_row v c.args.node c.if-node-eq-ANCHOR.false c.requires.node.0) c.place_in_row.ensures.at
     c.place_in_row.ensures.loads in
     omega arith

@@ -1,12 +1,14 @@
+use Rattle.std.proofs.Common.{rules}
 use Rattle.ist_rule.proofs.GoingOnLemmas.{goes_on_more}
 use Rattle.ist_find.proofs.LookLemmas.{holds_named, look_since}
 use Rattle.ist_find.proofs.SpanLemmas.{child_on}
 use Rattle.ist_find.proofs.sweeping.read_slot.Goals as goal
 
 -- the word in the slot names a row
-pub past_change-side-requires-clause-names : goal.past_change-side-requires-clause-names
-past_change-side-requires-clause-names c =
-    holds_named _ c.know-2.ensures.sound c.args.node c.args.place.index _ c.slot_word-word.ensures.holds
+pub past_change-side-requires : goal.past_change-side-requires
+past_change-side-requires c = record {
+  names = (holds_named _ c.know-2.ensures.sound c.args.node c.args.place.index _ c.slot_word-word.ensures.holds, search rules);
+}
 
 pub returns-clause-seen : goal.returns-clause-seen
 returns-clause-seen c =

@@ -13,21 +13,20 @@ returns-then-node-eq-ANCHOR-clause-seen c = goes_on_same _ c.know.ensures.sound
 pub returns-then-node-eq-ANCHOR-clause-ends : goal.returns-then-node-eq-ANCHOR-clause-ends
 returns-then-node-eq-ANCHOR-clause-ends c =
     anchor_ends _ c.know.ensures.sound c.args.node c.args.from c.args.last _ _ c.if-node-eq-ANCHOR.true
-    c.requires.at c.requires.some
+    c.requires.at.0 c.requires.some
 
 -- another node is a row, whose keys rise
 pub last_of-requires : goal.last_of-requires
 last_of-requires c =
     let v = c.args.token.now.view in
     let other = c.if-node-eq-ANCHOR.false in
-    let row = node_row v c.args.node other c.requires.at.node_is in
+    let row = node_row v c.args.node other c.requires.at.0.node_is in
     record {
-      same_table = c.requires.same_table;
-      row = row;
-      count = c.requires.at.count_is;
-      within = slot_within v c.args.node c.args.from _ c.requires.at.child;
+      row = (row, c.requires.at.1);
+      count = c.requires.at.0.count_is;
+      within = slot_within v c.args.node c.args.from _ c.requires.at.0.child;
       below = key_after_child _ (keys_rise v c.know.ensures.sound c.args.node row) c.args.from _
-          (row_child v c.args.node c.args.from _ other c.requires.at.child);
+          (row_child v c.args.node c.args.from _ other c.requires.at.0.child);
     }
 
 pub returns-clause-stays : goal.returns-clause-stays
@@ -36,5 +35,5 @@ returns-clause-stays c is = absurd (c.if-node-eq-ANCHOR.false is)
 pub returns-clause-ends : goal.returns-clause-ends
 returns-clause-ends c =
     keys_end _ c.know.ensures.sound c.args.node c.args.from _ c.args.last _ _ c.if-node-eq-ANCHOR.false
-    c.requires.at c.requires.some c.last_of.ensures.high c.last_of.ensures.under c.last_of.ensures.edge
+    c.requires.at.0 c.requires.some c.last_of.ensures.high c.last_of.ensures.under c.last_of.ensures.edge
     c.last_of.ensures.most

@@ -24,4 +24,4 @@ returns-then-node-eq-ANCHOR-clause-holds c =
 -- another node is a row
 pub slot_of_row-requires-clause-row : goal.slot_of_row-requires-clause-row
 slot_of_row-requires-clause-row c =
-    node_row c.args.token.now.view c.args.node c.if-node-eq-ANCHOR.false c.requires.node
+    (node_row c.args.token.now.view c.args.node c.if-node-eq-ANCHOR.false c.requires.node.0, c.requires.node.1)

@@ -3,7 +3,7 @@ use Rattle.ist_find.proofs.sweeping.sweep.Goals as goal
 
 -- each key leads to the anchor
 pub sweep_below-requires-clause-led : goal.sweep_below-requires-clause-led
-sweep_below-requires-clause-led c = anchor_led _ c.args.first c.args.last
+sweep_below-requires-clause-led c = (anchor_led _ c.args.first c.args.last, c.requires.same_table)
 
 pub returns-clause-swept : goal.returns-clause-swept
 returns-clause-swept c =

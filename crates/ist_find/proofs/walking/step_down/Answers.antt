@@ -5,7 +5,7 @@ use Rattle.ist_find.proofs.walking.step_down.Goals as goal
 pub slot_for-child-requires-clause-node : goal.slot_for-child-requires-clause-node
 slot_for-child-requires-clause-node c =
     let came = c.requires.come in
-    come_node _ c.know.ensures.sound c.args.key came.1.last c.args.node came.0 came.1.comes
+    (come_node _ c.know.ensures.sound c.args.key came.1.last c.args.node came.0 came.1.comes, c.requires.same_table)
 
 pub returns : goal.returns
 returns c =

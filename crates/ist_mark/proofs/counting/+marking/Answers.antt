@@ -9,7 +9,7 @@ use Rattle.ist_mark.proofs.counting.+marking.Goals as goal
 -- what hangs below lies above, and has a cause to be marked
 pub count_slot-mark_and_count-requires : goal.count_slot-mark_and_count-requires
 count_slot-mark_and_count-requires t c =
-    let it = below_called _ _ _ _ _ _ c.requires.may_pass c.pass_slot.ensures.marked.went c.in-Node.ensures.passed in
+    let it = below_called _ _ _ _ _ _ c.requires.may_pass.0 c.pass_slot.ensures.marked.went c.in-Node.ensures.passed in
     search (rules, counting, table_on, c.decreases, c.ranges.node.fits)
 
 pub count_slot-returns-in-Node : goal.count_slot-returns-in-Node
@@ -29,10 +29,10 @@ mark_and_count-loop-index-preserved t c = search (rules, mark_more, slot_counted
 pub mark_and_count-overflow_add-keys : goal.mark_and_count-overflow_add-keys
 mark_and_count-overflow_add-keys t c = record { fits = search (rules, sum_low) }
 
-pub mark_and_count-finish-requires-clause-may_finish : goal.mark_and_count-finish-requires-clause-may_finish
-mark_and_count-finish-requires-clause-may_finish t c =
-    all_counted _ _ _ _ _ _ c.degree_of-degree.ensures.degree c.loop-index.invariant.1
-    (omega (arith, c.loop-index.auto.index-end, c.loop-index-test.false)) c.loop-index.invariant.0.went
+pub mark_and_count-finish-requires : goal.mark_and_count-finish-requires
+mark_and_count-finish-requires t c =
+    let it = all_counted _ _ _ _ _ _ c.degree_of-degree.ensures.degree c.loop-index.invariant.1
+    (omega (arith, c.loop-index.auto.index-end, c.loop-index-test.false)) c.loop-index.invariant.0.went in search rules
 
 pub mark_and_count-returns : goal.mark_and_count-returns
 mark_and_count-returns t c =

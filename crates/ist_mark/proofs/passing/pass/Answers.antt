@@ -1,15 +1,15 @@
+use Rattle.std.proofs.Common.{rules}
 use Rattle.ist_mark.specs.Marking.{Marks}
 use Rattle.ist_dcss.specs.Helping.{Serves}
 use Rattle.laws_coming.proofs.FurtherLemmas.{fewer_left, no_less, resolved_further}
-use Rattle.ist_mark.proofs.SubtreeLemmas.{mark_same, mark_more, mark_help, may_pass_on}
+use Rattle.ist_mark.proofs.SubtreeLemmas.{mark_same, mark_more, mark_help, table_on, may_pass_on}
 use Rattle.ist_mark.proofs.passing.pass.Goals as goal
 
 pub turns-init : goal.turns-init
 turns-init c = mark_same c.args.node _ c.know.ensures.sound
 
 pub look-word-requires-clause-may_pass : goal.look-word-requires-clause-may_pass
-look-word-requires-clause-may_pass c =
-    may_pass_on c.args.node c.args.degree _ _ c.turns.invariant c.requires.may_pass
+look-word-requires-clause-may_pass c = search (rules, table_on, may_pass_on)
 
 -- the change that was met may be helped
 pub help-requires-clause-may_help : goal.help-requires-clause-may_help

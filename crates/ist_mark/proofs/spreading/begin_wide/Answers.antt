@@ -1,8 +1,8 @@
-use Rattle.std.proofs.Common.{arith}
+use Rattle.std.proofs.Common.{rules, arith}
 use Rattle.ist_rule.proofs.GoingOnLemmas.{looked_goes_on}
 use Rattle.ist_mark.specs.Passing.{HasMarked}
 use Rattle.ist_mark.proofs.PassLemmas.{degree_low}
-use Rattle.ist_mark.proofs.SubtreeLemmas.{mark_more, mark_loads, may_mark_on}
+use Rattle.ist_mark.proofs.SubtreeLemmas.{mark_more, mark_loads, table_on, may_mark_on}
 use Rattle.ist_mark.proofs.spreading.begin_wide.Goals as goal
 use Rattle.ist_mark.proofs.spreading.begin_wide.Goals.{After-own_word}
 
@@ -14,10 +14,9 @@ pub returns-then-own_word-lt-WIDE-clause-marked : goal.returns-then-own_word-lt-
 returns-then-own_word-lt-WIDE-clause-marked c =
     loaded (goal.at.returns-then-own_word-lt-WIDE-clause-marked c).After-own_word
 
-pub mark-requires-clause-may_mark : goal.mark-requires-clause-may_mark
-mark-requires-clause-may_mark c =
-    may_mark_on c.args.node _ _ (loaded (goal.at.mark-requires-clause-may_mark c).After-own_word)
-    c.requires.may_mark
+pub mark-requires : goal.mark-requires
+mark-requires c =
+    let on = loaded (goal.at.mark-requires c).After-own_word in search (rules, table_on, may_mark_on)
 
 pub returns-then-is_some-clause-marked : goal.returns-then-is_some-clause-marked
 returns-then-is_some-clause-marked c =

@@ -1,15 +1,17 @@
+use Rattle.std.proofs.Common.{rules}
 use Rattle.ist_rule.proofs.GoingOnLemmas.{looked_goes_on}
 use Rattle.ist_mark.specs.Passing.{HasMarked}
 use Rattle.ist_mark.proofs.CountingLemmas.{below_called, may_go_on}
-use Rattle.ist_mark.proofs.SubtreeLemmas.{mark_more, mark_loads}
+use Rattle.ist_mark.proofs.SubtreeLemmas.{mark_more, mark_loads, table_on}
 use Rattle.ist_mark.proofs.spreading.open_below.Goals as goal
 use Rattle.ist_mark.proofs.spreading.open_below.Goals.{After-own_word-status}
 
 -- what hangs below has a cause to be marked
 pub own_word-status-requires-clause-may_mark : goal.own_word-status-requires-clause-may_mark
 own_word-status-requires-clause-may_mark c =
-    (below_called _ _ c.args.node c.args.degree c.args.index c.in-Node.child c.requires.may_pass
-    c.pass_slot.ensures.marked.went c.in-Node.ensures.passed).1
+    let it = below_called _ _ c.args.node c.args.degree c.args.index c.in-Node.child c.requires.may_pass.0
+    c.pass_slot.ensures.marked.went c.in-Node.ensures.passed in
+    search (rules, table_on)
 
 -- only its status was loaded
 loaded : (c : After-own_word-status)
@@ -23,7 +25,7 @@ returns-then-status-to_word c =
     record {
       marked = mark_more c.args.node _ _ _ c.pass_slot.ensures.marked on;
       below = may_go_on _ _ _ c.args.node c.args.degree c.args.index c.in-Node.child
-          c.requires.may_pass c.pass_slot.ensures.marked.went c.in-Node.ensures.passed on.went;
+          c.requires.may_pass.0 c.pass_slot.ensures.marked.went c.in-Node.ensures.passed on.went;
     }
 
 pub returns-else-status-to_word-clause-marked : goal.returns-else-status-to_word-clause-marked

@@ -9,5 +9,5 @@ returns-clause-seen c = looked_goes_on _ _ _ _ c.own_word.ensures.looked
 -- the word is the degree
 pub returns-clause-degree : goal.returns-clause-degree
 returns-clause-degree c =
-    degree_tells _ _ _ _ c.own_word.ensures.looked c.args.node c.requires.may_mark c.requires.closed
+    degree_tells _ _ _ _ c.own_word.ensures.looked c.args.node c.requires.may_mark.0 c.requires.closed
     (omega arith)

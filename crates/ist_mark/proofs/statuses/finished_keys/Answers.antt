@@ -10,5 +10,5 @@ returns-clause-seen c = looked_goes_on _ _ _ _ c.own_word-status.ensures.looked
 pub returns-clause-finished : goal.returns-clause-finished
 returns-clause-finished c k is =
     let told = c.keys_of.ensures.finished k is in
-    (finished_told _ c.know.ensures.sound c.args.node c.requires.may_mark _ _ k _ (omega arith)
+    (finished_told _ c.know.ensures.sound c.args.node c.requires.may_mark.0 _ _ k _ (omega arith)
     c.own_word-status.ensures.looked told).finished k told

@@ -7,19 +7,19 @@ use Rattle.ist_mark.proofs.statuses.mark_open.Goals as goal
 -- the node may be marked
 pub exchange-stood-requires : goal.exchange-stood-requires
 exchange-stood-requires c =
-    let can = may_mark c.args.token.now.view c.know.ensures.sound c.args.node c.requires.may_mark
+    let can = may_mark c.args.token.now.view c.know.ensures.sound c.args.node c.requires.may_mark.0
     (c.from.result + 0) _ _ (omega (arith, c.from.ensures)) c.to_word.ensures.value
     c.to_word-2.ensures.value in
     let low = known_low c.args.token.now.view _ c.know.ensures.sound can.known in
     let known = c.know.ensures.words in
-    let same = ap (λ t. t.words) c.requires.same_table in
-    (c.requires.same_table, (omega arith, can))
+    let same = ap (λ t. t.words) c.requires.may_mark.1 in
+    (c.requires.may_mark.1, (omega arith, can))
 
 -- what is known after the exchange
 pub returns : goal.returns
 returns c =
     let e = c.exchange-stood.ensures in
-    let told = mark_told _ c.know.ensures.sound c.args.node c.requires.may_mark (c.from.result + 0)
+    let told = mark_told _ c.know.ensures.sound c.args.node c.requires.may_mark.0 (c.from.result + 0)
     _ _ _ (omega (arith, c.from.ensures)) c.to_word.ensures.value e.exchanged in
     record {
       marked = record { went = told.went; search = exchanged_keeps _ _ _ _ _ _ e.exchanged };
