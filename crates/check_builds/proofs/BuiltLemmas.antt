@@ -1,8 +1,6 @@
 -- Which rows are the rows of an ideal subtree: a row first, then the rows of each part. Serves
 -- `ideals.rt`.
-use Rattle.std.proofs.Common.{◌≡◌, ◌∙◌, ◌≤◌, ◌+◌, ℕ, zero, suc, List, [], ◌∷◌, ◌++◌}
-use Rattle.std.proofs.Common.{length, take, drop, get_or, Some, None, refl, sym, ap, subst}
-use Rattle.std.proofs.Common.{arith}
+use Rattle.std.proofs.Common.{◌≡◌, ◌∙◌, ◌≤◌, ◌+◌, ℕ, zero, suc, List, [], ◌∷◌, ◌++◌, length, take, drop, get_or, Some, None, refl, sym, ap, subst, arith}
 use Rattle.std.proofs.lemmas.List.{nil_from_length}
 use Rattle.ist_core.specs.declared.lists.Row.{Row}
 use Rattle.ist_core.specs.declared.states.InnerRow.{InnerRow}
@@ -12,8 +10,7 @@ use Rattle.ist_core.specs.Pieces.{Inner, inner_of}
 use Rattle.ist_core.specs.Leaves.{PlacedLeaf}
 use Rattle.ist_core.proofs.OptionLemmas.{same_value}
 use Rattle.check_fairness.proofs.AfterLemmas.{following, split_first}
-use Rattle.check_builds.specs.Built.{IsTopRow, BuildsRef, builds_none, builds_one, builds_more}
-use Rattle.check_builds.specs.Built.{BuildsAll, BuildsAt, CountsRows, HasTopSlots}
+use Rattle.check_builds.specs.Built.{IsTopRow, BuildsRef, builds_none, builds_one, builds_more, BuildsAll, BuildsAt, CountsRows, HasTopSlots}
 
 -- ---- what a subtree is by the number of its leaves
 

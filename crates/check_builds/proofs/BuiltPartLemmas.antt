@@ -1,16 +1,13 @@
 -- Which rows are the rows of the parts of an ideal subtree, one part after another. Serves
 -- `ideals.rt`.
-use Rattle.std.proofs.Common.{◌≡◌, ◌≢◌, ◌∙◌, ◌≤◌, ◌<◌, ◌-◌, ◌+◌, ℕ, zero, suc, min, List, [], ◌∷◌}
-use Rattle.std.proofs.Common.{◌++◌, length, take, drop, get_or, Some, None, refl, sym, ap, subst}
-use Rattle.std.proofs.Common.{append_assoc, arith, length-append}
+use Rattle.std.proofs.Common.{◌≡◌, ◌≢◌, ◌∙◌, ◌≤◌, ◌<◌, ◌-◌, ◌+◌, ℕ, zero, suc, min, List, [], ◌∷◌, ◌++◌, length, take, drop, get_or, Some, None, refl, sym, ap, subst, append_assoc, arith, length-append}
 use Rattle.std.proofs.lemmas.List.{nil_from_length}
 use Rattle.ist_core.specs.declared.lists.Row.{Row}
 use Rattle.ist_core.specs.Arithmetic.{degree, part_len, part_lens}
 use Rattle.ist_core.specs.Parts.{cut, parts}
 use Rattle.ist_core.specs.Leaves.{PlacedLeaf}
 use Rattle.check_fairness.proofs.AfterLemmas.{following}
-use Rattle.check_builds.specs.Built.{part_lens_from, BuildsAll, builds_end, builds_part}
-use Rattle.check_builds.specs.Built.{BuildsAt, CountsRows}
+use Rattle.check_builds.specs.Built.{part_lens_from, BuildsAll, builds_end, builds_part, BuildsAt, CountsRows}
 use Rattle.check_builds.proofs.GatherLemmas.{first_word}
 use Rattle.check_builds.proofs.PartCutLemmas.{from, from-drop, cut_first, cut_last}
 use Rattle.check_builds.proofs.BuiltLemmas.{both_taken}

@@ -1,25 +1,5 @@
 -- Sizes of parts, and parts by a degree that was computed. Serves `leaves` and `building`.
-use Rattle.std.proofs.Common.{
-  ◌≡◌,
-  ◌∙◌,
-  ◌≤◌,
-  ◌<◌,
-  ◌-◌,
-  ◌+◌,
-  ◌*◌,
-  ◌^◌,
-  ℕ,
-  min,
-  List,
-  length,
-  take,
-  slice_get,
-  Option,
-  ap,
-  subst,
-  arith,
-  length-take,
-}
+use Rattle.std.proofs.Common.{◌≡◌, ◌∙◌, ◌≤◌, ◌<◌, ◌-◌, ◌+◌, ◌*◌, ◌^◌, ℕ, min, List, length, take, slice_get, Option, ap, subst, arith, length-take}
 use Rattle.ist_core.specs.declared.lists.Row.{Row}
 use Rattle.ist_core.specs.Arithmetic.{degree, part_len}
 use Rattle.ist_core.specs.Parts.{cut, parts}

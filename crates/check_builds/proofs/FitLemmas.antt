@@ -1,6 +1,5 @@
 -- What is tested of the rows of a Root is what its condition says. Serves `building.rt`.
-use Rattle.std.proofs.Common.{◌≡◌, ◌↔◌, ◌∙◌, ◌<◌, ℕ, List, [], ◌∷◌, Option, Some, true, refl, sym}
-use Rattle.std.proofs.Common.{ap, subst, arith}
+use Rattle.std.proofs.Common.{◌≡◌, ◌↔◌, ◌∙◌, ◌<◌, ℕ, List, [], ◌∷◌, Option, Some, true, refl, sym, ap, subst, arith}
 use Rattle.ist_core.specs.declared.lists.Row.{Row}
 use Rattle.ist_core.specs.declared.states.RebuildRow.{RebuildRow}
 use Rattle.ist_core.specs.References.{Ref, InnerAt, unset_word}
@@ -18,9 +17,7 @@ use Rattle.check_builds.specs.HeldRows.{HeldAreFree}
 use Rattle.check_builds.specs.Reading.{Gathers}
 use Rattle.check_builds.specs.Publishing.{MayPublish, HasRootOf}
 use Rattle.check_builds.specs.Built.{IsRootOf, whole, top_alone}
-use Rattle.check_builds.proofs.PublishLemmas.{StandsAsSaid, LeafStands, leaf_kept, held_is_free}
-use Rattle.check_builds.proofs.PublishLemmas.{rows_stand, leaves_stand, builds_ideal}
-use Rattle.check_builds.proofs.PublishLemmas.{ideal_builds}
+use Rattle.check_builds.proofs.PublishLemmas.{StandsAsSaid, LeafStands, leaf_kept, held_is_free, rows_stand, leaves_stand, builds_ideal, ideal_builds}
 
 -- ---- roots
 

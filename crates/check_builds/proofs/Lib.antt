@@ -10,3 +10,7 @@ pub mod FitLemmas
 pub mod PartFitLemmas
 pub mod DrawLemmas
 pub mod LoseLemmas
+pub mod TableLemmas
+mod SizesFoundLemmas
+pub mod BuildTableLemmas
+pub mod KeptLeavesLemmas

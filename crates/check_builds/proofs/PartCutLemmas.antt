@@ -1,34 +1,5 @@
 -- A list cut into parts, one part at a time, and the first keys of the parts. Serves `ideals.rt`.
-use Rattle.std.proofs.Common.{
-  ◌≡◌,
-  ◌≢◌,
-  ◌↔◌,
-  ◌∙◌,
-  ◌≤◌,
-  ◌<◌,
-  ◌-◌,
-  ◌+◌,
-  ℕ,
-  zero,
-  suc,
-  min,
-  ⊎_elim,
-  List,
-  [],
-  ◌∷◌,
-  length,
-  take,
-  drop,
-  get_or,
-  slice_get,
-  IsTrue,
-  Bool,
-  refl,
-  sym,
-  ap,
-  arith,
-  length-drop,
-}
+use Rattle.std.proofs.Common.{◌≡◌, ◌≢◌, ◌↔◌, ◌∙◌, ◌≤◌, ◌<◌, ◌-◌, ◌+◌, ℕ, zero, suc, min, ⊎_elim, List, [], ◌∷◌, length, take, drop, get_or, slice_get, IsTrue, Bool, refl, sym, ap, arith, length-drop}
 use Rattle.std.proofs.lemmas.List.{take_all, take_min}
 use Rattle.std.proofs.lemmas.Bool.{cases_lt}
 use Rattle.std.proofs.Math.ListN.{drop_of_length-le}

@@ -1,6 +1,5 @@
 -- What is tested of the rows of a Place is what its condition says. Serves `building.rt`.
-use Rattle.std.proofs.Common.{◌≡◌, ◌↔◌, ◌<◌, ℕ, Bool, false, List, [], length, slice_get, Option, Some}
-use Rattle.std.proofs.Common.{None, true, refl, sym, ap, subst}
+use Rattle.std.proofs.Common.{◌≡◌, ◌↔◌, ◌<◌, ℕ, Bool, false, List, [], length, slice_get, Option, Some, None, true, refl, sym, ap, subst}
 use Rattle.ist_core.specs.declared.lists.Row.{Row}
 use Rattle.ist_core.specs.declared.states.RebuildRow.{RebuildRow}
 use Rattle.ist_core.specs.Arithmetic.{part_lens}

@@ -1,24 +1,5 @@
 -- The rows of a Root or a Place, published, are those that the words say. Serves `building.rt`.
-use Rattle.std.proofs.Common.{
-  ◌≡◌,
-  ◌∙◌,
-  ◌<◌,
-  ℕ,
-  List,
-  [],
-  ◌∷◌,
-  ◌++◌,
-  length,
-  Option,
-  Some,
-  None,
-  refl,
-  sym,
-  ap,
-  subst,
-  inl,
-  inr,
-}
+use Rattle.std.proofs.Common.{◌≡◌, ◌∙◌, ◌<◌, ℕ, List, [], ◌∷◌, ◌++◌, length, Option, Some, None, refl, sym, ap, subst, inl, inr}
 use Rattle.ist_core.specs.declared.lists.Row.{Row}
 use Rattle.ist_core.specs.Arithmetic.{part_lens}
 use Rattle.ist_core.specs.References.{Ref, InnerAt}
@@ -27,32 +8,14 @@ use Rattle.ist_core.specs.Parts.{parts}
 use Rattle.ist_core.specs.Pieces.{Pieces, Piece, Leaf, Inner, inner_of, with_row, with_inners}
 use Rattle.ist_core.specs.Snapshots.{Snapshot, bases_of, HoldsRow, HoldsRows}
 use Rattle.ist_core.specs.Slots.{logical}
-use Rattle.ist_core.specs.Leaves.{
-  PlacedLeaf,
-  HasLeaves,
-  SlotsHaveLeaves,
-  none_here,
-  leaf_here,
-  row_here,
-  no_slot,
-  one_slot,
-}
+use Rattle.ist_core.specs.Leaves.{PlacedLeaf, HasLeaves, SlotsHaveLeaves, none_here, leaf_here, row_here, no_slot, one_slot}
 use Rattle.ist_core.specs.Ideals.{IsIdeal, AreIdeal, of_none, of_one, of_more, no_part, one_part}
 use Rattle.ist_core.proofs.ElementLemmas.{each_append, each-append, each-among}
 use Rattle.ist_core.proofs.RowLemmas.{with_row-same, with_row-other, with_inners-other}
 use Rattle.ist_core.proofs.RisingLemmas.{each_of_cut}
 use Rattle.ist_core.proofs.PublishingLemmas.{row_among}
 use Rattle.check_builds.specs.HeldRows.{HeldAreFree}
-use Rattle.check_builds.specs.Built.{
-  key_of_leaf,
-  BuildsRef,
-  builds_none,
-  builds_one,
-  builds_more,
-  BuildsAll,
-  builds_end,
-  builds_part,
-}
+use Rattle.check_builds.specs.Built.{key_of_leaf, BuildsRef, builds_none, builds_one, builds_more, BuildsAll, builds_end, builds_part}
 
 -- ---- rows that are published
 

@@ -1,39 +1,11 @@
 -- Which words and rows are a root, or an ideal subtree. Serves `roots.rt`.
-use Rattle.std.proofs.Common.{
-  ◌≡◌,
-  ◌↔◌,
-  ◌∙◌,
-  ◌≤◌,
-  ◌<◌,
-  ℕ,
-  List,
-  [],
-  length,
-  take,
-  get_or,
-  Some,
-  None,
-  IsTrue,
-  nat_eq,
-  sym,
-  ap,
-  subst,
-  arith,
-}
+use Rattle.std.proofs.Common.{◌≡◌, ◌↔◌, ◌∙◌, ◌≤◌, ◌<◌, ℕ, List, [], length, take, get_or, Some, None, IsTrue, nat_eq, sym, ap, subst, arith}
 use Rattle.std.proofs.lemmas.Bool.Decides.{nat_tests}
 use Rattle.std.proofs.lemmas.List.{append-nil, take_all}
 use Rattle.ist_core.specs.declared.lists.Row.{Row}
 use Rattle.ist_core.specs.Shapes.{share_from_is}
 use Rattle.ist_core.specs.Leaves.{PlacedLeaf}
-use Rattle.check_builds.specs.Built.{
-  BuildsAt,
-  CountsRows,
-  HasTopSlots,
-  IsTopAlone,
-  IsRootOf,
-  whole,
-  top_alone,
-}
+use Rattle.check_builds.specs.Built.{BuildsAt, CountsRows, HasTopSlots, IsTopAlone, IsRootOf, whole, top_alone}
 
 module _ (P : List Row → Type 0) (rows : List Row) where
   -- no number of the rows has P, nor have all of them

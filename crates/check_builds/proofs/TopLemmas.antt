@@ -1,25 +1,5 @@
 -- The words of a top row, read field by field. Serves `ideals.rt`.
-use Rattle.std.proofs.Common.{
-  ◌≡◌,
-  ◌≢◌,
-  ◌∙◌,
-  ◌≤◌,
-  ◌<◌,
-  ◌-◌,
-  ℕ,
-  min,
-  List,
-  [],
-  ◌∷◌,
-  length,
-  take,
-  drop,
-  get_or,
-  Some,
-  sym,
-  ap,
-  arith,
-}
+use Rattle.std.proofs.Common.{◌≡◌, ◌≢◌, ◌∙◌, ◌≤◌, ◌<◌, ◌-◌, ℕ, min, List, [], ◌∷◌, length, take, drop, get_or, Some, sym, ap, arith}
 use Rattle.std.proofs.lemmas.List.{take_min}
 use Rattle.ist_core.specs.declared.lists.Row.{Row}
 use Rattle.ist_core.specs.declared.states.InnerRow.{InnerRow}

@@ -1,5 +1,6 @@
 -- what the public contracts rest on, in the order to read them
 pub mod HeldRows
+pub mod Passed
 -- what the functions inside this crate promise each other
 pub mod Reading
 pub mod Built

@@ -1,8 +1,8 @@
 //! Whether a rebuild may get its root, and whether a part of a shared root may be placed.
-ghost use Rattle.std.specs.Prelude.{◌≡◌, ◌↔◌, IsTrue, IfOk, Some};
+ghost use Rattle.std.specs.Prelude.{◌↔◌, IsTrue, IfOk};
 ghost use Rattle.ist_core.specs.References.{unset_word};
 ghost use Rattle.ist_core.specs.Elements.{Among, Distinct};
-ghost use Rattle.ist_core.specs.Snapshots.{Snapshot, bases_of, HoldsRows};
+ghost use Rattle.ist_core.specs.Snapshots.{Snapshot, bases_of};
 ghost use Rattle.ist_core.specs.Building.{CanRoot, CanPlace};
 ghost use Rattle.check_events.specs.Mirroring.{Mirrors, RowHolds};
 ghost use Rattle.check_events.specs.Remembering.{KnowsStarts, KnowsLeaves};

@@ -1,5 +1,5 @@
 //! Whether a part of a shared root may be drawn.
-ghost use Rattle.std.specs.Prelude.{◌≡◌, ◌↔◌, ◌<◌, ℕ, IsTrue};
+ghost use Rattle.std.specs.Prelude.{◌↔◌, ◌<◌, ℕ, IsTrue};
 ghost use Rattle.ist_core.specs.Snapshots.{Snapshot};
 ghost use Rattle.ist_core.specs.Logs.{Log, Happened, Draws};
 ghost use Rattle.ist_core.specs.Building.{CanDraw};

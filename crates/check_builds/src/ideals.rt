@@ -1,6 +1,5 @@
 //! Whether the rows of an event are the rows of an ideal subtree over some leaves.
-ghost use Rattle.std.specs.Prelude.{◌≡◌, ◌↔◌, ◌≤◌, ◌<◌, ◌^◌, ◌+◌, ℕ, IsTrue, IfSome, MatchOption, List, Some, None, slice_get, ◌-◌, length, take, min};
-ghost use Rattle.ist_core.specs.declared.states.InnerRow.{InnerRow};
+ghost use Rattle.std.specs.Prelude.{◌≡◌, ◌↔◌, ◌≤◌, ◌<◌, ◌^◌, ◌+◌, ℕ, IsTrue, IfSome, MatchOption, List, Some, None, slice_get, ◌-◌, length, min};
 ghost use Rattle.ist_core.specs.Arithmetic.{part_len};
 ghost use Rattle.ist_core.specs.References.{LeafAt, ref_of};
 ghost use Rattle.ist_core.specs.Parts.{cut, first_keys};

@@ -1,7 +1,7 @@
 //! The leaves below a row of a replica, child by child.
 //!
 //! The slots still to be read wait in a list, the next one last, so no tree is too deep.
-ghost use Rattle.std.specs.Prelude.{◌≡◌, ◌∷◌, ◌++◌, IfOk, OnOk, Option, List, ℕ, Some, reverse};
+ghost use Rattle.std.specs.Prelude.{◌≡◌, ◌∷◌, ◌++◌, IfOk, OnOk, Some, reverse};
 ghost use Rattle.ist_core.specs.References.{InnerAt, LeafAt};
 ghost use Rattle.ist_core.specs.Snapshots.{Snapshot};
 ghost use Rattle.ist_core.specs.Leaves.{HasLeaves};

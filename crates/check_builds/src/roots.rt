@@ -1,5 +1,5 @@
 //! Whether a word and the rows of an event are a root, or a part of one, over some leaves.
-ghost use Rattle.std.specs.Prelude.{◌≡◌, ◌↔◌, IsTrue, length, replicate};
+ghost use Rattle.std.specs.Prelude.{◌≡◌, ◌↔◌, IsTrue, replicate};
 ghost use Rattle.ist_core.specs.References.{unset_word};
 ghost use Rattle.check_builds.specs.Built.{BuildsAt, IsTopAlone, IsRootOf};
 

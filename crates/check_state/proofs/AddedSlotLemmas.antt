@@ -9,8 +9,8 @@ use Rattle.std.proofs.lemmas.Option.{same_Some}
 use Rattle.ist_core.specs.Snapshots.{Snapshot}
 use Rattle.ist_core.specs.Links.{IsChild}
 use Rattle.check_events.specs.declared.pasts.Slot.{Slot}
+use Rattle.check_builds.proofs.TableLemmas.{updated_here, updated_other}
 use Rattle.check_state.specs.Hanging.{HasSlot, AddsSlots, HangsOnce}
-use Rattle.check_state.proofs.TableLemmas.{updated_here, updated_other}
 
 module _ (t : Snapshot) where
   -- ---- some slots

@@ -13,8 +13,7 @@ use Rattle.check_fairness.specs.Answers.{Holds}
 use Rattle.check_events.specs.Mirroring.{Mirrors}
 use Rattle.check_state.specs.Calls.{StartCalls, WordCalls}
 use Rattle.check_state.proofs.EventLemmas.{at_event}
-use Rattle.check_state.proofs.CallLemmas.{RightCalls, calls_refused, calls_started, calls_passed}
-use Rattle.check_state.proofs.CallLemmas.{calls_kept}
+use Rattle.check_state.proofs.CallLemmas.{RightCalls, calls_refused, calls_started, calls_passed, calls_kept}
 
 module _ (replica : Replica) (e : Event) (old new : BTreeSet ℕ) where
   -- the event takes the set from the old one to the new one; the replica shows the state before it

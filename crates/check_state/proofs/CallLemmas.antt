@@ -1,28 +1,6 @@
 -- The causes to mark a node, after an event: they stay, and a yes or a pass may bring one. Serves
 -- `calling.rt`.
-use Rattle.std.proofs.Common.{
-  ◌≡◌,
-  ◌≢◌,
-  ◌∙◌,
-  ◌⊎◌,
-  ◌↔◌,
-  ℕ,
-  Bool,
-  true,
-  false,
-  List,
-  [],
-  ◌∷◌,
-  Some,
-  refl,
-  sym,
-  ap,
-  subst,
-  inl,
-  inr,
-  ⊎_elim,
-  arith,
-}
+use Rattle.std.proofs.Common.{◌≡◌, ◌≢◌, ◌∙◌, ◌⊎◌, ◌↔◌, ℕ, Bool, true, false, List, [], ◌∷◌, Some, refl, sym, ap, subst, inl, inr, ⊎_elim, arith}
 use Rattle.std.specs.BTreeSet.{BTreeSet}
 use Rattle.ist_core.specs.declared.pairs.Pair.{Pair}
 use Rattle.ist_core.specs.declared.events.Event.{Event}
@@ -42,11 +20,10 @@ use Rattle.ist_core.proofs.OrderLemmas.{names}
 use Rattle.ist_core.proofs.OptionLemmas.{same_rebuild}
 use Rattle.check_fairness.specs.Answers.{Holds}
 use Rattle.check_events.specs.Remembering.{KnowsCalls}
+use Rattle.check_builds.proofs.TableLemmas.{no_pass}
 use Rattle.check_state.specs.Remembered.{StartsRebuild}
 use Rattle.check_state.specs.Calls.{StartCalls, WordCalls, names_row, names_rebuild}
-use Rattle.check_state.proofs.TableLemmas.{no_pass}
-use Rattle.check_state.proofs.StartedLemmas.{rows_grow, start_stays, started_before}
-use Rattle.check_state.proofs.StartedLemmas.{started_newly, start_begun}
+use Rattle.check_state.proofs.StartedLemmas.{rows_grow, start_stays, started_before, started_newly, start_begun}
 
 -- ---- the target of a rebuild
 

@@ -1,23 +1,17 @@
 -- Decided changes after an event: they stay, and only a Decide makes one. Serves `starting.rt`.
-use Rattle.std.proofs.Common.{◌≡◌, ◌≢◌, ◌∙◌, ◌⊎◌, ℕ, nat_lt, if◌then◌else◌, Bool, true, false, List}
-use Rattle.std.proofs.Common.{◌∷◌, Option, Some, refl, sym, ap, subst, inl, inr, ⊎_elim}
+use Rattle.std.proofs.Common.{◌≡◌, ◌≢◌, ◌∙◌, ◌⊎◌, ℕ, nat_lt, if◌then◌else◌, Bool, true, false, List, ◌∷◌, Option, Some, refl, sym, ap, subst, inl, inr, ⊎_elim}
 use Rattle.ist_core.specs.declared.lists.Row.{Row}
 use Rattle.ist_core.specs.declared.states.ChangeRow.{ChangeRow}
 use Rattle.ist_core.specs.declared.events.Event.{Event}
-use Rattle.ist_core.specs.declared.events.Event.TheVariants.{Install, Decide}
-use Rattle.ist_core.specs.declared.events.Event.TheVariants.{Resolve, Count, Mark, Finish}
-use Rattle.ist_core.specs.declared.events.Event.TheVariants.{Root, Draw, Place}
+use Rattle.ist_core.specs.declared.events.Event.TheVariants.{Install, Decide, Resolve, Count, Mark, Finish, Root, Draw, Place}
 use Rattle.ist_core.specs.References.{ChangeAt, word_of}
 use Rattle.ist_core.specs.Statuses.{undecided, marked_word, finished_word}
 use Rattle.ist_core.specs.Elements.{Among, Each}
-use Rattle.ist_core.specs.Pieces.{Pieces, Piece, Leaf, Inner, Change, Rebuild, with_inners}
-use Rattle.ist_core.specs.Pieces.{changed_at, with_slot, with_status, counted, with_decision}
-use Rattle.ist_core.specs.Pieces.{with_root, drawn}
+use Rattle.ist_core.specs.Pieces.{Pieces, Piece, Leaf, Inner, Change, Rebuild, with_inners, changed_at, with_slot, with_status, counted, with_decision, with_root, drawn}
 use Rattle.ist_core.specs.Snapshots.{Snapshot, bases_of}
 use Rattle.ist_core.specs.After.{after, decision_word, side_of}
 use Rattle.ist_core.specs.Logs.{Log, state}
-use Rattle.ist_core.specs.Installing.{pair_row, pair_over, FitsKind, a_put, a_pair, a_remove}
-use Rattle.ist_core.specs.Installing.{a_start, a_finish}
+use Rattle.ist_core.specs.Installing.{pair_row, pair_over, FitsKind, a_put, a_pair, a_remove, a_start, a_finish}
 use Rattle.ist_core.specs.Deciding.{CanDecide}
 use Rattle.ist_core.specs.Enabled.{Enabled}
 use Rattle.ist_core.proofs.ElementLemmas.{each-among}
@@ -26,8 +20,7 @@ use Rattle.ist_core.proofs.MoveLemmas.{HeldLieApart}
 use Rattle.ist_core.proofs.InstallLemmas.{with_installed}
 use Rattle.ist_core.proofs.AddingLemmas.{IsInstalledWith, adds_install, adds-with_inners}
 use Rattle.ist_core.proofs.GrowingLemmas.{change_there}
-use Rattle.ist_core.proofs.StepLemmas.{rows_resolved, rows_placed, holds_installed, known}
-use Rattle.ist_core.proofs.StepLemmas.{grow_step}
+use Rattle.ist_core.proofs.StepLemmas.{rows_resolved, rows_placed, holds_installed, known, grow_step}
 use Rattle.ist_core.proofs.TreeLemmas.{IsTreeRow, root_tree, tree_of_ideal, tree_rows}
 
 -- ---- fresh rows are undecided

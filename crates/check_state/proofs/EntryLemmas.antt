@@ -1,24 +1,5 @@
 -- What becomes of the entries of the table of updates. Serves `updating.rt`.
-use Rattle.std.proofs.Common.{
-  ◌≡◌,
-  ◌≢◌,
-  ◌↔◌,
-  ◌∙◌,
-  ◌⊎◌,
-  ℕ,
-  true,
-  false,
-  eqb,
-  Option,
-  Some,
-  sym,
-  ap,
-  subst,
-  inl,
-  inr,
-  ⊎_elim,
-  arith,
-}
+use Rattle.std.proofs.Common.{◌≡◌, ◌≢◌, ◌↔◌, ◌∙◌, ◌⊎◌, ℕ, true, false, eqb, Option, Some, sym, ap, subst, inl, inr, ⊎_elim, arith}
 use Rattle.std.proofs.lemmas.Bool.Decides.{eqb_tells}
 use Rattle.std.proofs.lemmas.Grind.{common_steps}
 use Rattle.std.specs.Ordering.{nat_cmp}
@@ -34,8 +15,8 @@ use Rattle.ist_core.specs.Deciding.{IsUpdateOf}
 use Rattle.ist_core.proofs.OptionLemmas.{same_change}
 use Rattle.check_fairness.specs.Answers.{Holds}
 use Rattle.check_events.specs.declared.pasts.LastUpdate.{LastUpdate}
+use Rattle.check_builds.proofs.TableLemmas.{updated_here, updated_other}
 use Rattle.check_state.specs.Entries.{BeginsAt, Renews, CountsIn}
-use Rattle.check_state.proofs.TableLemmas.{updated_here, updated_other}
 
 -- a number is another one, or isn't
 abbrev SameOrNot : ℕ → ℕ → Type 0

@@ -1,6 +1,5 @@
 -- Finished rows after an event: only a Finish makes one. Serves `targeting.rt`.
-use Rattle.std.proofs.Common.{◌≡◌, ◌∙◌, ◌⊎◌, ◌∷◌, ℕ}
-use Rattle.std.proofs.Common.{refl, sym, subst, ap, inl, inr, ⊎_elim, option_map}
+use Rattle.std.proofs.Common.{◌≡◌, ◌∙◌, ◌⊎◌, ◌∷◌, ℕ, refl, sym, subst, ap, inl, inr, ⊎_elim, option_map}
 use Rattle.ist_core.specs.declared.events.Event.{Event}
 use Rattle.ist_core.specs.declared.events.Event.TheVariants.{Finish}
 use Rattle.ist_core.specs.Statuses.{finished_word}

@@ -2,9 +2,6 @@ pub mod WriteLemmas
 pub mod PublishLemmas
 pub mod FreshLemmas
 pub mod EventLemmas
-pub mod TableLemmas
-mod SizesFoundLemmas
-pub mod BuildTableLemmas
 pub mod DecisionLemmas
 pub mod StartedLemmas
 pub mod RefusingLemmas
@@ -29,4 +26,3 @@ pub mod StayingLemmas
 pub mod WayTableLemmas
 pub mod WayToRowLemmas
 pub mod WaitingLemmas
-pub mod KeptLeavesLemmas

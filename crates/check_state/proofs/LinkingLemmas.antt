@@ -1,40 +1,12 @@
 -- What an event links: nothing, but for a yes, which links what hangs in the slot of its change.
 -- Serves `linking.rt`.
-use Rattle.std.proofs.Common.{
-  ◌≡◌,
-  ◌∙◌,
-  ◌⊎◌,
-  ℕ,
-  true,
-  List,
-  ◌∷◌,
-  Option,
-  Some,
-  None,
-  refl,
-  sym,
-  ap,
-  subst,
-  inl,
-  inr,
-  ⊎_elim,
-}
+use Rattle.std.proofs.Common.{◌≡◌, ◌∙◌, ◌⊎◌, ℕ, true, List, ◌∷◌, Option, Some, None, refl, sym, ap, subst, inl, inr, ⊎_elim}
 use Rattle.std.proofs.lemmas.Option.{same_Some}
 use Rattle.ist_core.specs.declared.pairs.Pair.{Pair}
 use Rattle.ist_core.specs.declared.states.ChangeRow.{ChangeRow}
 use Rattle.ist_core.specs.declared.events.Event.{Event}
 use Rattle.ist_core.specs.declared.events.Event.TheVariants.{Decide}
-use Rattle.ist_core.specs.References.{
-  Ref,
-  Empty,
-  Unset,
-  LeafAt,
-  InnerAt,
-  ChangeAt,
-  RebuildAt,
-  ref_of,
-  unset_word,
-}
+use Rattle.ist_core.specs.References.{Ref, Empty, Unset, LeafAt, InnerAt, ChangeAt, RebuildAt, ref_of, unset_word}
 use Rattle.ist_core.specs.Pieces.{Change, Rebuild}
 use Rattle.ist_core.specs.Snapshots.{Snapshot}
 use Rattle.ist_core.specs.StartLayout.{start}
@@ -49,34 +21,12 @@ use Rattle.ist_core.proofs.OrderLemmas.{names}
 use Rattle.ist_core.proofs.PlaceLemmas.{anchor_free}
 use Rattle.ist_core.proofs.ReferenceLemmas.{ref_of-unset}
 use Rattle.ist_core.proofs.FateLemmas.{grow_after}
-use Rattle.laws_links.proofs.ChildLemmas.{
-  IsReadBy,
-  child_read,
-  leads_grows,
-  leads_rebuild,
-  read_child,
-}
-use Rattle.laws_links.proofs.FormLemmas.{
-  IsFormed,
-  of_finish,
-  of_leaf_put,
-  of_pair_put,
-  of_remove,
-  of_start,
-}
+use Rattle.laws_links.proofs.ChildLemmas.{IsReadBy, child_read, leads_grows, leads_rebuild, read_child}
+use Rattle.laws_links.proofs.FormLemmas.{IsFormed, of_finish, of_leaf_put, of_pair_put, of_remove, of_start}
 use Rattle.laws_links.proofs.FormedLemmas.{changes_are_formed}
 use Rattle.laws_links.proofs.ReadEventLemmas.{decide_reads}
 use Rattle.laws_links.proofs.ReadLemmas.{FillsSlot, ReadsAs, Turns, filled_by, reads_once, turned_by}
-use Rattle.laws_links.proofs.ReadStepLemmas.{
-  Stood,
-  Turning,
-  filled_now,
-  read_before,
-  reads_back,
-  turned_now,
-  was_anchor,
-  was_row,
-}
+use Rattle.laws_links.proofs.ReadStepLemmas.{Stood, Turning, filled_now, read_before, reads_back, turned_now, was_anchor, was_row}
 use Rattle.laws_links.proofs.ContentLemmas.{linked_set}
 use Rattle.laws_links.proofs.ReturnLemmas.{leads_back, one_inner}
 use Rattle.check_state.specs.Hanging.{Hangs, hangs_here}

@@ -1,12 +1,10 @@
 -- The targets and the building lists are right after each kind of event, in the cases of the code.
 -- Serves `targeting.rt`.
-use Rattle.std.proofs.Common.{◌≡◌, ◌≢◌, ◌↔◌, ◌⊎◌, ◌∷◌, ◌∙◌, ℕ, Bool, true, false, List, Some}
-use Rattle.std.proofs.Common.{ap, sym, subst, inl, inr, ⊎_elim, refl}
+use Rattle.std.proofs.Common.{◌≡◌, ◌≢◌, ◌↔◌, ◌⊎◌, ◌∷◌, ◌∙◌, ℕ, Bool, true, false, List, Some, ap, sym, subst, inl, inr, ⊎_elim, refl}
 use Rattle.std.specs.BTreeSet.{BTreeSet}
 use Rattle.ist_core.specs.declared.pairs.Pair.{Pair}
 use Rattle.ist_core.specs.declared.events.Event.{Event}
-use Rattle.ist_core.specs.declared.events.Event.TheVariants.{Decide}
-use Rattle.ist_core.specs.declared.events.Event.TheVariants.{Finish}
+use Rattle.ist_core.specs.declared.events.Event.TheVariants.{Decide, Finish}
 use Rattle.ist_core.specs.Snapshots.{Snapshot}
 use Rattle.ist_core.specs.Logs.{Log}
 use Rattle.ist_core.specs.Lawful.{Lawful, state_of}
@@ -21,8 +19,7 @@ use Rattle.check_state.specs.Remembered.{StartsFinished}
 use Rattle.check_state.specs.Calls.{StartCalls}
 use Rattle.check_state.proofs.EventLemmas.{at_event}
 use Rattle.check_state.proofs.FinishingLemmas.{FinishesNode}
-use Rattle.check_state.proofs.TargetedLemmas.{targets_kept, targets_refused, targets_more}
-use Rattle.check_state.proofs.TargetedLemmas.{keys_kept, keys_refused, keys_started, keys_finished}
+use Rattle.check_state.proofs.TargetedLemmas.{targets_kept, targets_refused, targets_more, keys_kept, keys_refused, keys_started, keys_finished}
 
 -- an event that isn't a Finish finishes nothing
 unfinished : (event : Event) → ((c n k : ℕ) → event ≢ Finish c n k) → (node k : ℕ)

@@ -1,39 +1,8 @@
 -- Words read as rows, as the code takes them apart. Serves `publishing.rt`.
-use Rattle.std.proofs.Common.{
-  ◌≡◌,
-  ◌∙◌,
-  ◌≤◌,
-  ◌-◌,
-  ℕ,
-  min,
-  List,
-  [],
-  ◌∷◌,
-  length,
-  take,
-  drop,
-  get_or,
-  Option,
-  Some,
-  refl,
-  sym,
-  ap,
-  subst,
-  arith,
-}
+use Rattle.std.proofs.Common.{◌≡◌, ◌∙◌, ◌≤◌, ◌-◌, ℕ, min, List, [], ◌∷◌, length, take, drop, get_or, Option, Some, refl, sym, ap, subst, arith}
 use Rattle.std.proofs.lemmas.List.{take_min}
 use Rattle.ist_core.specs.declared.lists.Row.{Row}
-use Rattle.ist_core.specs.Pieces.{
-  Piece,
-  Leaf,
-  Inner,
-  Rebuild,
-  leaf_of,
-  inner_of,
-  rebuild_of,
-  with_row,
-  with_inners,
-}
+use Rattle.ist_core.specs.Pieces.{Piece, Leaf, Inner, Rebuild, leaf_of, inner_of, rebuild_of, with_row, with_inners}
 use Rattle.ist_core.specs.Snapshots.{Snapshot}
 use Rattle.check_events.specs.declared.replicas.Replica.{Replica}
 use Rattle.check_events.specs.Mirroring.{Mirrors}

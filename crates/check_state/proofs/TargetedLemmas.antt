@@ -1,7 +1,6 @@
 -- The targets of started rebuilds, and the numbers of keys with which they are finished, after an
 -- event. Serves `targeting.rt`.
-use Rattle.std.proofs.Common.{◌≡◌, ◌≢◌, ◌↔◌, ◌⊎◌, ◌∷◌, ℕ, Bool, true, false, List, sym, subst}
-use Rattle.std.proofs.Common.{inl, inr, ⊎_elim, arith}
+use Rattle.std.proofs.Common.{◌≡◌, ◌≢◌, ◌↔◌, ◌⊎◌, ◌∷◌, ℕ, Bool, true, false, List, sym, subst, inl, inr, ⊎_elim, arith}
 use Rattle.std.specs.BTreeSet.{BTreeSet}
 use Rattle.ist_core.specs.declared.pairs.Pair.{Pair}
 use Rattle.ist_core.specs.declared.events.Event.{Event}
@@ -18,8 +17,7 @@ use Rattle.check_fairness.specs.Answers.{Holds}
 use Rattle.check_fairness.specs.Targets.{IsTargeted, KnowsTargets, HasFinishedTarget, GainsKeys}
 use Rattle.check_state.specs.Remembered.{StartsFinished}
 use Rattle.check_state.specs.Calls.{StartCalls}
-use Rattle.check_state.proofs.StartedLemmas.{is_sound, rows_grow, start_stays, started_before}
-use Rattle.check_state.proofs.StartedLemmas.{started_newly, start_begun}
+use Rattle.check_state.proofs.StartedLemmas.{is_sound, rows_grow, start_stays, started_before, started_newly, start_begun}
 use Rattle.check_state.proofs.CallLemmas.{target_stays, started_of}
 use Rattle.check_state.proofs.FinishingLemmas.{FinishesNode, finished_before, finished_now}
 

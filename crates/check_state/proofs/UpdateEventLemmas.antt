@@ -15,8 +15,7 @@ use Rattle.check_events.specs.declared.replicas.Replica.{Replica}
 use Rattle.check_events.specs.Mirroring.{Mirrors}
 use Rattle.check_state.specs.Entries.{CountsIn, Renews}
 use Rattle.check_state.proofs.EventLemmas.{at_event}
-use Rattle.check_state.proofs.UpdateLemmas.{RightUpdates, updates_refused, updates_renewed}
-use Rattle.check_state.proofs.UpdateLemmas.{updates_counted, updates_kept}
+use Rattle.check_state.proofs.UpdateLemmas.{RightUpdates, updates_refused, updates_renewed, updates_counted, updates_kept}
 
 module _ (replica : Replica) (e : Event) (old new : BTreeMap ℕ LastUpdate) where
   -- the event takes the map from the old one to the new one; the replica shows the state before it

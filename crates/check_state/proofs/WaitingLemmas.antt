@@ -1,33 +1,6 @@
 -- Rows that wait to be remembered: what was remembered so far, with what hangs by those, is what hangs by the first.
 -- Serves `linking.rt`.
-use Rattle.std.proofs.Common.{
-  ◌≡◌,
-  ◌↔◌,
-  ◌∙◌,
-  ◌<◌,
-  ◌+◌,
-  ◌-◌,
-  ◌⊎◌,
-  ℕ,
-  take,
-  List,
-  [],
-  ◌∷◌,
-  ◌++◌,
-  length,
-  slice_get,
-  Option,
-  Some,
-  None,
-  refl,
-  sym,
-  ap,
-  subst,
-  inl,
-  inr,
-  ⊎_elim,
-  arith,
-}
+use Rattle.std.proofs.Common.{◌≡◌, ◌↔◌, ◌∙◌, ◌<◌, ◌+◌, ◌-◌, ◌⊎◌, ℕ, take, List, [], ◌∷◌, ◌++◌, length, slice_get, Option, Some, None, refl, sym, ap, subst, inl, inr, ⊎_elim, arith}
 use Rattle.std.proofs.lemmas.List.{append-nil}
 use Rattle.std.specs.Ordering.{nat_cmp}
 use Rattle.std.specs.BTreeMap as tree
@@ -44,17 +17,7 @@ use Rattle.ist_core.proofs.ElementLemmas.{among-append, among_left, among_right}
 use Rattle.ist_core.proofs.ImageLemmas.{get_below}
 use Rattle.check_events.specs.declared.pasts.Slot.{Slot}
 use Rattle.check_state.specs.declared.linking.Link.{Link}
-use Rattle.check_state.specs.Hanging.{
-  Hangs,
-  hangs_here,
-  hangs_below,
-  SomeHangs,
-  PutsLink,
-  PutsLinks,
-  HasSlot,
-  AddsSlots,
-  HangsOnce,
-}
+use Rattle.check_state.specs.Hanging.{Hangs, hangs_here, hangs_below, SomeHangs, PutsLink, PutsLinks, HasSlot, AddsSlots, HangsOnce}
 use Rattle.check_state.proofs.HangingLemmas.{hangs_split, first_child, child_by_word, child_within}
 use Rattle.check_state.proofs.AddedSlotLemmas.{IsIt, one_entry, once_more}
 

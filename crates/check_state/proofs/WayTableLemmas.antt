@@ -1,8 +1,6 @@
 -- The ways that a table has stay right after a longer log; and which keys lead to one child of a
 -- node. Serves `ways.rt`.
-use Rattle.std.proofs.Common.{◌≡◌, ◌↔◌, ◌≢◌, ◌∙◌, ◌⊎◌, ◌≤◌, ◌<◌, ◌+◌, ◌-◌, ◌^◌, ℕ, List, ◌∷◌}
-use Rattle.std.proofs.Common.{length, get_or, Option, Some, None, sym, ap, subst, inl, inr, ⊎_elim}
-use Rattle.std.proofs.Common.{arith}
+use Rattle.std.proofs.Common.{◌≡◌, ◌↔◌, ◌≢◌, ◌∙◌, ◌⊎◌, ◌≤◌, ◌<◌, ◌+◌, ◌-◌, ◌^◌, ℕ, List, ◌∷◌, length, get_or, Option, Some, None, sym, ap, subst, inl, inr, ⊎_elim, arith}
 use Rattle.std.proofs.lemmas.Grind.{common_steps}
 use Rattle.std.specs.Ordering.{nat_cmp}
 use Rattle.std.specs.BTreeMap as tree
@@ -20,7 +18,7 @@ use Rattle.check_events.specs.declared.pasts.RowWay.{RowWay}
 use Rattle.check_events.specs.Remembering.{KnowsSlots, KnowsWays, IsWay}
 use Rattle.check_events.specs.Ways.{KeysStay}
 use Rattle.check_events.proofs.WayUpLemmas.{ever_at, at_ever, linked_leads, climbs_is}
-use Rattle.check_state.proofs.TableLemmas.{updated_here, updated_other}
+use Rattle.check_builds.proofs.TableLemmas.{updated_here, updated_other}
 
 -- ---- a longer log
 

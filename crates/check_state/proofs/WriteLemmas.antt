@@ -1,20 +1,5 @@
 -- What a replica says after a single write. Serves `writes.rt`.
-use Rattle.std.proofs.Common.{
-  ◌≡◌,
-  ◌≢◌,
-  ℕ,
-  ◌==◌,
-  if◌then◌else◌,
-  Bool,
-  true,
-  false,
-  sym,
-  subst,
-  ◌∙◌,
-  ◌⊎◌,
-  inl,
-  inr,
-}
+use Rattle.std.proofs.Common.{◌≡◌, ◌≢◌, ℕ, ◌==◌, if◌then◌else◌, Bool, true, false, sym, subst, ◌∙◌, ◌⊎◌, inl, inr}
 use Rattle.std.proofs.lemmas.Bool.Decides.{eqb_tells}
 use Rattle.ist_core.specs.RowLayout.{anchor}
 use Rattle.ist_core.specs.Snapshots.{Snapshot}

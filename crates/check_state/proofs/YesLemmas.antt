@@ -1,22 +1,5 @@
 -- What says yes for a caller, read in an earlier and in a later state. Serves `updating.rt`.
-use Rattle.std.proofs.Common.{
-  ◌≡◌,
-  ◌∙◌,
-  ◌↔◌,
-  ℕ,
-  true,
-  false,
-  [],
-  ◌∷◌,
-  ◌++◌,
-  Some,
-  refl,
-  sym,
-  ap,
-  subst,
-  inl,
-  inr,
-}
+use Rattle.std.proofs.Common.{◌≡◌, ◌∙◌, ◌↔◌, ℕ, true, false, [], ◌∷◌, ◌++◌, Some, refl, sym, ap, subst, inl, inr}
 use Rattle.ist_core.specs.declared.states.ChangeRow.{ChangeRow}
 use Rattle.ist_core.specs.declared.events.Event.{Event}
 use Rattle.ist_core.specs.declared.events.Event.TheVariants.{Decide}

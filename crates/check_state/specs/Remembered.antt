@@ -1,5 +1,4 @@
--- What the checker's tables require of the log, in addition to what they hold of it. It holds for
--- every lawful log.
+-- What comes of a change that is decided: a rebuild is started, or a caller is refused on a node.
 use Rattle.std.specs.Prelude.{◌≡◌, ℕ, Some}
 use Rattle.check_events.specs.Passing.{TargetFinishedWith}
 use Rattle.ist_core.specs.declared.states.ChangeRow.{ChangeRow}
@@ -7,11 +6,6 @@ use Rattle.ist_core.specs.References.{RebuildAt, ref_of}
 use Rattle.ist_core.specs.Statuses.{start_kind}
 use Rattle.ist_core.specs.Pieces.{Change}
 use Rattle.ist_core.specs.Snapshots.{Snapshot}
-use Rattle.ist_core.specs.Logs.{Log, Happened, Passes}
-
--- all passes of a slot name one word
-abbrev pub PassesAreOne : Log → Type 0
-PassesAreOne log = (node i word other : ℕ) → Happened (Passes node i word) log → Happened (Passes node i other) log → word ≡ other
 
 -- the change, if it is decided yes, starts the rebuild
 pub record StartsRebuild (t : Snapshot) (base rebuild : ℕ) : Type 0 where

@@ -1,5 +1,5 @@
 //! Brings a replica forward by an event.
-ghost use Rattle.std.specs.Prelude.{◌≡◌, ◌+◌, ◌^◌, ◌<◌, ◌++◌, ◌∷◌, [], OnOk};
+ghost use Rattle.std.specs.Prelude.{◌+◌, ◌^◌, ◌<◌, ◌++◌, ◌∷◌, [], OnOk};
 ghost use Rattle.ist_core.specs.Snapshots.{Snapshot};
 ghost use Rattle.ist_core.specs.Snapshots as snapshots;
 ghost use Rattle.ist_core.specs.After as after;

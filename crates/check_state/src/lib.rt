@@ -1,4 +1,4 @@
-//! Brings the checker's copy of a table forward by an event.
+//! Brings the checker's copy of a table forward by an event, and the tables that `check_builds` doesn't.
 //!
 //! Read `writes.rt`, then `advancing.rt`. Stands on `ist_core`, `ist_layout`, `ist_math`, `ist_image`,
 //! `check_fairness`, `check_events` and `check_builds`, and on the laws of `laws_links`.
@@ -10,10 +10,7 @@ mod holding;
 mod installing;
 mod linking;
 mod opening;
-mod placing;
 mod publishing;
-mod remembering;
-mod reserving;
 mod starting;
 mod targeting;
 mod updating;
@@ -26,10 +23,7 @@ pub use holding::{give_up, give_up_rows};
 pub use installing::install;
 pub use linking::{remember_links, slots_of_start};
 pub use opening::open_replica;
-pub use placing::remember_leaves;
 pub use publishing::{put_as_inner, put_as_leaf, put_as_rebuild, put_change, put_inners};
-pub use remembering::{remember_build, remember_draw, remember_okay, remember_pass};
-pub use reserving::remember_sizes;
 pub use starting::{remember_refusal, remember_start};
 pub use targeting::{remember_lists, remember_target};
 pub use updating::remember_update;

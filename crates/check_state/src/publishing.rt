@@ -1,8 +1,8 @@
 //! Publishes rows that an event brings.
-ghost use Rattle.std.specs.Prelude.{◌≡◌, ◌-◌, ◌<◌, min, ℕ, Some, OnOk, IfOk, take, drop};
+ghost use Rattle.std.specs.Prelude.{◌≡◌, ◌-◌, min, Some, OnOk, IfOk};
 ghost use Rattle.ist_core.specs.Pieces as pieces;
 ghost use Rattle.ist_core.specs.Pieces.{Leaf, Inner, Change, Rebuild, with_row, with_inners, leaf_of, inner_of, rebuild_of};
-ghost use Rattle.ist_core.specs.Snapshots.{Snapshot, without, bases_of};
+ghost use Rattle.ist_core.specs.Snapshots.{Snapshot};
 ghost use Rattle.check_events.specs.Mirroring.{Mirrors};
 
 use check_events::Replica;

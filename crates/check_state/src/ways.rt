@@ -1,5 +1,5 @@
 //! The ways from the anchor to the inner rows that were linked.
-ghost use Rattle.std.specs.Prelude.{◌≡◌, ◌↔◌, ◌≤◌, ◌<◌, ◌^◌, ◌∷◌, [], ℕ, List, OnOk, IfOk, IfSome};
+ghost use Rattle.std.specs.Prelude.{◌≡◌, ◌∷◌, [], ℕ, List, OnOk, IfOk, IfSome};
 ghost use Rattle.std.specs.Ordering.{nat_cmp};
 ghost use Rattle.std.specs.BTreeMap as tree;
 ghost use Rattle.ist_core.specs.declared.pairs.Pair.{Pair as APair};
@@ -9,7 +9,7 @@ ghost use Rattle.ist_core.specs.StartLayout.{start};
 ghost use Rattle.ist_core.specs.Logs.{Log};
 ghost use Rattle.ist_core.specs.Lawful.{CanOpen, Lawful, state_of};
 ghost use Rattle.check_events.specs.Mirroring.{Mirrors};
-ghost use Rattle.check_events.specs.Remembering.{KnowsSlots, KnowsWays, IsWay};
+ghost use Rattle.check_events.specs.Remembering.{KnowsSlots, KnowsWays};
 ghost use Rattle.check_events.specs.Ways.{KeysStay};
 ghost use Rattle.check_state.specs.Leading.{IsSpanOf, IsWayBy, JumpsFrom};
 

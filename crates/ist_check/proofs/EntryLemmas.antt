@@ -1,23 +1,5 @@
 -- The finite map of a tree's entries finds what the tree finds. Serves `stating.rt`.
-use Rattle.std.proofs.Common.{
-  ◌≡◌,
-  ◌∙◌,
-  ℕ,
-  cond,
-  List,
-  [],
-  ◌∷◌,
-  Some,
-  refl,
-  sym,
-  ap,
-  subst,
-  Result,
-  Ok,
-  Err,
-  IfOk,
-  map,
-}
+use Rattle.std.proofs.Common.{◌≡◌, ◌∙◌, ℕ, cond, List, [], ◌∷◌, Some, refl, sym, ap, subst, Result, Ok, Err, IfOk, map}
 use Rattle.std.proofs.lemmas.Map.Keys.{IsStrictlyIncreasing-from_sorted}
 use Rattle.std.specs.List.Sorted.{IsStrictlyIncreasing}
 use Rattle.std.specs.Ordering.{nat_cmp}

@@ -25,7 +25,7 @@ use Rattle.check_fairness.specs.Targets.{IsTargeted, KnowsTargets}
 use Rattle.check_fairness.specs.Knowing.{KnowsLists, HasNone}
 use Rattle.check_fairness.proofs.AnswerLemmas.{finds_none}
 use Rattle.check_fairness.proofs.KeepingLemmas.{none_kept}
-use Rattle.check_state.proofs.TableLemmas.{holds_none}
+use Rattle.check_builds.proofs.TableLemmas.{holds_none}
 use Rattle.laws_links.proofs.QuietLemmas.{start_quiet}
 
 -- the empty set has the okays of the empty log

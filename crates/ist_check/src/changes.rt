@@ -1,12 +1,11 @@
 //! Which condition fails for an event by which a caller enters, reserves a row, or acts on a
 //! change.
-ghost use Rattle.std.specs.Prelude.{◌≡◌, ◌↔◌, IsTrue, IfOk};
+ghost use Rattle.std.specs.Prelude.{IfOk};
 ghost use Rattle.ist_core.specs.Snapshots.{Snapshot};
 ghost use Rattle.ist_core.specs.Logs.{Log, state};
 ghost use Rattle.check_events.specs.Mirroring.{Mirrors};
 ghost use Rattle.check_events.specs.Remembering.{KnowsSlots, KnowsWays, KnowsOkays, KnowsUpdates};
 ghost use Rattle.check_fairness.specs.Knowing.{KnowsLists};
-ghost use Rattle.check_events.specs.Ways.{KeysStay};
 ghost use Rattle.ist_check.specs.Failing.{TellsCondition};
 ghost use Rattle.ist_check.specs.Conditions.{enter_says, reserve_says, okay_says, decide_says, resolve_says, count_says};
 
@@ -22,7 +21,8 @@ use std::alloc::{AllocError, Global};
 
 /// Returns the first condition of an Enter that fails, or `None`.
 pub(crate) fn enter_fails(replica: &Replica, caller: u64) -> Option<Condition>
-    ensures exact { (t : Snapshot) → Mirrors replica.now t → TellsCondition (enter_says t caller) result }
+    ensures exact { (t : Snapshot) → Mirrors replica.now t
+        → TellsCondition (enter_says t caller) result }
 {
     first_failing(&[
         test_of(Condition::Number, is_next_caller(replica, caller)),

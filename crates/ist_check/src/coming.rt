@@ -1,5 +1,5 @@
 //! Whether an event may come next after the events so far.
-ghost use Rattle.std.specs.Prelude.{◌≡◌, ◌↔◌, ℕ, List, IsTrue, IfOk};
+ghost use Rattle.std.specs.Prelude.{◌↔◌, ℕ, List, IsTrue, IfOk};
 ghost use Rattle.ist_core.specs.declared.pairs.Pair.{Pair as APair};
 ghost use Rattle.ist_core.specs.StartLayout.{start};
 ghost use Rattle.ist_core.specs.Logs.{Log};

@@ -1,5 +1,5 @@
 //! Which condition of an Install fails.
-ghost use Rattle.std.specs.Prelude.{◌≡◌, ◌↔◌, ℕ, IsTrue};
+ghost use Rattle.std.specs.Prelude.{◌≡◌, ◌↔◌, IsTrue};
 ghost use Rattle.ist_core.specs.Snapshots.{Snapshot};
 ghost use Rattle.ist_core.specs.Logs.{Log, state};
 ghost use Rattle.ist_core.specs.Slots.{SlotHolds};

@@ -8,11 +8,13 @@ ghost use Rattle.check_events.specs.Mirroring.{Mirrors};
 ghost use Rattle.check_events.specs.Remembering.{KnowsSlots, KnowsWays};
 ghost use Rattle.ist_check.specs.Knowing.{Remembers};
 
+use check_builds::{
+    remember_build, remember_draw, remember_leaves, remember_okay, remember_pass, remember_sizes,
+};
 use check_events::{BuildTable, Past, Replica};
 use check_fairness::no_lists;
 use check_state::{
-    remember_build, remember_call, remember_draw, remember_leaves, remember_lists, remember_okay,
-    remember_pass, remember_refusal, remember_sizes, remember_start, remember_target,
+    remember_call, remember_lists, remember_refusal, remember_start, remember_target,
     remember_update, slots_of_start, ways_of_start,
 };
 use ist_core::Event;

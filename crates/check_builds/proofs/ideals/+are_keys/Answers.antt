@@ -1,8 +1,7 @@
 use Rattle.std.proofs.Common.{◌↔◌, ◌≡◌, ◌∙◌, IsTrue, sym, subst}
 use Rattle.check_fairness.proofs.AnswerLemmas.{never}
 use Rattle.check_builds.specs.Built.{key_of_leaf}
-use Rattle.check_builds.proofs.PartCutLemmas.{keys_skip, keys_first, keys_some, rest_keys}
-use Rattle.check_builds.proofs.PartCutLemmas.{none_begins, begins_so}
+use Rattle.check_builds.proofs.PartCutLemmas.{keys_skip, keys_first, keys_some, rest_keys, none_begins, begins_so}
 use Rattle.check_builds.proofs.ideals.+are_keys.Goals as goal
 
 pub returns-then-end-eq0 : goal.returns-then-end-eq0

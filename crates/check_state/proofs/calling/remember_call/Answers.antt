@@ -1,7 +1,6 @@
 -- The set is right after each kind of event.
 use Rattle.std.proofs.lemmas.Result.{on_ok_weaker}
-use Rattle.check_state.proofs.CallEventLemmas.{start_calls, pass_calls, refusal_calls_none}
-use Rattle.check_state.proofs.CallEventLemmas.{others_call_none}
+use Rattle.check_state.proofs.CallEventLemmas.{start_calls, pass_calls, refusal_calls_none, others_call_none}
 use Rattle.check_state.proofs.calling.remember_call.Goals as goal
 
 pub returns-then-not-yes : goal.returns-then-not-yes

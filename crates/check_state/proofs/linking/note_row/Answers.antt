@@ -1,12 +1,6 @@
 use Rattle.std.proofs.Common.{◌≡◌, ◌∙◌, ◌++◌, ◌∷◌, [], List, sym, subst, refl, inl}
 use Rattle.ist_core.proofs.ElementLemmas.{among_right}
-use Rattle.check_state.proofs.WaitingLemmas.{
-  Noted,
-  noted_none,
-  noted_all,
-  noted_one,
-  nothing_waits,
-}
+use Rattle.check_state.proofs.WaitingLemmas.{Noted, noted_none, noted_all, noted_one, nothing_waits}
 use Rattle.check_state.specs.declared.linking.Link.{Link}
 use Rattle.check_state.proofs.linking.note_row.Goals as goal
 

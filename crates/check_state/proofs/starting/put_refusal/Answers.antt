@@ -1,7 +1,7 @@
 use Rattle.std.proofs.Common.{◌∙◌, sym, ap, inl, inr, ⊎_elim}
 use Rattle.check_events.specs.Remembering.{pair_key}
 use Rattle.check_fairness.proofs.TargetLemmas.{held_after}
-use Rattle.check_state.proofs.TableLemmas.{pair_once}
+use Rattle.check_builds.proofs.TableLemmas.{pair_once}
 use Rattle.check_state.proofs.starting.put_refusal.Goals as goal
 
 pub returns : goal.returns

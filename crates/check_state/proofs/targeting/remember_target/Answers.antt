@@ -1,7 +1,6 @@
 -- The set is right after each kind of event.
 use Rattle.std.proofs.lemmas.Result.{on_ok_weaker}
-use Rattle.check_state.proofs.ListingLemmas.{start_targets, refusal_targets_none}
-use Rattle.check_state.proofs.ListingLemmas.{others_target_none}
+use Rattle.check_state.proofs.ListingLemmas.{start_targets, refusal_targets_none, others_target_none}
 use Rattle.check_state.proofs.targeting.remember_target.Goals as goal
 
 pub returns-then-not-yes : goal.returns-then-not-yes

@@ -2,8 +2,8 @@
 use Rattle.std.proofs.Common.{refl, sym}
 use Rattle.ist_core.specs.Rebuilding.{IsUpdate}
 use Rattle.check_events.proofs.MirrorLemmas.{change_stands}
+use Rattle.check_builds.proofs.TableLemmas.{holds_none}
 use Rattle.check_state.proofs.EntryLemmas.{renewed}
-use Rattle.check_state.proofs.TableLemmas.{holds_none}
 use Rattle.check_state.proofs.updating.note_update.Goals as goal
 
 pub returns-in_ok-insert-in-Some : goal.returns-in_ok-insert-in-Some

@@ -2,10 +2,7 @@ use Rattle.std.proofs.Common.{subst, sym}
 use Rattle.ist_core.specs.StartLayout.{start}
 use Rattle.check_events.specs.Remembering.{KnowsWays}
 use Rattle.check_state.proofs.ways.add_ways.Goals as goal
-use Rattle.check_state.proofs.ways.add_ways.Goals.{
-  in-Some-inner_of_word+in_ok-add_way-in-Some+in_ok-put_slots-in-Some,
-  in_default,
-}
+use Rattle.check_state.proofs.ways.add_ways.Goals.{in-Some-inner_of_word+in_ok-add_way-in-Some+in_ok-put_slots-in-Some, in_default}
 
 pub loop-preserved : goal.loop-preserved
 loop-preserved c = λ pairs words log law mirrors k h.

@@ -8,7 +8,7 @@ ghost use Rattle.ist_core.specs.Lawful.{Lawful, state_of};
 ghost use Rattle.check_events.specs.Mirroring.{Mirrors};
 ghost use Rattle.check_events.specs.Remembering.{KnowsLeaves};
 
-use check_builds::add_leaves;
+use crate::leaves::add_leaves;
 use check_events::{FoundLeaf, Replica, finished_keys, rebuild_of_word};
 use ist_core::Event;
 use ist_layout::FINISH_KIND;

@@ -4,9 +4,9 @@ use Rattle.std.specs.Cmp.Lexicographic.{slice_cmp}
 use Rattle.std.specs.Map.{lookup}
 use Rattle.std.specs.Ordering.{nat_cmp}
 use Rattle.check_events.specs.Remembering.{last_with}
-use Rattle.check_state.proofs.BuildTableLemmas.{build_known}
-use Rattle.check_state.proofs.SizesFoundLemmas.{are_sizes, found_after}
-use Rattle.check_state.proofs.remembering.note_build.Goals as goal
+use Rattle.check_builds.proofs.BuildTableLemmas.{build_known}
+use Rattle.check_builds.proofs.SizesFoundLemmas.{are_sizes, found_after}
+use Rattle.check_builds.proofs.remembering.note_build.Goals as goal
 
 pub returns-clause-exact : goal.returns-clause-exact
 returns-clause-exact c log rebuild word known =

@@ -4,9 +4,9 @@ use Rattle.std.specs.BTreeMap as tree
 use Rattle.ist_core.specs.Logs.{Log, Happened, Draws}
 use Rattle.ist_core.specs.declared.events.Event.TheVariants.{Draw}
 use Rattle.check_fairness.specs.Answers.{FindsGreatest}
-use Rattle.check_state.proofs.TableLemmas.{draw_known, most_first, most_later}
-use Rattle.check_state.proofs.remembering.note_draw.Goals as goal
-use Rattle.check_state.proofs.remembering.note_draw.Goals.{in-None, in-Some}
+use Rattle.check_builds.proofs.TableLemmas.{draw_known, most_first, most_later}
+use Rattle.check_builds.proofs.remembering.note_draw.Goals as goal
+use Rattle.check_builds.proofs.remembering.note_draw.Goals.{in-None, in-Some}
 
 pub returns : goal.returns
 returns c =

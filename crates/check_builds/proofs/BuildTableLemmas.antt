@@ -8,30 +8,15 @@ use Rattle.std.specs.BTreeMap as tree
 use Rattle.std.specs.BTreeMap.{BTreeMap}
 use Rattle.ist_core.specs.declared.lists.Row.{Row}
 use Rattle.ist_core.specs.declared.events.Event.{Event}
-use Rattle.ist_core.specs.declared.events.Event.TheVariants.{
-  Enter,
-  Reserve,
-  Install,
-  Okay,
-  Decide,
-  Resolve,
-  Count,
-  Mark,
-  Pass,
-  Finish,
-  Root,
-  Draw,
-  Place,
-  Lose,
-}
+use Rattle.ist_core.specs.declared.events.Event.TheVariants.{Enter, Reserve, Install, Okay, Decide, Resolve, Count, Mark, Pass, Finish, Root, Draw, Place, Lose}
 use Rattle.ist_core.specs.Snapshots.{sizes_of}
 use Rattle.ist_core.specs.Logs.{Log}
 use Rattle.ist_core.specs.Building.{IsBeaten}
 use Rattle.check_events.specs.declared.pasts.BuildTable.{BuildTable}
 use Rattle.check_events.specs.Remembering.{CameAfter, KnowsBuilds, last_with, seen_builds}
 use Rattle.check_fairness.proofs.AnswerLemmas.{iff_trans}
-use Rattle.check_state.proofs.SizesFoundLemmas.{are_sizes, sizes_are, sizes_same}
-use Rattle.check_state.proofs.TableLemmas.{updated_here, updated_other}
+use Rattle.check_builds.proofs.SizesFoundLemmas.{are_sizes, sizes_are, sizes_same}
+use Rattle.check_builds.proofs.TableLemmas.{updated_here, updated_other}
 
 -- a count doesn't come after one that is at least as large
 not_after : (found : Option ℕ) (seen : ℕ) → ((at : ℕ) → found ≡ Some at → at ≤ seen)

@@ -3,7 +3,7 @@ use Rattle.std.proofs.lemmas.Result.{on_ok_weaker}
 use Rattle.ist_core.specs.declared.events.Event.TheVariants.{Reserve}
 use Rattle.ist_core.specs.Snapshots.{sizes_held}
 use Rattle.check_fairness.specs.Knowing.{KeepsSizes}
-use Rattle.check_state.proofs.reserving.remember_sizes.Goals as goal
+use Rattle.check_builds.proofs.reserving.remember_sizes.Goals as goal
 
 same_caller : {a b c x y z : ℕ} → Reserve a b c ≡ Reserve x y z → a ≡ x
 same_caller e = cc

@@ -1,9 +1,9 @@
 use Rattle.std.proofs.Common.{◌∷◌, sym, subst}
 use Rattle.std.proofs.lemmas.Result.{on_ok_weaker}
 use Rattle.check_events.specs.Remembering.{KnowsPasses}
-use Rattle.check_state.specs.Remembered.{PassesAreOne}
-use Rattle.check_state.proofs.TableLemmas.{passes_kept}
-use Rattle.check_state.proofs.remembering.remember_pass.Goals as goal
+use Rattle.check_builds.specs.Passed.{PassesAreOne}
+use Rattle.check_builds.proofs.TableLemmas.{passes_kept}
+use Rattle.check_builds.proofs.remembering.remember_pass.Goals as goal
 
 pub returns-in-Pass : goal.returns-in-Pass
 returns-in-Pass c =

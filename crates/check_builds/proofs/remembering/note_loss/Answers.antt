@@ -1,6 +1,6 @@
 use Rattle.std.proofs.Common.{refl, arith}
-use Rattle.check_state.proofs.BuildTableLemmas.{loss_known}
-use Rattle.check_state.proofs.remembering.note_loss.Goals as goal
+use Rattle.check_builds.proofs.BuildTableLemmas.{loss_known}
+use Rattle.check_builds.proofs.remembering.note_loss.Goals as goal
 
 pub returns-clause-exact : goal.returns-clause-exact
 returns-clause-exact c log bases known =

@@ -1,8 +1,8 @@
 use Rattle.std.proofs.Common.{Some, subst}
 use Rattle.std.specs.Ordering.{nat_cmp}
 use Rattle.std.specs.BTreeMap as tree
-use Rattle.check_state.proofs.TableLemmas.{pass_known}
-use Rattle.check_state.proofs.remembering.note_pass.Goals as goal
+use Rattle.check_builds.proofs.TableLemmas.{pass_known}
+use Rattle.check_builds.proofs.remembering.note_pass.Goals as goal
 
 pub returns : goal.returns
 returns c =

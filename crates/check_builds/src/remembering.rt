@@ -4,7 +4,7 @@ ghost use Rattle.ist_core.specs.Snapshots as snapshots;
 ghost use Rattle.ist_core.specs.Logs.{Log};
 ghost use Rattle.ist_core.specs.declared.events.Event.TheVariants.{Draw, Lose, Pass, Root};
 ghost use Rattle.check_events.specs.Remembering.{KnowsOkays, KnowsPasses, KnowsDraws, KnowsBuilds};
-ghost use Rattle.check_state.specs.Remembered.{PassesAreOne};
+ghost use Rattle.check_builds.specs.Passed.{PassesAreOne};
 
 use check_events::{BuildTable, pair_key};
 use ist_core::{Event, Row};

@@ -1,38 +1,5 @@
 -- What a table says after an insertion. Serves `remembering.rt`.
-use Rattle.std.proofs.Common.{
-  ◌≡◌,
-  ◌≢◌,
-  ◌↔◌,
-  ◌∙◌,
-  ◌≤◌,
-  ◌<◌,
-  ◌^◌,
-  ◌⊎◌,
-  ℕ,
-  [],
-  IsTrue,
-  true,
-  false,
-  eqb,
-  max,
-  ◌∷◌,
-  Option,
-  Some,
-  None,
-  IfSome,
-  Result,
-  Ok,
-  Err,
-  OnOk,
-  refl,
-  sym,
-  ap,
-  subst,
-  inl,
-  inr,
-  ⊎_elim,
-  arith,
-}
+use Rattle.std.proofs.Common.{◌≡◌, ◌≢◌, ◌↔◌, ◌∙◌, ◌≤◌, ◌<◌, ◌^◌, ◌⊎◌, ℕ, [], IsTrue, true, false, eqb, max, ◌∷◌, Option, Some, None, IfSome, Result, Ok, Err, OnOk, refl, sym, ap, subst, inl, inr, ⊎_elim, arith}
 use Rattle.std.proofs.lemmas.Bool.Decides.{eqb_tells, leb_tells}
 use Rattle.std.proofs.lemmas.Grind.{common_steps}
 use Rattle.std.specs.Ordering.{nat_cmp}
@@ -41,26 +8,11 @@ use Rattle.std.specs.BTreeMap.{BTreeMap, is_at}
 use Rattle.std.specs.BTreeSet.{BTreeSet}
 use Rattle.std.specs.List.{list_any}
 use Rattle.ist_core.specs.declared.events.Event.{Event}
-use Rattle.ist_core.specs.declared.events.Event.TheVariants.{
-  Enter,
-  Reserve,
-  Install,
-  Okay,
-  Decide,
-  Resolve,
-  Count,
-  Mark,
-  Pass,
-  Finish,
-  Root,
-  Draw,
-  Place,
-  Lose,
-}
+use Rattle.ist_core.specs.declared.events.Event.TheVariants.{Enter, Reserve, Install, Okay, Decide, Resolve, Count, Mark, Pass, Finish, Root, Draw, Place, Lose}
 use Rattle.ist_core.specs.Logs.{Log, Happened, Draws, Passes}
 use Rattle.check_fairness.specs.Answers.{FindsGreatest, Holds}
 use Rattle.check_events.specs.Remembering.{pair_key, KnowsDraws, KnowsPasses}
-use Rattle.check_state.specs.Remembered.{PassesAreOne}
+use Rattle.check_builds.specs.Passed.{PassesAreOne}
 
 module _ {X : Type 0} (m n : BTreeMap ℕ X) (k : ℕ) (v : X) (u : tree.Updates nat_cmp m n k (Some v))
   where

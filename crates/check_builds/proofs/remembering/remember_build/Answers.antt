@@ -2,8 +2,8 @@ use Rattle.std.proofs.Common.{◌∷◌, ◌∙◌, sym, ap, subst}
 use Rattle.std.proofs.lemmas.Result.{on_ok_weaker}
 use Rattle.ist_core.specs.declared.events.Event.TheVariants.{Root, Place}
 use Rattle.check_events.specs.Remembering.{KnowsBuilds}
-use Rattle.check_state.proofs.BuildTableLemmas.{builds_kept, place_known}
-use Rattle.check_state.proofs.remembering.remember_build.Goals as goal
+use Rattle.check_builds.proofs.BuildTableLemmas.{builds_kept, place_known}
+use Rattle.check_builds.proofs.remembering.remember_build.Goals as goal
 
 pub returns-in-Root-clause-exact : goal.returns-in-Root-clause-exact
 returns-in-Root-clause-exact c =

@@ -1,8 +1,8 @@
 use Rattle.std.proofs.Common.{◌∷◌, sym, subst}
 use Rattle.std.proofs.lemmas.Result.{on_ok_weaker}
 use Rattle.check_events.specs.Remembering.{KnowsDraws}
-use Rattle.check_state.proofs.TableLemmas.{draws_kept}
-use Rattle.check_state.proofs.remembering.remember_draw.Goals as goal
+use Rattle.check_builds.proofs.TableLemmas.{draws_kept}
+use Rattle.check_builds.proofs.remembering.remember_draw.Goals as goal
 
 pub returns-in-Draw : goal.returns-in-Draw
 returns-in-Draw c =

@@ -1,7 +1,7 @@
-use Rattle.check_state.proofs.KeptLeavesLemmas.{kept_on}
+use Rattle.check_builds.proofs.KeptLeavesLemmas.{kept_on}
 use Rattle.std.proofs.lemmas.Result.{on_ok_weaker}
 use Rattle.ist_core.specs.Lawful.{state_of}
-use Rattle.check_state.proofs.placing.remember_leaves.Goals as goal
+use Rattle.check_builds.proofs.placing.remember_leaves.Goals as goal
 
 pub returns-in-Place : goal.returns-in-Place
 returns-in-Place c =
