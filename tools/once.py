@@ -4,7 +4,7 @@ on it. So it spares what `rt` does for the work of an editor:
 
 - the files of a crate are summed up once, and not some three times for each crate below;
 - a library holds what it states, as those that `rt ci` makes, and not its proofs, which those above it would read;
-- no work of a check is kept to go on from, which `rattle` refuses beside that;
+- no work of a check is kept to go on from, nor taken from where another check kept it, which `rattle` refuses beside that;
 - `rt try` doesn't look at names that a proof would refuse, since the proof is begun beside it.
 
     python3 tools/once.py RT WORDS..
@@ -58,6 +58,11 @@ def build_statements(crate, rattle):
     crate.call = call
 
 
+def take_no_work(found):
+    """Has no crate given what a check in another checkout on this machine kept."""
+    found.adopt = lambda *_, **__: None
+
+
 def main(rt, *words):
     sys.dont_write_bytecode = True
     path = os.path.realpath(rt)
@@ -69,6 +74,7 @@ def main(rt, *words):
         os.execv(rt, [rt, *words])
     keep_sums(found.rtlib.Crate)
     build_statements(found.rtlib.Crate, found.rtlib.RATTLE)
+    take_no_work(found)
     if words[:1] == ("try",):
         found.rtlib.RATTLE = shutil.which("true") or found.rtlib.RATTLE
     sys.argv = [path, *words]
