@@ -32,10 +32,8 @@ one_inverted : (ref : Ref) (leaves : List PlacedLeaf) (above : ℕ) (rows : List
     → BuildsRef ref leaves above rows → leaves ≡ leaf ∷ [] → (ref ≡ LeafAt leaf.base) × (rows ≡ [])
 one_inverted _ _ _ _ leaf builds_none e = absurd (cc)
 one_inverted _ _ _ _ leaf (builds_one {leaf = other} same) e =
-    (ap LeafAt (sym same ∙ ap (λ x. x.base) (first other leaf e)), refl)
-  where
-    first : (a b : PlacedLeaf) → a ∷ [] ≡ b ∷ [] → a ≡ b
-    first a b k = cc
+    let first : other ≡ leaf = cc in
+    (ap LeafAt (sym same ∙ ap (λ x. x.base) first), refl)
 one_inverted _ leaves _ _ leaf (builds_more r top below) e = let two = top.two in let one = ap
     length e in absurd (omega arith)
 
@@ -124,20 +122,7 @@ module _ (word : ℕ) (leaves : List PlacedLeaf) (above : ℕ) (rows : List Row)
         let whole : row ∷ following rows ≡ it.row ∷ (it.rest ++ rest) = sym
         (split_first rows row long at) ∙ is ∙ ap (λ xs. xs ++ rest) it.rows_are in
         let bases : InnerAt base ≡ InnerAt it.row.base = same_value (ref_of word) (InnerAt base)
-        (InnerAt it.row.base) names (b.names ∙ ap (λ x. Some x) it.ref_is) in (
-          head it.row row (it.rest ++ rest) (following rows) (sym whole),
-          inner base it.row.base bases,
-          tail row it.row (following rows) (it.rest ++ rest) whole,
-        )
-      where
-        head : (x y : Row) (xs ys : List Row) → x ∷ xs ≡ y ∷ ys → x ≡ y
-        head x y xs ys e = cc
-
-        tail : (x y : Row) (xs ys : List Row) → x ∷ xs ≡ y ∷ ys → xs ≡ ys
-        tail x y xs ys e = cc
-
-        inner : (x y : ℕ) → InnerAt x ≡ InnerAt y → x ≡ y
-        inner x y e = cc
+        (InnerAt it.row.base) names (b.names ∙ ap (λ x. Some x) it.ref_is) in (cc, cc, cc)
 
     -- if the first row isn't the top row, there is no subtree
     pub counts_no_top : ((slots : List ℕ) → ¬ (HasTopSlots row leaves above slots))
@@ -156,13 +141,10 @@ module _ (word : ℕ) (leaves : List PlacedLeaf) (above : ℕ) (rows : List Row)
       below_is it_row r rest same here is_top below =
           let reads : Some (Inner r) ≡ Some (Inner top.top) = sym
           (subst (λ x. inner_of x.words ≡ Some (Inner r)) same is_top.read) ∙ top.is_top.read in
-          let row_same = same_row r top.top reads in
+          let row_same : r ≡ top.top = cc in
           subst (λ ws. BuildsAll ws (parts leaves) base rest) (ap (λ x. x.slots) row_same
           ∙ top.slots_are) (subst (λ n. BuildsAll r.slots (parts leaves) n rest) (sym here)
           below)
-        where
-          same_row : (x y : InnerRow) → Some (Inner x) ≡ Some (Inner y) → x ≡ y
-          same_row x y e = cc
 
       -- if the parts aren't built, there is no subtree
       pub counts_no_parts : CountsRows (λ rs. BuildsAll slots (parts leaves) base rs) (following rows)

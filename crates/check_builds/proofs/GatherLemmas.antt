@@ -99,12 +99,9 @@ module _ (ps : Pieces) where
         all = λ rest h. row_here r e h;
         no_other = λ leaves has.
             let it = reached ps (Some (InnerAt base)) leaves has in
-            let same : it.0 ≡ r = one (ps base) it.0 r it.1 e in
+            let same : it.0 ≡ r = cc (it.1) in
             (leaves, refl, subst (λ x. SlotsHaveLeaves ps x.slots leaves) same it.2);
       }
-    where
-      one : (o : Option Piece) (a b : InnerRow) → o ≡ Some (Inner a) → o ≡ Some (Inner b) → a ≡ b
-      one o a b f g = cc
 
   slots_joined : (xs ys : List ℕ) (here rest : List PlacedLeaf) → SlotsHaveLeaves ps xs here
       → SlotsHaveLeaves ps ys rest → SlotsHaveLeaves ps (xs ++ ys) (here ++ rest)

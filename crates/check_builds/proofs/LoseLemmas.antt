@@ -120,12 +120,9 @@ one_base [] n = absurd (omega arith)
 one_base (x ∷ []) n = refl
 one_base (x ∷ y ∷ xs) n = absurd (omega arith)
 
-head_same : {a b : ℕ} → a ∷ [] ≡ b ∷ [] → a ≡ b
-head_same e = cc
-
 module _ (t : Snapshot) (caller : ℕ) (bases : List ℕ) (one : length bases ≡ 1) where
   same_pair : (h : LosesPair t caller bases) → h.pair ≡ get_or bases 0 0
-  same_pair h = head_same (sym h.bases_are ∙ one_base bases one)
+  same_pair h = cc (sym h.bases_are ∙ one_base bases one)
 
   -- a held pair row may be lost exactly if an inner row has a base above its own
   pub pair_is : HoldsRow t caller (get_or bases 0 0) pair_words

@@ -1,9 +1,9 @@
 -- What is tested of the rows of a Place is what its condition says. Serves `building.rt`.
-use Rattle.std.proofs.Common.{◌≡◌, ◌↔◌, ◌<◌, ℕ, Bool, false, List, [], length, slice_get, Option, Some, None, true, refl, sym, ap, subst}
+use Rattle.std.proofs.Common.{◌≡◌, ◌↔◌, ◌<◌, ℕ, Bool, false, List, [], length, slice_get, Some, None, true, refl, sym, ap, subst}
 use Rattle.ist_core.specs.declared.lists.Row.{Row}
 use Rattle.ist_core.specs.declared.states.RebuildRow.{RebuildRow}
 use Rattle.ist_core.specs.Arithmetic.{part_lens}
-use Rattle.ist_core.specs.References.{Ref, InnerAt, ref_of, unset_word}
+use Rattle.ist_core.specs.References.{InnerAt, ref_of, unset_word}
 use Rattle.ist_core.specs.Parts.{parts}
 use Rattle.ist_core.specs.Pieces.{Rebuild, with_inners}
 use Rattle.ist_core.specs.Snapshots.{Snapshot, bases_of}
@@ -52,23 +52,15 @@ module _ (t : Snapshot) (word i target above : ℕ) (rows : List Row) where
 module _ (word i above : ℕ) (leaves : List PlacedLeaf) (rows : List Row) where
   -- if there is no part i, nothing is built over it
   pub no_such_part : slice_get (parts leaves) i ≡ None → ¬ (IsPartOf word i leaves above rows)
-  no_such_part none h = clash (slice_get (parts leaves) i) none h.part_is
-    where
-      clash : (o : Option (List PlacedLeaf)) → o ≡ None → o ≡ Some h.part → ⊥
-      clash o a b = cc
+  no_such_part none h = cc (h.part_is)
 
   -- the subtree over part i is the part
   pub such_part : (part : List PlacedLeaf) → slice_get (parts leaves) i ≡ Some part
       → BuildsAt word part above rows ↔ IsPartOf word i leaves above rows
   such_part part is = (
     (λ b. record { part = part; part_is = is; builds = b }),
-    (λ h. subst (λ ls. BuildsAt word ls above rows) (same (slice_get (parts leaves) i) h.part part
-        h.part_is is) h.builds),
+    (λ h. subst (λ ls. BuildsAt word ls above rows) (cc (h.part_is)) h.builds),
   )
-    where
-      same : (o : Option (List PlacedLeaf)) (a b : List PlacedLeaf) → o ≡ Some a → o ≡ Some b → a
-          ≡ b
-      same o a b e f = cc
 
 -- a part that the rows are is one that may be placed
 module _ (t : Snapshot) (caller : ℕ) (rows : List Row) (publish : MayPublish t caller rows)
@@ -109,8 +101,7 @@ module _ (t : Snapshot) (caller : ℕ) (rows : List Row) (publish : MayPublish t
     (λ c.
         let same = same_rebuild (t.pieces rebuild) c.row row c.published published in
         let target : c.row.target ≡ row.target = ap (λ r. r.target) same in
-        let base : c.root ≡ root = same_base (ref_of row.root) c.root root
-        (subst (λ r. ref_of r.root ≡ Some (InnerAt c.root)) same c.root_is) root_is in
+        let base : c.root ≡ root = cc (subst (λ r. ref_of r.root ≡ Some (InnerAt c.root)) same c.root_is) in
         record {
           leaves = c.leaves;
           reached = subst (λ n. HasLeaves t.pieces (Some (InnerAt n)) c.leaves) target c.reached;
@@ -127,9 +118,6 @@ module _ (t : Snapshot) (caller : ℕ) (rows : List Row) (publish : MayPublish t
           };
         }),
   )
-    where
-      same_base : (o : Option Ref) (a b : ℕ) → o ≡ Some (InnerAt a) → o ≡ Some (InnerAt b) → a ≡ b
-      same_base o a b e f = cc
 
 -- what a part that may be placed requires of its rows, and of the slot
 module _ (t : Snapshot) (caller rebuild i word : ℕ) (rows : List Row) (c : CanPlace t caller rebuild

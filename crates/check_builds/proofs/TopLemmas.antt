@@ -86,12 +86,9 @@ module _ (row : Row) (leaves : List PlacedLeaf) (above : ℕ) (ws : List ℕ) (i
         slots_are = sym slots_are;
       }
 
-  same_row : (r s : InnerRow) → Some (Inner r) ≡ Some (Inner s) → r ≡ s
-  same_row r s e = cc
-
   -- and a top row has these keys
   pub top_keys : (slots : List ℕ) → HasTopSlots row leaves above slots → take end (from ws 4)
       ≡ wanted_keys
   top_keys slots h =
-      let same = same_row h.top (read_row ws) (sym h.is_top.read ∙ read) in
+      let same : h.top ≡ (read_row ws) = cc (sym h.is_top.read ∙ read) in
       keys_are ∙ sym (ap (λ r. r.keys) same) ∙ h.is_top.keys ∙ sym wanted

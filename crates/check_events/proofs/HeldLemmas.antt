@@ -86,10 +86,7 @@ held_at (h ∷ hs) b row e = at (held_at hs b row) (tells b h.base)
 -- if nothing is found at its base, a row isn't held
 pub none_found : (held : List HeldRow) (row : HeldRow) → BasesRise held
     → lookup (is_at (nat_cmp row.base)) (by_base held) ≡ None → ¬ (Among row held)
-none_found held row r none i = clash (sym none ∙ found_at held row r i)
-  where
-    clash : None ≡ Some row → ⊥
-    clash e = cc
+none_found held row r none i = cc (sym none ∙ found_at held row r i)
 
 -- if a row is found at its base, it is held exactly if it is that row
 pub one_found : (held : List HeldRow) (row found : HeldRow) → BasesRise held

@@ -38,14 +38,8 @@ change_words_are (a ∷ b ∷ d ∷ e ∷ f ∷ g ∷ h ∷ []) c k = cc
 change_words_are (a ∷ b ∷ d ∷ e ∷ f ∷ g ∷ h ∷ i ∷ []) c k = cc
 change_words_are (a ∷ b ∷ d ∷ e ∷ f ∷ g ∷ h ∷ i ∷ j ∷ l ∷ ws) c k = cc
 
-some_same : {a b : ChangeRow} → Some a ≡ Some b → a ≡ b
-some_same e = cc
-
 head_same : {a b : Row} {xs ys : List Row} → a ∷ xs ≡ b ∷ ys → a ≡ b
 head_same e = cc
-
-tail_same : {a b : Row} {xs ys : List Row} → a ∷ xs ≡ b ∷ ys → xs ≡ ys
-tail_same e = cc
 
 -- words from which a change is read are those of its row
 pub reads_change : (words slice : List ℕ) (o : Option ChangeRow) (x : ChangeRow) → slice ≡ words
@@ -62,10 +56,10 @@ module _ (first : Snapshot) (log : Log) (caller base : ℕ) (rows : List Row) (r
   same_change : (h : CanInstall first log caller base rows) → h.change ≡ change
   same_change h =
       let one = head_same (sym whole ∙ h.rows_are) in
-      sym (some_same (sym reads ∙ ap (λ r. change_of r.words) one))
+      sym (cc (sym reads ∙ ap (λ r. change_of r.words) one))
 
   same_fresh : (h : CanInstall first log caller base rows) → h.fresh ≡ following rows
-  same_fresh h = sym (tail_same (sym whole ∙ h.rows_are))
+  same_fresh h = sym (cc (sym whole ∙ h.rows_are))
 
   rows_named : rows ≡ row_at base (Change change) ∷ following rows
   rows_named =

@@ -2,7 +2,7 @@
 use Rattle.std.proofs.Common.{◌≡◌, ◌↔◌, ◌∙◌, ◌≢◌, ℕ, IsTrue, nat_eq, List, [], ◌∷◌, Option, Some, sym, subst, eq-eqb}
 use Rattle.ist_core.specs.declared.states.ChangeRow.{ChangeRow}
 use Rattle.ist_core.specs.declared.lists.Row.{Row}
-use Rattle.ist_core.specs.References.{Ref, Empty, LeafAt, InnerAt, RebuildAt, ref_of}
+use Rattle.ist_core.specs.References.{Ref, Empty, LeafAt, InnerAt, ref_of}
 use Rattle.ist_core.specs.Pieces.{row_at}
 use Rattle.ist_core.specs.Snapshots.{Snapshot}
 use Rattle.ist_core.specs.Logs.{Log, state}
@@ -14,19 +14,12 @@ use Rattle.check_fairness.proofs.AnswerLemmas.{is_equal}
 
 -- ---- words
 
-some_same : {a b : Ref} → Some a ≡ Some b → a ≡ b
-some_same e = cc
-
 one_leaf : (o : Option Ref) (a b : ℕ) → o ≡ Some (LeafAt a) → o ≡ Some (LeafAt b) → a ≡ b
-one_leaf o a b e i = let k : LeafAt a ≡ LeafAt b = some_same (sym e ∙ i) in cc
+one_leaf o a b e i = cc
 
 -- a reference names one inner row
 pub one_target : (o : Option Ref) (a b : ℕ) → o ≡ Some (InnerAt a) → o ≡ Some (InnerAt b) → a ≡ b
-one_target o a b e i = let k : InnerAt a ≡ InnerAt b = some_same (sym e ∙ i) in cc
-
--- a reference names one rebuild
-pub one_renewal : (o : Option Ref) (a b : ℕ) → o ≡ Some (RebuildAt a) → o ≡ Some (RebuildAt b) → a ≡ b
-one_renewal o a b e i = let k : RebuildAt a ≡ RebuildAt b = some_same (sym e ∙ i) in cc
+one_target o a b e i = cc
 
 module _ (t : Snapshot) (word leaf : ℕ) (e : ref_of word ≡ Some (LeafAt leaf)) where
   -- a word names a leaf of the key that its leaf has

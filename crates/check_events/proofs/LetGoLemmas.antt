@@ -75,10 +75,7 @@ module _ (b : ℕ) where
   none_goes held r none = all_stay held (each_of _ held
       (λ h i s. let found = found_at held h r i in
       let same = ap (λ k. lookup (is_at (nat_cmp k)) (by_base held)) s in
-      absurd (clash (sym none ∙ same ∙ found))))
-    where
-      clash : {h : HeldRow} → None ≡ Some h → ⊥
-      clash e = cc
+      absurd (cc (sym none ∙ same ∙ found))))
 
   -- if the row at the base is another caller's, all rows of the caller stay
   pub others_stay : (held : List HeldRow) (row : HeldRow) → BasesRise held
@@ -95,12 +92,9 @@ module _ (b : ℕ) where
       is h (inl k) e = k.1
       is h (inr k) e = cc
 
-      one : (h : HeldRow) → Some row ≡ Some h → row ≡ h
-      one h e = cc
-
       other : (h : HeldRow) → Among h held × ((h.caller == caller) ≡ true) → b ≡ h.base → ⊥
       other h it s =
-          let same = one h (sym found ∙ ap (λ k. lookup (is_at (nat_cmp k)) (by_base held)) s
+          let same : row ≡ h = cc (sym found ∙ ap (λ k. lookup (is_at (nat_cmp k)) (by_base held)) s
           ∙ found_at held h r it.0) in
           ne (sym (is h (eqb_tells h.caller caller) it.1) ∙ ap (λ x. x.caller) (sym same))
 

@@ -16,7 +16,7 @@ use Rattle.ist_core.proofs.ReferenceLemmas.{word_of-ref_of}
 use Rattle.ist_core.proofs.OptionLemmas.{same_rebuild, same_inner}
 use Rattle.ist_core.proofs.ElementLemmas.{get_among}
 use Rattle.check_events.specs.Kinds.{MayBeRebuilt, IsFinishOf}
-use Rattle.check_events.proofs.KindLemmas.{one_target, one_renewal}
+use Rattle.check_events.proofs.KindLemmas.{one_target}
 
 module _ (t : Snapshot) (change : ChangeRow) (fresh : List Row) where
   -- a change from a target to a rebuild is a start exactly if its fresh row is the new rebuild
@@ -41,7 +41,7 @@ module _ (t : Snapshot) (change : ChangeRow) (fresh : List Row) where
     }),
     (λ h.
         let same = one_target (ref_of change.from) h.target target h.from from in
-        let alike = one_renewal (ref_of change.to) h.rebuild rebuild h.to to in
+        let alike : h.rebuild ≡ rebuild = cc (h.to) in
         subst (λ o. fresh ≡ row_at o (new_rebuild change target) ∷ []) alike
         (subst (λ n. fresh ≡ row_at h.rebuild (new_rebuild change n) ∷ []) same h.fresh_are)),
   )
@@ -76,7 +76,7 @@ module _ (t : Snapshot) (change : ChangeRow) (fresh : List Row) where
       fresh_are = none;
     }),
     (λ h.
-        let same = one_renewal (ref_of change.from) h.rebuild rebuild h.from from in
+        let same : h.rebuild ≡ rebuild = cc (h.from) in
         subst (λ o. IsFinishOf t change o) same record {
           row = h.row;
           published = h.published;

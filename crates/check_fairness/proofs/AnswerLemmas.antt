@@ -32,10 +32,6 @@ pub is_not : (b : Bool) (P : Type 0) → (IsTrue b ↔ P) → b ≡ false → ¬
 is_not true P i e = cc
 is_not false P i e = λ p. true≢false (sym (i.1 p))
 
--- a test has one result
-pub clash : {b found : Bool} → b ≡ found → found ≡ false → ¬ (b ≡ true)
-clash is none some = cc
-
 -- one fact says the same as a second, and that the same as a third
 pub iff_trans : {P Q R : Type 0} → (P ↔ Q) → (Q ↔ R) → P ↔ R
 iff_trans a b = ((λ p. b.0 (a.0 p)), (λ r. a.1 (b.1 r)))

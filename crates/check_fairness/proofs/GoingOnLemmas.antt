@@ -23,9 +23,6 @@ some_left lists before sizes left next r k =
 
 -- ---- what goes on
 
-some_is : {x y : KeptReadings} → Some x ≡ Some y → x ≡ y
-some_is e = cc
-
 module _ (all : BTreeMap ℕ KeptReadings) (lists : List (List ℕ)) (caller : ℕ) (sizes : List ℕ) where
   -- nothing goes on if nothing is kept for the caller
   pub none_goes_on : tree.get nat_cmp all caller ≡ None → IsTrue false ↔ GoOnFrom all lists caller sizes
@@ -40,8 +37,9 @@ module _ (all : BTreeMap ℕ KeptReadings) (lists : List (List ℕ)) (caller : �
       → IsTrue b ↔ GoOnFrom all lists caller sizes
   kept_goes_on kept b found i = (
     (λ y. record { kept = kept; found = found; read = i.0 y }),
-    (λ g. i.1 (subst (λ (k : KeptReadings). CanBeRead (take k.lists lists) sizes)
-        (some_is (sym g.found ∙ found)) g.read)),
+    (λ g.
+        let same : g.kept ≡ kept = cc (sym g.found ∙ found) in
+        i.1 (subst (λ (k : KeptReadings). CanBeRead (take k.lists lists) sizes) same g.read)),
   )
 
   -- the sizes after those that were kept are read on from what is left there

@@ -1,5 +1,5 @@
 -- What is kept of readings, and one size further. Serves `keeping.rt`.
-use Rattle.std.proofs.Common.{◌≡◌, ◌↔◌, ◌∙◌, ◌⊎◌, ◌+◌, ◌<◌, ◌≤◌, true, ℕ, zero, suc, List, [], ◌∷◌, ◌++◌, length, map, take, Vec, Global, Some, None, refl, sym, ap, subst, inl, inr, ⊎_elim, append_assoc, arith, length-append}
+use Rattle.std.proofs.Common.{◌≡◌, ◌↔◌, ◌∙◌, ◌⊎◌, ◌+◌, ◌<◌, ◌≤◌, true, ℕ, zero, suc, List, [], ◌∷◌, ◌++◌, length, map, take, Vec, Global, refl, sym, ap, subst, inl, inr, ⊎_elim, append_assoc, arith, length-append}
 use Rattle.std.specs.Prelude.{slice_index_or}
 use Rattle.std.proofs.lemmas.List.{length-take-le, take-append-le, take_all, take-map, length-map}
 use Rattle.std.specs.BTreeMap.{BTreeMap}
@@ -55,10 +55,7 @@ at_end (suc i) (w ∷ all) v h = at_end i all v (omega arith)
 -- nothing is known if nothing is kept
 pub none_kept : (all : BTreeMap ℕ KeptReadings) (lists : List (List ℕ)) → all.entries ≡ []
     → KnowsReadings all lists
-none_kept all lists empty caller kept e = absurd (clash (sym (finds_none all caller empty) ∙ e))
-  where
-    clash : None ≡ Some kept → ⊥
-    clash h = cc
+none_kept all lists empty caller kept e = absurd (cc (sym (finds_none all caller empty) ∙ e))
 
 -- what was kept is right with more lists too
 kept_stays : (old new : List (List ℕ)) (kept : KeptReadings) → BeginsWith old new → IsKept old kept

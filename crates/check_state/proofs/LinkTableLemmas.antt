@@ -17,7 +17,6 @@ use Rattle.ist_core.specs.Lawful.{CanOpen, EachEnabled, state_of}
 use Rattle.ist_core.proofs.RowLemmas.{changed_at-same}
 use Rattle.ist_core.proofs.OptionLemmas.{same_change}
 use Rattle.ist_core.proofs.PrefixLemmas.{ever_now}
-use Rattle.ist_core.proofs.YesLemmas.{same_base}
 use Rattle.laws_links.proofs.ChildLemmas.{read_child}
 use Rattle.laws_links.proofs.LinkLemmas.{yes_linked_after}
 use Rattle.laws_links.proofs.ReadEventLemmas.{decide_reads}
@@ -112,7 +111,7 @@ module _ (pairs : List Pair) (words : ℕ) (opens : CanOpen pairs words) where
         → Brings after_yes base node i child
     new_brings node i child n =
         let b = n.brings in
-        let same = same_base caller base b.caller b.base b.event_is in
+        let same : base ≡ b.base = cc (b.event_is) in
         let hangs =
         subst (λ m. Hangs after_yes m b.change.index node i child) (sym b.node_is)
         (subst (λ j. Hangs after_yes n.top j node i child) (sym b.index_is) n.hangs) in

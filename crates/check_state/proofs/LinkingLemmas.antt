@@ -120,15 +120,9 @@ module _ (pairs : List Pair) (words : ℕ) (opens : CanOpen pairs words) where
 
       by_form : IsFormed t can.change
           → IsChild t node i child ⊎ BringsTo log (Decide caller base true) node i
-      by_form (of_leaf_put f) = absurd (clash (leads_to (LeafAt f.leaf) f.to))
-        where
-          clash : Some (LeafAt f.leaf) ≡ Some (InnerAt child) → ⊥
-          clash q = cc
+      by_form (of_leaf_put f) = absurd (cc (leads_to (LeafAt f.leaf) f.to))
       by_form (of_pair_put f) = inr (brings f.pair f.to)
-      by_form (of_remove f) = absurd (clash (leads_to Empty f.to))
-        where
-          clash : Some Empty ≡ Some (InnerAt child) → ⊥
-          clash q = cc
+      by_form (of_remove f) = absurd (cc (leads_to Empty f.to))
       by_form (of_start f) =
           let now =
           leads_grows t u (grow_after pairs words log (Decide caller base true) h)
@@ -145,19 +139,10 @@ module _ (pairs : List Pair) (words : ℕ) (opens : CanOpen pairs words) where
           by_root : (o : Option Ref) → ref_of f.row.root ≡ o → RootNames t.pieces f.row.target o
               → IsChild t node i child ⊎ BringsTo log (Decide caller base true) node i
           by_root (Some (InnerAt b)) is k = inr (brings b (ap ref_of f.to ∙ is))
-          by_root (Some Empty) is k = absurd (clash (leads_to Empty (ap ref_of f.to ∙ is)))
-            where
-              clash : Some Empty ≡ Some (InnerAt child) → ⊥
-              clash q = cc
-          by_root (Some Unset) is k = absurd (clash (leads_to Unset (ap ref_of f.to ∙ is)))
-            where
-              clash : Some Unset ≡ Some (InnerAt child) → ⊥
-              clash q = cc
+          by_root (Some Empty) is k = absurd (cc (leads_to Empty (ap ref_of f.to ∙ is)))
+          by_root (Some Unset) is k = absurd (cc (leads_to Unset (ap ref_of f.to ∙ is)))
           by_root (Some (LeafAt b)) is k =
-              absurd (clash (leads_to (LeafAt b) (ap ref_of f.to ∙ is)))
-            where
-              clash : Some (LeafAt b) ≡ Some (InnerAt child) → ⊥
-              clash q = cc
+              absurd (cc (leads_to (LeafAt b) (ap ref_of f.to ∙ is)))
           by_root (Some (ChangeAt b)) is k = absurd k
           by_root (Some (RebuildAt b)) is k = absurd k
           by_root None is k = absurd k

@@ -1,6 +1,6 @@
 -- What a table of slots says of a lawful log, and what follows from its entries. Serves
 -- `linking.rt`.
-use Rattle.std.proofs.Common.{◌≡◌, ◌↔◌, ◌≤◌, ℕ, List, [], ◌∷◌, Option, Some, None, refl, sym, subst, inr, ⊎_elim, arith}
+use Rattle.std.proofs.Common.{◌≡◌, ◌↔◌, ◌≤◌, ℕ, List, [], ◌∷◌, Some, None, refl, sym, subst, inr, ⊎_elim, arith}
 use Rattle.std.proofs.lemmas.Grind.{common_steps}
 use Rattle.std.specs.Ordering.{nat_cmp}
 use Rattle.std.specs.BTreeMap as tree
@@ -26,10 +26,6 @@ use Rattle.check_state.specs.Hanging.{Hangs, hangs_here, HasSlot, AddsSlots, Han
 use Rattle.check_state.proofs.HangingLemmas.{hangs_child, hangs_linked, hangs_on}
 
 -- ---- no entries
-
--- `None` isn't some slot
-no_entry : {o : Option Slot} (slot : Slot) → o ≡ None → o ≡ Some slot → ⊥
-no_entry slot none e = cc
 
 -- an empty table has no slot
 pub empty_table : (empty : BTreeMap ℕ Slot) → tree.IsEmpty empty → (child : ℕ)
@@ -130,7 +126,7 @@ module _ (pairs : List Pair) (words : ℕ) (opens : CanOpen pairs words) where
       → ((child : ℕ) → tree.get nat_cmp empty child ≡ None)
       → HangsOnce empty (start pairs words)
   once_at_start empty none =
-      hangs_once [] [] same_log tt empty (λ child slot e. absurd (no_entry slot (none child) e))
+      hangs_once [] [] same_log tt empty (λ child slot e. absurd (cc (none child)))
 
   -- what is linked hangs below the anchor's slot
   hangs_from_anchor : (t : Snapshot) → t.pieces anchor ≡ None → (node i child : ℕ) → Linked t node
@@ -151,7 +147,7 @@ module _ (pairs : List Pair) (words : ℕ) (opens : CanOpen pairs words) where
   knows_start empty slots none adds =
       knows [] tt slots
       (λ node i child. (
-        (λ e. ⊎_elim (λ o. absurd (no_entry (record { node = node; index = i }) (none child) o))
+        (λ e. ⊎_elim (λ o. absurd (cc (none child)))
             (λ p. linked node i child p) ((adds node i child).0 e)),
         (λ h. (adds node i child).1
             (inr (hangs_from_anchor t (anchor_free pairs words [] tt) node i child h.0 h.1))),

@@ -1,6 +1,6 @@
 -- Rows that wait to be remembered: what was remembered so far, with what hangs by those, is what hangs by the first.
 -- Serves `linking.rt`.
-use Rattle.std.proofs.Common.{◌≡◌, ◌↔◌, ◌∙◌, ◌<◌, ◌+◌, ◌-◌, ◌⊎◌, ℕ, take, List, [], ◌∷◌, ◌++◌, length, slice_get, Option, Some, None, refl, sym, ap, subst, inl, inr, ⊎_elim, arith}
+use Rattle.std.proofs.Common.{◌≡◌, ◌↔◌, ◌∙◌, ◌<◌, ◌+◌, ◌-◌, ◌⊎◌, ℕ, take, List, [], ◌∷◌, ◌++◌, length, slice_get, Some, None, refl, sym, ap, subst, inl, inr, ⊎_elim, arith}
 use Rattle.std.proofs.lemmas.List.{append-nil}
 use Rattle.std.specs.Ordering.{nat_cmp}
 use Rattle.std.specs.BTreeMap as tree
@@ -8,7 +8,7 @@ use Rattle.std.specs.BTreeMap.{BTreeMap}
 use Rattle.ist_core.specs.declared.states.InnerRow.{InnerRow}
 use Rattle.ist_core.specs.Elements.{Among}
 use Rattle.ist_core.specs.RowLayout.{anchor}
-use Rattle.ist_core.specs.References.{Ref, InnerAt}
+use Rattle.ist_core.specs.References.{InnerAt}
 use Rattle.ist_core.specs.Pieces.{Inner}
 use Rattle.ist_core.specs.Snapshots.{Snapshot}
 use Rattle.ist_core.specs.Slots.{logical}
@@ -205,7 +205,7 @@ module _ (t : Snapshot) where
         (λ b. ⊎_elim (λ e. inr (at l e)) (λ none. absurd none) b)
         (among-append l old (link ∷ []) (subst (Among l) is a))),
     (λ h. subst (Among l) (sym is) (⊎_elim (λ o. among_left l old (link ∷ []) o)
-        (λ p. among_right l old (link ∷ []) (inl (same l p.0 p.1 (named l p.2)))) h)),
+        (λ p. among_right l old (link ∷ []) (inl (same l p.0 p.1 (cc (p.2))))) h)),
   )
     where
       link : Link
@@ -218,12 +218,6 @@ module _ (t : Snapshot) where
         ap (λ x. x.index) e,
         reads ∙ ap (λ x. Some (InnerAt x)) (sym (ap (λ x. x.child) e)),
       )
-
-      named : (l : Link) → logical t.pieces word ≡ Some (InnerAt l.child) → l.child ≡ child
-      named l e = one (logical t.pieces word) l.child e reads
-        where
-          one : (o : Option Ref) (a : ℕ) → o ≡ Some (InnerAt a) → o ≡ Some (InnerAt child) → a ≡ child
-          one o a f g = cc
 
       same : (l : Link) → l.node ≡ node → l.index ≡ i → l.child ≡ child → l ≡ link
       same l a b c = λ k. record { node = a k; index = b k; child = c k }

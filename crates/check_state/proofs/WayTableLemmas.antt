@@ -1,6 +1,6 @@
 -- The ways that a table has stay right after a longer log; and which keys lead to one child of a
 -- node. Serves `ways.rt`.
-use Rattle.std.proofs.Common.{◌≡◌, ◌↔◌, ◌≢◌, ◌∙◌, ◌⊎◌, ◌≤◌, ◌<◌, ◌+◌, ◌-◌, ◌^◌, ℕ, List, ◌∷◌, length, get_or, Option, Some, None, sym, ap, subst, inl, inr, ⊎_elim, arith}
+use Rattle.std.proofs.Common.{◌≡◌, ◌↔◌, ◌≢◌, ◌∙◌, ◌⊎◌, ◌≤◌, ◌<◌, ◌+◌, ◌-◌, ◌^◌, ℕ, List, ◌∷◌, length, get_or, Some, None, sym, ap, subst, inl, inr, ⊎_elim, arith}
 use Rattle.std.proofs.lemmas.Grind.{common_steps}
 use Rattle.std.specs.Ordering.{nat_cmp}
 use Rattle.std.specs.BTreeMap as tree
@@ -54,11 +54,8 @@ same_or_not a b = grind arith
 -- an empty table has no way
 pub no_ways : (first : Snapshot) (log : Log) (empty : BTreeMap ℕ RowWay) → tree.IsEmpty empty
     → KnowsWays empty first log
-no_ways first log empty none node way e = absurd (clash (empty_map empty none node) e)
+no_ways first log empty none node way e = absurd (cc (empty_map empty none node))
   where
-    clash : {o : Option RowWay} → o ≡ None → o ≡ Some way → ⊥
-    clash a b = cc
-
     empty_map : (m : BTreeMap ℕ RowWay) → tree.IsEmpty m → (n : ℕ) → tree.get nat_cmp m n ≡ None
     empty_map m h n = grind (arith, common_steps)
 

@@ -22,20 +22,14 @@ use Rattle.ist_rows.proofs.ShortLemmas.{short_from}
 
 -- ---- leaves
 
-head_same : (x y : ℕ) (xs : List ℕ) → x ∷ xs ≡ y ∷ [] → x ≡ y
-head_same x y xs e = cc
-
-nothing_is_something : (y : ℕ) → [] ≡ y ∷ [] → ⊥
-nothing_is_something y e = cc
-
 -- the leaf that was read is the one with this number
 pub leaf_number : (leaves : List PlacedLeaf) (i base : ℕ)
     → map (λ leaf. leaf.base) (take 1 (drop i leaves)) ≡ base ∷ []
     → IsLeafAmong leaves i (LeafAt base)
-leaf_number [] zero base e = absurd (nothing_is_something base e)
-leaf_number [] (suc i) base e = absurd (nothing_is_something base e)
+leaf_number [] zero base e = absurd (cc)
+leaf_number [] (suc i) base e = absurd (cc)
 leaf_number (leaf ∷ leaves) zero base e =
-    record { leaf = leaf; there = refl; ref_is = ap LeafAt (sym (head_same leaf.base base [] e)) }
+    record { leaf = leaf; there = refl; ref_is = ap LeafAt (sym (cc)) }
 leaf_number (leaf ∷ leaves) (suc i) base e =
     let it = leaf_number leaves i base e in
     record { leaf = it.leaf; there = it.there; ref_is = it.ref_is }

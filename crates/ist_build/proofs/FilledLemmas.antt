@@ -1,11 +1,10 @@
 -- A root whose slots are all set is filled. Serves `filling`.
 use Rattle.std.proofs.Common.{◌≡◌, ◌≢◌, ℕ, ◌+◌, ◌/◌, ◌^◌, ◌<◌, ◌≤◌, slice_get, Some, None, refl, sym, ap, ◌∙◌, subst, arith}
 use Rattle.ist_core.specs.declared.ports.Full.{Full}
-use Rattle.ist_core.specs.declared.states.InnerRow.{InnerRow}
 use Rattle.ist_core.specs.Arithmetic.{degree}
 use Rattle.ist_core.specs.Growing.{AllGrow}
 use Rattle.ist_core.specs.Marking.{HasTarget}
-use Rattle.ist_core.specs.Pieces.{Inner, Rebuild}
+use Rattle.ist_core.specs.Pieces.{Rebuild}
 use Rattle.ist_core.specs.Rebuilding.{IsFinishedWith}
 use Rattle.ist_core.specs.References.{InnerAt, ref_of, unset_word}
 use Rattle.ist_core.specs.RowLayout.{rebuild_root_offset}
@@ -50,10 +49,6 @@ form_of v s rebuild k told h =
     root_has_form v.start v.words s.lawful.opens v.log s.lawful.enabled rebuild k h.row h.published
     h.set (subst (λ r. IsFinishedWith (now v) r.target k) row_is told.finished)
 
-same_row : (v : View) (base : ℕ) (r s : InnerRow) → (now v).pieces base ≡ Some (Inner r)
-    → (now v).pieces base ≡ Some (Inner s) → r ≡ s
-same_row v base r s e f = cc
-
 -- over few keys the root is filled
 pub few_filled : (v : View) → IsSound v → (rebuild k : ℕ) → IsTold (now v) rebuild k
     → IsRooted (now v) rebuild → k < share_from → IsBuiltOut (now v) rebuild
@@ -76,9 +71,9 @@ few_filled v s rebuild k told h few =
         clash : (x : IsWholeRow (now v) base) → (now v).pieces base ≡ None → ⊥
         clash x e = let p = x.published in cc
     by base i word it (in_row r e got) =
-        λ is. it.set i (ap (λ x. slice_get x.slots i) (same_row v base it.row r it.published e) ∙
-        got
-        ∙ ap (λ x. Some x) is)
+        λ is.
+        let row_is : it.row ≡ r = cc (it.published) in
+        it.set i (ap (λ x. slice_get x.slots i) row_is ∙ got ∙ ap (λ x. Some x) is)
 
 -- over many keys it is filled if each slot is set
 pub many_filled : (v : View) → IsSound v → (rebuild target root k : ℕ)
@@ -91,24 +86,17 @@ many_filled v s rebuild target root k sh all =
       built = record {
         set = set_by sh.row.root _ sh.root_is (λ q. cc);
         whole = λ base i word e holds.
-            by i word (subst (λ n. SlotHolds (now v) n i word) (one base root (sym e ∙ sh.root_is))
+            by i word (subst (λ n. SlotHolds (now v) n i word) (cc (sym e ∙ sh.root_is))
             holds);
       };
     }
   where
-    one : (a b : ℕ) → Some (InnerAt a) ≡ Some (InnerAt b) → a ≡ b
-    one a b e = cc
-
     by : (i word : ℕ) → SlotHolds (now v) root i word → word ≢ unset_word
     by i word (in_anchor a b e) =
-        absurd (clash (ap (now v).pieces a ∙ anchor_free v.start v.words v.log s.lawful.enabled)
-        sh.node.published)
-      where
-        clash : (now v).pieces root ≡ None → (now v).pieces root ≡ Some (Inner sh.node.row) → ⊥
-        clash e f = cc
+        absurd (cc (ap (now v).pieces a ∙ anchor_free v.start v.words v.log s.lawful.enabled, sh.node.published))
     by i word (in_row r e got) =
         λ is.
-        let row_is = same_row v root sh.node.row r sh.node.published e in
+        let row_is : sh.node.row ≡ r = cc (sh.node.published) in
         let d = has_degree v.start v.words v.log s.lawful.enabled root r e in
         let many = d.slots in
         let degree_is : r.degree ≡ degree k = ap (λ x. x.degree) (sym row_is) ∙ sh.node.degree_is in

@@ -50,15 +50,12 @@ module _ (pairs : List Pair) (words number : ℕ) where
   reserve_more old log caller base size can le rest =
       ⊎_elim (λ k. mine k.0) (λ k. others k.1) (eqb_tells caller number)
     where
-      same_number : (a b : ℕ) → CallerOf a ≡ CallerOf b → a ≡ b
-      same_number a b e = cc
-
       others : caller ≢ number → HoldsMore pairs words number old (Reserve caller base size ∷ log)
       others differ =
           record {
             fresh = rest.fresh;
             is = held_by_step pairs words log (Reserve caller base size) number can
-                (λ e. differ (same_number caller number e)) ∙ rest.is;
+                (λ e. differ (cc)) ∙ rest.is;
             high = rest.high;
             rising = rest.rising;
           }
@@ -132,10 +129,7 @@ module _ (pairs : List Pair) (words number : ℕ) where
 -- an equal front of two equal lists cancels
 pub cancel : (xs ys zs : List ℕ) → xs ++ ys ≡ xs ++ zs → ys ≡ zs
 cancel [] ys zs e = e
-cancel (x ∷ xs) ys zs e = cancel xs ys zs (tail (xs ++ ys) (xs ++ zs) e)
-  where
-    tail : (ms bs : List ℕ) → x ∷ ms ≡ x ∷ bs → ms ≡ bs
-    tail ms bs f = cc
+cancel (x ∷ xs) ys zs e = cancel xs ys zs (cc)
 
 -- words that a caller stored one after another
 words_stored : (own : List OwnWord) (place : ℕ) (words : List ℕ)

@@ -133,18 +133,10 @@ pub key_first : (t : Snapshot) (bases keys : List ℕ) → AreKeysOf t bases key
     (others : List PlacedLeaf) → leaf.base ∷ map (λ l. l.base) others ≡ bases
     → t.pieces leaf.base ≡ Some (Leaf leaf.row) → slice_index_or keys 0 0 ≡ leaf.row.key
 key_first t (base ∷ bases) (key ∷ keys) h leaf others is there =
-    h.0.key_is ∙ ap (λ (r : LeafRow). r.key) (same_leaf (t.pieces base) h.0.row leaf.row
-    h.0.published (ap t.pieces (sym (head_same leaf.base base _ bases is)) ∙ there))
-  where
-    head_same : (x y : ℕ) (xs ys : List ℕ) → x ∷ xs ≡ y ∷ ys → x ≡ y
-    head_same x y xs ys e = cc
-
-    same_leaf : (o : _) (r s : LeafRow) → o ≡ Some (Leaf r) → o ≡ Some (Leaf s) → r ≡ s
-    same_leaf o r s e f = cc
-key_first t [] [] h leaf others is there = absurd (none leaf.base _ is)
-  where
-    none : (x : ℕ) (xs : List ℕ) → x ∷ xs ≡ [] → ⊥
-    none x xs e = cc
+    let first : leaf.base ≡ base = cc in
+    let row : h.0.row ≡ leaf.row = cc (h.0.published, ap t.pieces (sym first) ∙ there) in
+    h.0.key_is ∙ ap (λ (r : LeafRow). r.key) row
+key_first t [] [] h leaf others is there = absurd (cc)
 key_first t [] (key ∷ keys) h leaf others is there = absurd h
 key_first t (base ∷ bases) [] h leaf others is there = absurd h
 

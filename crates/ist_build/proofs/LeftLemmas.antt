@@ -134,14 +134,11 @@ module _ (v : View) (s : IsSound v) where
       → IsSlotSet (now v) node i → slot_is_set ((now v).pieces node) i ≡ true
   set_shut node i row there h = by h.word h.holds h.set
     where
-      clash : (o : Option Piece) → o ≡ None → o ≡ Some (Inner row) → ⊥
-      clash o e f = cc
-
       by : (word : ℕ) → SlotHolds (now v) node i word → word ≢ unset_word
           → slot_is_set ((now v).pieces node) i ≡ true
       by word (in_anchor a b e) set =
-          absurd (clash ((now v).pieces node) (ap (now v).pieces a
-          ∙ anchor_free v.start v.words v.log s.lawful.enabled) there)
+          absurd (cc (ap (now v).pieces a
+          ∙ anchor_free v.start v.words v.log s.lawful.enabled))
       by word (in_row r e got) set = row_slot (now v) node i word r e got ∙ word_set word set
 
 -- and the other way round

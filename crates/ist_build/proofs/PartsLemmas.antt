@@ -1,5 +1,6 @@
 -- The first parts and the others, as a build goes through them. Serves `building`.
-use Rattle.std.proofs.Common.{◌≡◌, ℕ, suc, ◌+◌, ◌-◌, ◌<◌, List, [], ◌∷◌, ◌++◌, map, refl, ap, ◌∙◌, arith}
+use Rattle.std.proofs.Common.{◌≡◌, ℕ, suc, ◌+◌, ◌-◌, ◌<◌, [], ◌∷◌, ◌++◌, map, ap, ◌∙◌, arith}
+use Rattle.std.proofs.lemmas.List.{append-nil}
 use Rattle.std.specs.List.{flat_map, range_with_len}
 use Rattle.std.proofs.lemmas.List.Concat.{flat_map-append, flat_map-cons}
 use Rattle.ist_core.specs.Arithmetic.{degree, part_len, part_lens}
@@ -38,11 +39,7 @@ sizes_next n j =
     ap (flat_map shape) (lens_more n j)
     ∙ flat_map-append shape (lens_to n j) (part_len n j ∷ [])
     ∙ ap (λ xs. flat_map shape (lens_to n j) ++ xs)
-    (flat_map-cons shape (part_len n j) [] ∙ nil (shape (part_len n j)))
-  where
-    nil : (xs : List ℕ) → xs ++ [] ≡ xs
-    nil [] = refl
-    nil (x ∷ xs) = ap (λ ys. x ∷ ys) (nil xs)
+    (flat_map-cons shape (part_len n j) [] ∙ append-nil (shape (part_len n j)))
 
 -- and of one fewer
 pub sizes_left : (n j : ℕ) → j < degree n

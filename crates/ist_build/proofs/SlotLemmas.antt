@@ -177,9 +177,6 @@ module _ {v : View} {place word : ℕ} {w : View} (l : Looked v place word w) {n
           ∙ ref_of-word_of (ChangeAt x.base)
           (good_base w s x.base (Change x.change) x.published (omega arith))))
 
-  one_base : (a b : ℕ) → Some (ChangeAt a) ≡ Some (ChangeAt b) → a ≡ b
-  one_base a b e = cc
-
   -- and a change would take it out
   pub passed_change : {change : ℕ} → ref_of word ≡ Some (ChangeAt change)
       → (row : ChangeRow) × ((now w).pieces change ≡ Some (Change row))
@@ -194,7 +191,7 @@ module _ {v : View} {place word : ℕ} {w : View} (l : Looked v place word w) {n
           (ap ref_of (sym (once passed.0 k)) ∙ is))
       at (holds_change x) =
           let same : change ≡ x.base =
-          one_base change x.base (sym is ∙ ap ref_of (once (word_of (ChangeAt x.base)) x.in_slot)
+          cc (sym is ∙ ap ref_of (once (word_of (ChangeAt x.base)) x.in_slot)
           ∙ ref_of-word_of (ChangeAt x.base)
           (good_base w s x.base (Change x.change) x.published (omega arith))) in (
             x.change,

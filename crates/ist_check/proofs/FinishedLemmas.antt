@@ -19,9 +19,6 @@ use Rattle.ist_check.specs.Published.{HasRebuild, IsFinishedSo}
 pub shared_from : (k : ℕ) → IsTrue (leb 256 k) ↔ (share_from ≤ k)
 shared_from k = at (leb_tells 256 k)
   where
-    clash : leb 256 k ≡ false → leb 256 k ≡ true → ⊥
-    clash p q = cc
-
     at : ((leb 256 k ≡ true) × (256 ≤ k)) ⊎ ((leb 256 k ≡ false) × (k < 256))
         → IsTrue (leb 256 k) ↔ (share_from ≤ k)
     at (inl p) =
@@ -31,7 +28,7 @@ shared_from k = at (leb_tells 256 k)
     at (inr p) =
         let from = share_from_is in
         let low = p.1 in
-        ((λ y. absurd (clash p.0 y)), (λ l. absurd (omega arith)))
+        ((λ y. absurd (cc (p.0))), (λ l. absurd (omega arith)))
 
 -- the rebuild that the replica has at the base
 module _ (s : Replica) (t : Snapshot) (base : ℕ) (row : RebuildRow) (mirrors : Mirrors s t)

@@ -1,5 +1,5 @@
 -- The tables of a new table: nothing happened yet. Serves `remembering.rt`.
-use Rattle.std.proofs.Common.{map, ◌≡◌, ◌≤◌, ◌∙◌, ℕ, List, [], ◌∷◌, ◌++◌, Some, None, sym, ap, subst, arith}
+use Rattle.std.proofs.Common.{map, ◌≡◌, ◌≤◌, ◌∙◌, ℕ, List, [], ◌∷◌, ◌++◌, None, sym, ap, subst, arith}
 use Rattle.std.specs.Ordering.{nat_cmp}
 use Rattle.std.specs.BTreeMap as tree
 use Rattle.std.specs.BTreeMap.{BTreeMap, is_at}
@@ -40,13 +40,10 @@ no_draws m empty caller rebuild _ _ = subst (FindsGreatest (λ part. ⊥)) (sym 
 -- the empty map has the passes of the empty log
 pub no_passes : (m : BTreeMap ℕ ℕ) → m.entries ≡ [] → KnowsPasses m []
 no_passes m empty node i word _ _ = (
-  λ h. absurd (clash (sym (finds_none m _ empty) ∙ h)),
+  λ h. absurd (cc (sym (finds_none m _ empty) ∙ h)),
   λ h.
       absurd h,
 )
-  where
-    clash : None ≡ Some word → ⊥
-    clash e = cc
 
 -- the empty table has the builds of the empty log
 pub no_builds : (builds : BuildTable) → builds.last.entries ≡ [] → builds.since.entries ≡ []
@@ -54,7 +51,7 @@ pub no_builds : (builds : BuildTable) → builds.last.entries ≡ [] → builds.
 no_builds builds none empty =
     record {
       beaten = λ caller sizes. ((λ h. absurd (subst (λ o. CameAfter o (seen caller)) (found sizes) h)), (λ h. absurd h));
-      came = λ sizes at e. absurd (clash at (sym (found sizes) ∙ e));
+      came = λ sizes at e. absurd (cc (sym (found sizes) ∙ e));
       seen = λ caller. subst (λ o. seen_builds o ≤ builds.count)
           (sym (finds_none builds.since caller empty)) few;
     }
@@ -64,9 +61,6 @@ no_builds builds none empty =
 
     found : (sizes : List ℕ) → last_with builds sizes ≡ None
     found sizes = ap (lookup (is_at (λ v. slice_cmp nat_cmp sizes v.items))) none
-
-    clash : (at : ℕ) → None ≡ Some at → ⊥
-    clash at e = cc
 
     few : 0 ≤ builds.count
     few = omega arith
@@ -141,7 +135,4 @@ module _ (pairs : List Pair) (words : ℕ) where
 
 -- no leaves are kept
 pub no_leaves : (m : BTreeMap ℕ (Vec PlacedLeaf)) → m.entries ≡ [] → (t : Snapshot) → KnowsLeaves m t
-no_leaves m empty t node leaves e = absurd (clash (sym (finds_none m node empty) ∙ e))
-  where
-    clash : None ≡ Some leaves → ⊥
-    clash h = cc
+no_leaves m empty t node leaves e = absurd (cc (sym (finds_none m node empty) ∙ e))

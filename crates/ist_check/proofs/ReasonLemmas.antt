@@ -63,10 +63,6 @@ module _ (pairs : List Pair) (words : ℕ) (log : Log) (law : Lawful pairs words
   abbrev t : Snapshot
   t = state_of pairs words log
 
-  same_row : (node : ℕ) (a b : InnerRow) → t.pieces node ≡ Some (Inner a)
-      → t.pieces node ≡ Some (Inner b) → a ≡ b
-  same_row node a b e f = cc
-
   -- no slot of a marked row is Unset: the row is linked
   marked_set : (node i word : ℕ) (row : InnerRow) → t.pieces node ≡ Some (Inner row)
       → SlotHolds t node i word → row.status ≡ marked_word → word ≢ unset_word
@@ -76,7 +72,7 @@ module _ (pairs : List Pair) (words : ℕ) (log : Log) (law : Lawful pairs words
       (ap (logical t.pieces) unset
       ∙ ap (λ o. past_rebuild t.pieces (past_change t.pieces o)) ref_of-unset))
       (λ f.
-      let same = same_row node f.1.row row f.1.published published in
+      let same : f.1.row ≡ row = cc (f.1.published) in
       let odd : f.1.row.status ≡ 4 * f.0 + 3 = f.1.status in
       let one : f.1.row.status ≡ 1 = ap (λ r. r.status) same ∙ marked in
       omega arith)
@@ -94,7 +90,7 @@ module _ (pairs : List Pair) (words : ℕ) (log : Log) (law : Lawful pairs words
       let t5 = other t4.1 (λ here. differ is_set Set NoChange refl refl here.0) in
       let marked = t3.0 in
       let in_slot = t4.0 in
-      let same = same_row node in_slot.row marked.row in_slot.published marked.published in
+      let same : in_slot.row ≡ marked.row = cc (in_slot.published, marked.published) in
       let status = ap (λ r. r.status) same ∙ marked.says in
       ⊎_elim
       (λ here. here.1 record {

@@ -106,11 +106,8 @@ adds_install first log caller at change fresh fits holds sound =
           (publishes_install t.pieces first log at change fresh fits).others;
       from = λ base p e.
           ⊎_elim
-          (λ w. inr (inl (w.0, same p w.1)))
+          (λ w. inr (inl (w.0, (cc (w.1)))))
           (λ w. ⊎_elim (λ v. inr (inr v)) (λ v. inl v)
           (fresh_from t.pieces first log change fresh fits base p w))
           (with_row-some (with_fresh t.pieces change fresh) at base (Some (Change change)) p e);
     }
-  where
-    same : (p : Piece) → Some (Change change) ≡ Some p → p ≡ Change change
-    same p e = cc

@@ -1,6 +1,6 @@
 -- In a tree that lists each of its rows once, each row hangs in one slot. Serves the conjunct
 -- `one_home`.
-use Rattle.std.proofs.Common.{◌≡◌, ℕ, zero, suc, ◌⊎◌, List, [], ◌∷◌, ◌++◌, slice_get, Option, Some, refl, sym, ap, ◌∙◌, subst, inl, inr, ⊎_elim}
+use Rattle.std.proofs.Common.{◌≡◌, ℕ, zero, suc, ◌⊎◌, List, [], ◌∷◌, ◌++◌, slice_get, Some, refl, sym, ap, ◌∙◌, subst, inl, inr, ⊎_elim}
 use Rattle.ist_core.specs.declared.states.InnerRow.{InnerRow}
 use Rattle.ist_core.specs.References.{Ref, InnerAt, ref_of}
 use Rattle.ist_core.specs.Elements.{Among, Distinct}
@@ -61,10 +61,6 @@ within ps rows more node i child h a = record {
       h.reads;
 }
 
-same_read : (o p : Option Ref) (ref : Ref) (child : ℕ) → o ≡ Some ref → o ≡ Some (InnerAt child)
-    → ref ≡ InnerAt child
-same_read o p ref child e f = cc
-
 -- the row that a tree hangs by is its first
 named_first : (ps : Pieces) (ref : Ref) (above : ℕ) (rows : List ℕ) (child : ℕ)
     → IsTree ps ref above rows → ref ≡ InnerAt child → (rest : List ℕ) × (rows ≡ child ∷ rest)
@@ -88,7 +84,7 @@ slot_among ps _ above _ zero word child
     (one_tree {word = w} {here = here} {rest = rest} ref is first more) e k =
     let same : w ≡ word = cc in
     among_left child here rest (named_among ps ref above here child first
-    (same_read (ref_of w) (ref_of w) ref child is (ap ref_of same ∙ k)))
+    (cc (ap ref_of same ∙ k)))
 slot_among ps _ above _ (suc i) word child
     (one_tree {words = words} {here = here} {rest = rest} ref is first more) e k =
     among_right child here rest (slot_among ps words above rest i word child more e k)
@@ -144,7 +140,7 @@ slots_apart ps _ above _ j word node i child no_tree d e k h = absurd h.among
 slots_apart ps _ above _ zero word node i child
     (one_tree {word = w} {words = words} {here = here} {rest = rest} ref is first more) d e k h =
     let same : w ≡ word = cc in
-    let named = same_read (ref_of w) (ref_of w) ref child is (ap ref_of same ∙ k) in
+    let named : ref ≡ InnerAt child = cc (ap ref_of same ∙ k) in
     ⊎_elim
     (λ a. first_apart ps ref above here node i child first (distinct_left here rest d) named
     (within ps (here ++ rest) here node i child h a))
@@ -175,14 +171,14 @@ slots_once ps _ above _ zero w (suc j) v child
     let same : x ≡ w = cc in
     absurd (distinct_apart here rest child d
     (named_among ps ref above here child first
-    (same_read (ref_of x) (ref_of x) ref child is (ap ref_of same ∙ k)))
+    (cc (ap ref_of same ∙ k)))
     (slot_among ps words above rest j v child more f l))
 slots_once ps _ above _ (suc i) w zero v child
     (one_tree {word = x} {words = words} {here = here} {rest = rest} ref is first more) d e k f l =
     let same : x ≡ v = cc in
     absurd (distinct_apart here rest child d
     (named_among ps ref above here child first
-    (same_read (ref_of x) (ref_of x) ref child is (ap ref_of same ∙ l)))
+    (cc (ap ref_of same ∙ l)))
     (slot_among ps words above rest i w child more e k))
 slots_once ps _ above _ (suc i) w (suc j) v child
     (one_tree {words = words} {here = here} {rest = rest} ref is first more) d e k f l =

@@ -60,10 +60,7 @@ module _ {A : Type 0} where
           → Among x (y ∷ ys) → Among x (if b then y ∷ filter test ys else filter test ys)
       at again true f (inl i) = inl i
       at again true f (inr i) = inr (again i e)
-      at again false f (inl i) = absurd (clash (subst (λ z. test z ≡ true) i e) f)
-        where
-          clash : test y ≡ true → test y ≡ false → ⊥
-          clash p q = cc
+      at again false f (inl i) = absurd (cc (subst (λ z. test z ≡ true) i e))
       at again false f (inr i) = again i e
 
 -- lists in which f sees the same at each place are the same to f

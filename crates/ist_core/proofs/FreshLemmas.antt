@@ -33,10 +33,7 @@ read_of kind words = if kind == start_kind then rebuild_of words else leaf_of wo
 one_row : (ps : Pieces) (at base : ℕ) (o : Option Piece) (new p : Piece) → o ≡ Some new
     → with_row ps at o base ≡ Some p → ((base ≡ at) × (p ≡ new)) ⊎ (ps base ≡ Some p)
 one_row ps at base o new p read e =
-    ⊎_elim (λ w. inl (w.0, same o p new w.1 read)) (λ w. inr w) (with_row-some ps at base o p e)
-  where
-    same : (x : Option Piece) (a b : Piece) → x ≡ Some a → x ≡ Some b → a ≡ b
-    same x a b h k = cc
+    ⊎_elim (λ w. inl (w.0, (cc (w.1)))) (λ w. inr w) (with_row-some ps at base o p e)
 
 -- each row after the fresh rows are published is one of them, or was there before
 pub fresh_from : (ps : Pieces) (first : Snapshot) (log : Log) (change : ChangeRow)

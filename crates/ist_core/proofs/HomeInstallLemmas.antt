@@ -1,9 +1,9 @@
 -- An Install keeps the conjunct `one_home`: what its rows name is new, or was named already. Serves
 -- the one-parent law.
-use Rattle.std.proofs.Common.{◌≡◌, ℕ, zero, suc, nat_lt, if◌then◌else◌, true, false, List, ◌∷◌, Option, Some, None, refl, sym, ap, ◌∙◌, subst, inl, inr, ⊎_elim}
+use Rattle.std.proofs.Common.{◌≡◌, ℕ, zero, suc, nat_lt, if◌then◌else◌, true, false, List, ◌∷◌, Some, None, refl, sym, ap, ◌∙◌, subst, inl, inr, ⊎_elim}
 use Rattle.ist_core.specs.declared.lists.Row.{Row}
 use Rattle.ist_core.specs.declared.states.ChangeRow.{ChangeRow}
-use Rattle.ist_core.specs.References.{Ref, Empty, Unset, LeafAt, InnerAt, RebuildAt, IsGoodBase, ref_of, word_of}
+use Rattle.ist_core.specs.References.{Empty, LeafAt, InnerAt, RebuildAt, IsGoodBase, ref_of}
 use Rattle.ist_core.specs.Pieces.{Piece, Leaf, Change, Rebuild, row_at}
 use Rattle.ist_core.specs.Snapshots.{Snapshot, HoldsRows}
 use Rattle.ist_core.specs.Logs.{Log, state}
@@ -56,10 +56,7 @@ module _ (first : Snapshot) (log : Log) (caller at : ℕ) (change : ChangeRow) (
   to_came (a_pair h) =
       word_new InnerAt (state first log) (NewPair first log change fresh (a_pair h)) change.node
       change.index (ref_of change.to)
-      (λ child e. (refl, refl, same (ref_of change.to) child h.pair e h.to))
-    where
-      same : (o : Option Ref) (a b : ℕ) → o ≡ Some (InnerAt a) → o ≡ Some (InnerAt b) → a ≡ b
-      same o a b e f = cc
+      (λ child e. (refl, refl, (cc (h.to))))
   to_came (a_remove h) = word_of_other InnerAt (state first log) NoneNew change.node change.index (ref_of change.to) Empty h.to (λ child e. cc)
   to_came (a_start h) = word_of_other InnerAt (state first log) NoneNew change.node change.index
       (ref_of change.to) (RebuildAt h.rebuild) h.to (λ child e. cc)
@@ -72,21 +69,9 @@ module _ (first : Snapshot) (log : Log) (caller at : ℕ) (change : ChangeRow) (
       → IsGoodBase right → SaysCame InnerAt (state first log) New base (pair_over key left right)
   unfolding SaysCame
   over_says New base key left right gl gr node zero child says =
-      absurd (clash left child (sym (ref_of-word_of (LeafAt left) gl) ∙ ap ref_of (word_is (word_of (LeafAt left)) says.1 says.2) ∙ says.3))
-    where
-      clash : (a b : ℕ) → Some (LeafAt a) ≡ Some (InnerAt b) → ⊥
-      clash a b e = cc
-
-      word_is : (a b : ℕ) → Some a ≡ Some b → a ≡ b
-      word_is a b e = cc
+      absurd (cc (sym (ref_of-word_of (LeafAt left) gl) ∙ ap ref_of (cc (says.2)) ∙ says.3))
   over_says New base key left right gl gr node (suc zero) child says =
-      absurd (clash right child (sym (ref_of-word_of (LeafAt right) gr) ∙ ap ref_of (word_is (word_of (LeafAt right)) says.1 says.2) ∙ says.3))
-    where
-      clash : (a b : ℕ) → Some (LeafAt a) ≡ Some (InnerAt b) → ⊥
-      clash a b e = cc
-
-      word_is : (a b : ℕ) → Some a ≡ Some b → a ≡ b
-      word_is a b e = cc
+      absurd (cc (sym (ref_of-word_of (LeafAt right) gr) ∙ ap ref_of (cc (says.2)) ∙ says.3))
   over_says New base key left right gl gr node (suc (suc i)) child says = absurd (let e = says.2 in cc)
 
   pair_says : (New : ℕ → ℕ → ℕ → Type 0) (base key leaf other_key other : ℕ) → IsGoodBase leaf
@@ -129,9 +114,6 @@ module _ (first : Snapshot) (log : Log) (caller at : ℕ) (change : ChangeRow) (
       (λ e.
       subst (λ n. WasNamedOrIsNew InnerAt (state first log) NoneNew n i child) (sym says.0)
       (subst (λ j. WasNamedOrIsNew InnerAt (state first log) NoneNew change.node j child) (sym says.1) (from_came NoneNew child (h.from ∙ ap (λ x. Some x) e))))
-      (λ e. absurd (clash child (sym ref_of-unset ∙ e)))
+      (λ e. absurd (cc (sym ref_of-unset ∙ e)))
       says.2)
-    where
-      clash : (b : ℕ) → Some Unset ≡ Some (InnerAt b) → ⊥
-      clash b e = cc
   installed_says (a_finish h) leaf_good other_good base p (inr f) = absurd f

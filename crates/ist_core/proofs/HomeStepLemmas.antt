@@ -33,10 +33,7 @@ pub word_of_other : (of : ℕ → Ref) (t : Snapshot) (New : ℕ → ℕ → ℕ
     (ref : Ref)
     → word ≡ Some ref → ((child : ℕ) → ref ≢ of child) → WordCame of t New node i word
 unfolding WordCame
-word_of_other of t New node i word ref e other child f = absurd (other child (same word ref (of child) e f))
-  where
-    same : (o : Option Ref) (a b : Ref) → o ≡ Some a → o ≡ Some b → a ≡ b
-    same o a b h k = cc
+word_of_other of t New node i word ref e other child f = absurd (other child (cc))
 
 -- a word that is named already
 pub word_mentioned : (of : ℕ → Ref) (t : Snapshot) (New : ℕ → ℕ → ℕ → Type 0) (node i : ℕ) (word : Option Ref)
@@ -133,7 +130,7 @@ one_home_root t caller rebuild word rows h sound names home =
     (λ base p i e. tree_says t qs h.row.parent h.row.index tree.0 bases (tree_rows qs tree.0 h.row.target bases tree.2) base p i e) in
     let stands = adds.keeps rebuild (Rebuild h.row) h.published in
     let root = word_new InnerAt t New h.row.parent h.row.index (ref_of word)
-    (λ child e. inl (refl, refl, same_ref (ref_of word) tree.0 (InnerAt child) tree.1 e)) in
+    (λ child e. inl (refl, refl, (cc (tree.1)))) in
     one_home_from t u New home names
     record {
       unpublished = λ node i child x. held_free t caller rows h.held sound child
@@ -145,9 +142,6 @@ one_home_root t caller rebuild word rows h sound names home =
     (with_root word x)) (qs rebuild) p (Rebuild h.row) e stands
     (λ k. came-with_root InnerAt t New rebuild word h.row root k) old))
     (anchor_old InnerAt t u New refl)
-  where
-    same_ref : (o : Option Ref) (a b : Ref) → o ≡ Some a → o ≡ Some b → a ≡ b
-    same_ref o a b e f = cc
 
 -- a Place leaves each inner row one home
 pub one_home_place : (t : Snapshot) (caller rebuild i word : ℕ) (rows : List Row)
@@ -162,7 +156,7 @@ one_home_place t caller rebuild i word rows h sound names home =
     let New = HangsIn qs h.root i h.ref bases in
     let all = came_added InnerAt t New t.pieces qs (λ base p. Among base bases) adds (came_old InnerAt t New)
     (λ base p k e. tree_says t qs h.root i h.ref bases (tree_rows qs h.ref h.root bases tree) base p k e) in
-    let slot = word_new InnerAt t New h.root i (ref_of word) (λ child e. inl (refl, refl, same_ref (ref_of word) h.ref (InnerAt child) h.ref_is e)) in
+    let slot = word_new InnerAt t New h.root i (ref_of word) (λ child e. inl (refl, refl, (cc (h.ref_is)))) in
     one_home_from t u New home names
     record {
       unpublished = λ node j child x. held_free t caller rows h.held sound child (hangs_among qs h.root i h.ref h.root bases node j child tree x);
@@ -171,6 +165,3 @@ one_home_place t caller rebuild i word rows h sound names home =
     (subst (λ ps. AllCame InnerAt t New ps) (sym (rows_placed t caller rebuild i word rows h))
     (came-changed_at InnerAt t New qs h.root (with_slot i word) all (λ p _ old. came-with_slot InnerAt t New h.root i word p slot old)))
     (anchor_old InnerAt t u New refl)
-  where
-    same_ref : (o : Option Ref) (a b : Ref) → o ≡ Some a → o ≡ Some b → a ≡ b
-    same_ref o a b e f = cc

@@ -24,6 +24,7 @@ use Rattle.ist_core.proofs.ChainLemmas.{on_chain_inner}
 use Rattle.ist_core.proofs.TouchLemmas.{touches}
 use Rattle.ist_core.proofs.ImageEventLemmas.{image_same, image_enter, image_reserve, image_word, image_count, image_draw, SlotsReady, image_resolve, image_place, image_root, image_install}
 use Rattle.ist_core.proofs.ImageRowLemmas.{rows_apart}
+use Rattle.ist_core.proofs.OptionLemmas.{same_value}
 
 -- ---- all events
 
@@ -36,10 +37,7 @@ set_same (x ∷ xs) (suc i) word e = ap (λ ys. x ∷ ys) (set_same xs i word e)
 -- a touch that leaves what it finds
 left_found : (o : Option Touch) (v w : Touch) → o ≡ Some v → o ≡ Some w → v.left ≡ v.found
     → w.left ≡ w.found
-left_found o v w e f same = subst (λ x. x.left ≡ x.found) (one o e f) same
-  where
-    one : (x : Option Touch) → x ≡ Some v → x ≡ Some w → v ≡ w
-    one x a b = cc
+left_found o v w e f same = subst (λ x. x.left ≡ x.found) (same_value o v w e f) same
 
 module _ (pairs : List Pair) (words : ℕ) (opens : CanOpen pairs words) where
   -- slots may be written after a log from a new table
@@ -71,14 +69,8 @@ module _ (pairs : List Pair) (words : ℕ) (opens : CanOpen pairs words) where
             where
               clash : (b : Bool) → (if b then option_map f (qs anchor) else qs anchor) ≡ None
                   → qs anchor ≡ Some p → ⊥
-              clash true x y = some_none (sym (ap (option_map f) y) ∙ x)
-                where
-                  some_none : Some (f p) ≡ None → ⊥
-                  some_none z = cc
-              clash false x y = some_none (sym y ∙ x)
-                where
-                  some_none : Some p ≡ None → ⊥
-                  some_none z = cc
+              clash true x y = cc (sym (ap (option_map f) y) ∙ x)
+              clash false x y = cc (sym y ∙ x)
 
   -- a step that leaves what it finds changes no word
   image_loaded : (log : Log) (event : Event) → EachEnabled (start pairs words) (event ∷ log)

@@ -73,14 +73,8 @@ pub from_plain : (first : Snapshot) (log : Log) (change : ChangeRow) (fresh : Li
 from_plain first log change fresh (a_put h) base e = at h.from
   where
     at : HasRoomFor (state first log) change.key change.from → ⊥
-    at (nothing k) = clash (sym k ∙ e)
-      where
-        clash : Some Empty ≡ Some (ChangeAt base) → ⊥
-        clash x = cc
-    at (same_key leaf k l) = clash (sym k ∙ e)
-      where
-        clash : Some (LeafAt leaf) ≡ Some (ChangeAt base) → ⊥
-        clash x = cc
+    at (nothing k) = cc (sym k ∙ e)
+    at (same_key leaf k l) = cc (sym k ∙ e)
 from_plain first log change fresh (a_pair h) base e = let x : Some (LeafAt h.other) ≡ Some
     (ChangeAt base) = sym h.from ∙ e in cc
 from_plain first log change fresh (a_remove h) base e = let x : Some (LeafAt h.leaf) ≡ Some

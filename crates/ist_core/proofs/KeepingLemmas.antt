@@ -91,10 +91,7 @@ passed_reads : (t u : Snapshot) → AllGrow t.pieces u.pieces → (ref : Option 
 passed_reads t u g _ _ no_key = (refl, λ child e. absurd (cc))
 passed_reads t u g _ _ one_key = (refl, λ child e. absurd (cc))
 passed_reads t u g _ k (of_child {child = child} f) =
-    (refl, λ other e. (k, subst (λ n. IsFinishedWith t n k) (same child other e) f))
-  where
-    same : (a b : ℕ) → Some (InnerAt a) ≡ Some (InnerAt b) → a ≡ b
-    same a b e = cc
+    (refl, λ other e. (k, subst (λ n. IsFinishedWith t n k) (cc) f))
 passed_reads t u g _ k (of_target {rebuild = rebuild} {target = target} has f) =
     let it = rebuild_there t.pieces u.pieces g rebuild has.row has.published in
     let before : rebuild_reads (t.pieces rebuild) ≡ Some (InnerAt has.row.target) = ap rebuild_reads
@@ -105,12 +102,9 @@ passed_reads t u g _ k (of_target {rebuild = rebuild} {target = target} has f) =
       λ other e. (
         k,
         subst (λ n. IsFinishedWith t n k)
-            (sym has.target_is ∙ same has.row.target other (sym before ∙ e)) f,
+            (sym has.target_is ∙ cc (sym before ∙ e)) f,
       ),
     )
-  where
-    same : (a b : ℕ) → Some (InnerAt a) ≡ Some (InnerAt b) → a ≡ b
-    same a b e = cc
 
 module _ (pairs : List Pair) (words : ℕ) (opens : CanOpen pairs words) where
   -- an event leaves the leaves below a finished row
@@ -121,7 +115,7 @@ module _ (pairs : List Pair) (words : ℕ) (opens : CanOpen pairs words) where
   leaves_kept log event h node leaves done has =
       leaves_stay t.pieces u.pieces (IsFinishedNode t)
       (λ base r e. leaf_there t.pieces u.pieces g base r e) stands (Some (InnerAt node)) leaves
-      has (λ child e. subst (λ n. IsFinishedNode t n) (same node child e) done)
+      has (λ child e. subst (λ n. IsFinishedNode t n) (cc) done)
     where
       t : Snapshot
       t = state_of pairs words log
@@ -132,9 +126,6 @@ module _ (pairs : List Pair) (words : ℕ) (opens : CanOpen pairs words) where
       g : AllGrow (state_of pairs words log).pieces (state_of pairs words (event ∷ log)).pieces
       g = grow_step (start pairs words) log event h.1
           (sound (start pairs words) log (sound_start pairs words) h.0)
-
-      same : (a b : ℕ) → Some (InnerAt a) ≡ Some (InnerAt b) → a ≡ b
-      same a b e = cc
 
       stands : (base : ℕ) (r : InnerRow) → IsFinishedNode t base → t.pieces base ≡ Some (Inner r)
           → StandsAlike t.pieces u.pieces (IsFinishedNode t) base r

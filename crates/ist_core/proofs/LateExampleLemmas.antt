@@ -1,6 +1,6 @@
 -- The log of a put that a rebuild overtakes is lawful. Serves
 -- `examples.an_overtaken_put_is_lawful`.
-use Rattle.std.proofs.Common.{◌≡◌, ℕ, ◌⊎◌, true, [], ◌∷◌, Some, refl, inl, inr, arith}
+use Rattle.std.proofs.Common.{◌≡◌, ℕ, ◌⊎◌, true, [], ◌∷◌, Some, refl, inl, inr, arith, ⊎_elim}
 use Rattle.ist_core.specs.declared.commands.Command.TheVariants.{Put}
 use Rattle.ist_core.specs.declared.states.InnerRow.{InnerRow}
 use Rattle.ist_core.specs.declared.states.ChangeRow.{ChangeRow}
@@ -84,13 +84,9 @@ change_reserved =
             merge = from_right 2 (from_right 9 at_end);
             builds = no_build;
             few = (inl refl, (inr (inr (inr (inl refl))), tt));
-            one_each = ((λ k. apart k), ((λ k. k), tt));
+            one_each = (⊎_elim (λ k. omega arith) (λ k. k), ((λ k. k), tt));
           };
     }
-  where
-    apart : (◌≡◌ {A = ℕ} 2 9) ⊎ ⊥ → ⊥
-    apart (inl e) = omega arith
-    apart (inr e) = e
 
 -- the target hangs below the anchor, under the rebuild
 target_hangs : IsChild (state two late_reserved) 2 0 4
@@ -207,14 +203,10 @@ counted =
       earlier = late_marked;
       log_is = refl;
       update = record { change = the_put 1; published = refl; owned = refl; update = inl refl };
-      last = λ k. neither k;
-      uncounted = λ k. neither k;
+      last = ⊎_elim (λ k. k) (λ k. k);
+      uncounted = ⊎_elim (λ k. k) (λ k. k);
       on_chain = inl (4 ∷ [], target_chain, inl refl);
     }
-  where
-    neither : ⊥ ⊎ ⊥ → ⊥
-    neither (inl k) = k
-    neither (inr k) = k
 
 passed_low : CanPass (state two late_counted) 0 4 0 89
 unfolding ref_of rows_within degree square_root root_up_to part_len part_lens ideal_words

@@ -99,12 +99,9 @@ mentioned_leaf t node i leaf o (inr h) = at h.1 (o.rows h.0 h.1 h.2) h.3
         says.2
     at (Rebuild r) says_names says =
         ⊎_elim
-        (λ e. absurd (clash r.target leaf e))
+        (λ e. absurd (cc))
         (λ e. subst (λ ref. RootNames t.pieces r.target ref) e says_names.2)
         says.2
-      where
-        clash : (a b : ℕ) → InnerAt a ≡ LeafAt b → ⊥
-        clash a b e = cc
 
 -- a way through logical slots is one through what is named for slots
 pub leads_led : (t : Snapshot) (key node : ℕ) → WordsName t → Leads t key node → LedTo t key node

@@ -50,11 +50,8 @@ target_lies t rebuild row leaves there names home free lie reached =
     record {
       a_leaf = λ base e. absurd (cc);
       a_row = λ base e. inr
-          (rebuild, Rebuild row, there, (refl, refl, inl (named row.target base e)));
+          (rebuild, Rebuild row, there, (refl, refl, inl (cc)));
     }
-  where
-    named : (a b : ℕ) → Some (InnerAt a) ≡ Some (InnerAt b) → InnerAt a ≡ InnerAt b
-    named a b e = cc
 
 -- a Root puts a tree over the leaves of its target where they lie
 pub lies_root : (t : Snapshot) (caller rebuild word : ℕ) (rows : List Row)

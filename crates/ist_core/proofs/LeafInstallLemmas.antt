@@ -1,11 +1,11 @@
 -- After an Install leaves still lie where their keys lead. Serves the order law.
-use Rattle.std.proofs.Common.{◌≡◌, ◌≢◌, ℕ, zero, suc, ◌<◌, ◌≤◌, ◌⊎◌, nat_lt, if◌then◌else◌, true, false, List, [], ◌∷◌, slice_get, Option, Some, refl, sym, ap, ◌∙◌, subst, inl, inr, ⊎_elim, arith}
+use Rattle.std.proofs.Common.{◌≡◌, ◌≢◌, ℕ, zero, suc, ◌<◌, ◌≤◌, ◌⊎◌, nat_lt, if◌then◌else◌, true, false, List, [], ◌∷◌, slice_get, Some, refl, sym, ap, ◌∙◌, subst, inl, inr, ⊎_elim, arith}
 use Rattle.ist_core.specs.declared.lists.Row.{Row}
 use Rattle.ist_core.specs.declared.states.LeafRow.{LeafRow}
 use Rattle.ist_core.specs.declared.states.InnerRow.{InnerRow}
 use Rattle.ist_core.specs.declared.states.ChangeRow.{ChangeRow}
 use Rattle.ist_core.specs.Arithmetic.{child_count}
-use Rattle.ist_core.specs.References.{Ref, Empty, Unset, LeafAt, InnerAt, RebuildAt, IsGoodBase, ref_of, word_of}
+use Rattle.ist_core.specs.References.{Ref, Empty, LeafAt, InnerAt, RebuildAt, IsGoodBase, ref_of, word_of}
 use Rattle.ist_core.specs.Pieces.{Pieces, Piece, Leaf, Inner, Change, Rebuild}
 use Rattle.ist_core.specs.Snapshots.{Snapshot}
 use Rattle.ist_core.specs.Logs.{Log, state}
@@ -46,29 +46,23 @@ module _ (u : Snapshot) (node i pair : ℕ) (named : Mentions u node i (InnerAt 
   over_lies left_key left right_key right s e keys less gl gr kl kr ll lr zero word leaf at reads r
       there =
       let word_is : word_of (LeafAt left) ≡ word = cc in
-      let here = leaf_is left leaf (sym (ref_of-word_of (LeafAt left) gl) ∙ ap ref_of word_is ∙
+      let here : left ≡ leaf = cc (sym (ref_of-word_of (LeafAt left) gl) ∙ ap ref_of word_is ∙
       reads) in
       let key = kl r (subst (λ b. u.pieces b ≡ Some (Leaf r)) (sym here) there) in
       subst (λ k. LiesIn u k pair 0) (sym key)
       (below_pair left_key 0 s e ll (sym
       (ap (λ ks. child_count ks left_key) keys ∙ child_count-none (right_key ∷ []) left_key
       (less, tt))))
-    where
-      leaf_is : (a b : ℕ) → Some (LeafAt a) ≡ Some (LeafAt b) → a ≡ b
-      leaf_is a b f = cc
   over_lies left_key left right_key right s e keys less gl gr kl kr ll lr (suc zero) word leaf at
       reads r there =
       let word_is : word_of (LeafAt right) ≡ word = cc in
-      let here = leaf_is right leaf (sym (ref_of-word_of (LeafAt right) gr) ∙ ap ref_of word_is ∙
+      let here : right ≡ leaf = cc (sym (ref_of-word_of (LeafAt right) gr) ∙ ap ref_of word_is ∙
       reads) in
       let key = kr r (subst (λ b. u.pieces b ≡ Some (Leaf r)) (sym here) there) in
       let count : child_count (right_key ∷ []) right_key ≡ 1 = child_count-low right_key []
       right_key (omega arith) in
       subst (λ k. LiesIn u k pair 1) (sym key)
       (below_pair right_key 1 s e lr (sym (ap (λ ks. child_count ks right_key) keys ∙ count)))
-    where
-      leaf_is : (a b : ℕ) → Some (LeafAt a) ≡ Some (LeafAt b) → a ≡ b
-      leaf_is a b f = cc
   over_lies left_key left right_key right s e keys less gl gr kl kr ll lr (suc (suc j)) word leaf at
       reads r there = absurd (cc)
 
@@ -164,13 +158,10 @@ module _ (first : Snapshot) (log : Log) (at : ℕ) (change : ChangeRow) (fresh :
     to_came (a_put h) stood =
         word_new LeafAt (state first log) (LeafLies u) change.node change.index (ref_of change.to)
         (λ leaf e r there.
-        let here = leaf_is (ref_of change.to) leaf h.leaf e h.to in
+        let here : leaf ≡ h.leaf = cc (h.to) in
         subst (λ k. LiesIn u k change.node change.index)
         (sym (fresh_key leaf (stood leaf (new_leaf change) (here, refl)) r there))
         (led h.by_key))
-      where
-        leaf_is : (o : Option Ref) (a b : ℕ) → o ≡ Some (LeafAt a) → o ≡ Some (LeafAt b) → a ≡ b
-        leaf_is o a b e f = cc
     to_came (a_pair h) stood = other_came (InnerAt h.pair) h.to (λ leaf e. cc)
     to_came (a_remove h) stood = other_came Empty h.to (λ leaf e. cc)
     to_came (a_start h) stood = other_came (RebuildAt h.rebuild) h.to (λ leaf e. cc)
@@ -234,12 +225,6 @@ module _ (first : Snapshot) (log : Log) (at : ℕ) (change : ChangeRow) (fresh :
     installed_lies (a_remove h) stood kept base p (inr f) = absurd f
     installed_lies (a_start h) stood kept base p (inr (here, new)) =
         subst (λ x. SaysCame LeafAt (state first log) (LeafLies u) base x) (sym new)
-        (λ node i leaf says. ⊎_elim (λ e. absurd (clash h.target leaf e))
-        (λ e. absurd (unset leaf (sym ref_of-unset ∙ e))) says.2)
-      where
-        clash : (a b : ℕ) → InnerAt a ≡ LeafAt b → ⊥
-        clash a b e = cc
-
-        unset : (b : ℕ) → Some Unset ≡ Some (LeafAt b) → ⊥
-        unset b e = cc
+        (λ node i leaf says. ⊎_elim (λ e. absurd (cc))
+        (λ e. absurd (cc (sym ref_of-unset ∙ e))) says.2)
     installed_lies (a_finish h) stood kept base p (inr f) = absurd f

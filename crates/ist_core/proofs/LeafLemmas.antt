@@ -4,7 +4,7 @@ use Rattle.ist_core.specs.declared.pairs.Pair.{Pair}
 use Rattle.ist_core.specs.declared.states.LeafRow.{LeafRow}
 use Rattle.ist_core.specs.declared.states.InnerRow.{InnerRow}
 use Rattle.ist_core.specs.References.{Ref, Empty, LeafAt, InnerAt}
-use Rattle.ist_core.specs.Pieces.{Piece, Leaf, Inner, Pieces}
+use Rattle.ist_core.specs.Pieces.{Leaf, Inner, Pieces}
 use Rattle.ist_core.specs.Snapshots.{Snapshot}
 use Rattle.ist_core.specs.Slots.{logical}
 use Rattle.ist_core.specs.Leaves.{PlacedLeaf, pair_of, HasLeaves, SlotsHaveLeaves, none_here, leaf_here, row_here, no_slot, one_slot, HasContents}
@@ -39,9 +39,6 @@ pub slots_reached : (ps : Pieces) (words : List ℕ) (leaves : List PlacedLeaf)
 slots_reached ps _ _ no_slot = refl
 slots_reached ps _ _ (one_slot {here = here} {rest = rest} h s) = (here, rest, h, s, refl)
 
-same_leaf : (x y : Option Piece) (r s : LeafRow) → x ≡ Some (Leaf r) → x ≡ Some (Leaf s) → r ≡ s
-same_leaf x y r s e f = cc
-
 mutual
   -- a reference has one list of leaves
   pub same_leaves : (ps : Pieces) (ref : Option Ref) (xs ys : List PlacedLeaf) → HasLeaves ps ref xs
@@ -49,7 +46,7 @@ mutual
   same_leaves ps _ _ ys none_here other = sym (reached ps (Some Empty) ys other)
   same_leaves ps _ _ ys (leaf_here {base = base} r e) other =
       let it = reached ps (Some (LeafAt base)) ys other in
-      let same : r ≡ it.0 = same_leaf (ps base) (ps base) r it.0 e it.1 in
+      let same : r ≡ it.0 = cc (it.1) in
       ap (λ x. record { base = base; row = x } ∷ []) same ∙ sym it.2
   same_leaves ps _ _ ys (row_here {base = base} r e below) other =
       let it = reached ps (Some (InnerAt base)) ys other in

@@ -1,5 +1,5 @@
 -- After each event but an Install leaves still lie where their keys lead. Serves the order law.
-use Rattle.std.proofs.Common.{◌≡◌, ℕ, zero, suc, ◌⊎◌, ◌==◌, if◌then◌else◌, true, false, List, length, replicate, slice_get, Option, Some, None, refl, sym, ap, ◌∙◌, subst, inl, inr}
+use Rattle.std.proofs.Common.{◌≡◌, ℕ, zero, suc, ◌⊎◌, ◌==◌, if◌then◌else◌, true, false, List, length, replicate, slice_get, Some, None, refl, sym, ap, ◌∙◌, subst, inl, inr}
 use Rattle.ist_core.specs.declared.states.LeafRow.{LeafRow}
 use Rattle.ist_core.specs.declared.states.InnerRow.{InnerRow}
 use Rattle.ist_core.specs.declared.events.Event.TheVariants.{Resolve}
@@ -51,14 +51,10 @@ lies_from t u grows on names lie all word = record
         (subst (λ j. WasNamedOrIsNew LeafAt t (LeafLies u) anchor j leaf) (sym h.1) (word leaf h.2))
     came node i leaf (inr h) = all h.0 h.1 h.2 node i leaf h.3
 
-    same_leaf : (o : Option Piece) (r s : LeafRow) → o ≡ Some (Leaf r) → o ≡ Some (Leaf s) → r ≡ s
-    same_leaf o r s e f = cc
-
     from : (node i leaf : ℕ) → WasNamedOrIsNew LeafAt t (LeafLies u) node i leaf → LeafLies u node i leaf
     from node i leaf (inl m) r e =
         let old = mentioned_leaf t node i leaf names m in
-        let same = same_leaf (u.pieces leaf) old.0 r
-        (leaf_there t.pieces u.pieces grows leaf old.0 old.1) e in
+        let same : old.0 ≡ r = cc (leaf_there t.pieces u.pieces grows leaf old.0 old.1) in
         subst (λ x. LiesIn u x.key node i) same
         (on old.0.key node i (lie.each node i leaf m old.0 old.1))
     from node i leaf (inr new) r e = new r e
@@ -141,12 +137,8 @@ tree_says t u ps rows all lie stand base p i e =
 unset_lies : (n i word leaf : ℕ) → slice_get (replicate n unset_word) i ≡ Some word
     → ref_of word ≡ Some (LeafAt leaf) → ⊥
 unset_lies zero i word leaf e f = cc
-unset_lies (suc n) zero word leaf e f = clash
-    (same_value (ref_of word) Unset (LeafAt leaf)
+unset_lies (suc n) zero word leaf e f = cc (same_value (ref_of word) Unset (LeafAt leaf)
     (let same : unset_word ≡ word = cc in ap ref_of (sym same) ∙ ref_of-unset) f)
-  where
-    clash : Unset ≡ LeafAt leaf → ⊥
-    clash e = cc
 unset_lies (suc n) (suc i) word leaf e f = unset_lies n i word leaf e f
 
 -- the rows of a root, and the root itself
@@ -177,8 +169,5 @@ root_lies u ps word k leaves target rows leaf_stands stand rise node i named lie
             (subst (λ ws. slice_get ws j ≡ Some w) (ap (λ x. x.slots) same ∙ unset) at) reads),
         tt,
       ),
-      λ leaf f. absurd (clash leaf (same_value (ref_of word) (InnerAt base) (LeafAt leaf) e f)),
+      λ leaf f. absurd (cc (same_value (ref_of word) (InnerAt base) (LeafAt leaf) e f)),
     )
-  where
-    clash : (leaf : ℕ) → InnerAt base ≡ LeafAt leaf → ⊥
-    clash leaf e = cc

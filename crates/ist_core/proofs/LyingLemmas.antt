@@ -39,9 +39,6 @@ module _ {A : Type 0} (key : A → ℕ) (ps : Pieces) (u : Snapshot)
   abbrev pub AllLie : List A → ℕ → ℕ → Type 0
   AllLie xs node i = Each (λ x. LiesIn u (key x) node i) xs
 
-  same_base : (a b : ℕ) → LeafAt a ≡ LeafAt b → a ≡ b
-  same_base a b e = cc
-
   -- the keys that lead to the slot of a row lead to it, and on to the slot of each part
   pub parts_lie : (xs : List A) (node i base : ℕ) (r : InnerRow) → u.pieces base ≡ Some (Inner r)
       → Mentions u node i (InnerAt base) → 2 ≤ length xs
@@ -75,7 +72,7 @@ module _ {A : Type 0} (key : A → ℕ) (ps : Pieces) (u : Snapshot)
     split_lies _ _ _ (split_leaf {base = base} {x = x} r e is) stand rise node i m lie = (
       tt,
       λ leaf f s g.
-          let here = same_base base leaf f in
+          let here : base ≡ leaf = cc in
           let same = same_leaf (u.pieces leaf) r s
           (subst (λ b. u.pieces b ≡ Some (Leaf r)) here (leaf_stands base r e)) g in
           subst (λ k. LiesIn u k node i) (sym is ∙ ap (λ y. y.key) same) lie.0,

@@ -205,11 +205,8 @@ child_mentioned t node i child o c = at (past_change t.pieces (ref_of c.word)) r
         rebuild_here : (base : ℕ) → past_change t.pieces (ref_of c.word) ≡ Some (RebuildAt base)
             → SideNames t.pieces node i (Some (RebuildAt base))
         rebuild_here base is = ⊎_elim (λ side. subst (λ x. SideNames t.pieces node i x) is side)
-            (λ unset. absurd (clash (past_change t.pieces (ref_of c.word)) unset is))
+            (λ unset. absurd (cc))
             (past_change_names t node i (ref_of c.word) o (slot_names t node i c.word o c.holds))
-          where
-            clash : (x : Option Ref) → x ≡ Some Unset → x ≡ Some (RebuildAt base) → ⊥
-            clash x e f = cc
 
         by_rebuild : (base : ℕ) → past_change t.pieces (ref_of c.word) ≡ Some (RebuildAt base)
             → past_rebuild t.pieces (Some (RebuildAt base)) ≡ Some (InnerAt child)

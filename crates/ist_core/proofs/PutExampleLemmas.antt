@@ -1,5 +1,5 @@
 -- The log of one put is lawful. Serves `examples`.
-use Rattle.std.proofs.Common.{◌≡◌, ℕ, ◌⊎◌, true, [], ◌∷◌, refl, inl, inr, arith}
+use Rattle.std.proofs.Common.{ℕ, ◌⊎◌, true, [], ◌∷◌, refl, inl, inr, arith, ⊎_elim}
 use Rattle.ist_core.specs.declared.states.ChangeRow.{ChangeRow}
 use Rattle.ist_core.specs.declared.events.Event.TheVariants.{Enter, Reserve, Okay}
 use Rattle.ist_core.specs.Shapes.{ideal_words, ideal_words_within}
@@ -71,13 +71,9 @@ change_reserved =
             merge = from_right 2 (from_right 9 at_end);
             builds = no_build;
             few = (inl refl, (inr (inr (inr (inl refl))), tt));
-            one_each = ((λ k. apart k), ((λ k. k), tt));
+            one_each = (⊎_elim (λ k. omega arith) (λ k. k), ((λ k. k), tt));
           };
     }
-  where
-    apart : (◌≡◌ {A = ℕ} 2 9) ⊎ ⊥ → ⊥
-    apart (inl e) = omega arith
-    apart (inr e) = e
 
 installed : CanInstall empty put_reserved 0 6 put_rows
 unfolding rows_within ref_of

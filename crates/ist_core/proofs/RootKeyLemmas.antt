@@ -55,30 +55,21 @@ RootsAreCut t =
 
 -- a root that names an inner row isn't Unset
 pub root_set : (word root : ℕ) → ref_of word ≡ Some (InnerAt root) → word ≢ unset_word
-root_set word root e f = clash (ref_of word) e (ap ref_of f ∙ ref_of-unset)
-  where
-    clash : (o : Option Ref) → o ≡ Some (InnerAt root) → o ≡ Some Unset → ⊥
-    clash o a b = cc
+root_set word root e f = cc (ap ref_of f ∙ ref_of-unset)
 
 -- the top row of a root
 top_of : (ps : Pieces) (word k : ℕ) (leaves : List PlacedLeaf) (target : ℕ) (rows : List ℕ)
     → IsRoot ps word k leaves target rows → (root : ℕ) → ref_of word ≡ Some (InnerAt root)
     → (r : InnerRow) × IsTop ps root r leaves target
-top_of ps word k leaves target rows (root_whole ref few e ideal) root is = at ref leaves rows ideal (same (ref_of word) ref (InnerAt root) e is)
+top_of ps word k leaves target rows (root_whole ref few e ideal) root is = at ref leaves rows ideal (cc)
   where
-    same : (o : Option Ref) (a b : Ref) → o ≡ Some a → o ≡ Some b → a ≡ b
-    same o a b h k = cc
-
     at : (ref : Ref) (leaves : List PlacedLeaf) (rows : List ℕ) → IsIdeal ps ref leaves target rows
         → ref ≡ InnerAt root → (r : InnerRow) × IsTop ps root r leaves target
     at _ _ _ of_none e = absurd (cc)
     at _ _ _ (of_one f g) e = absurd (cc)
     at _ leaves _ (of_more {base = base} r top below) e = let here : base ≡ root = cc in (r, subst (λ b. IsTop ps b r leaves target) here top)
 top_of ps word k leaves target rows (root_top base row many e top unset one) root is =
-    (row, subst (λ b. IsTop ps b row leaves target) (same (ref_of word) base root e is) top)
-  where
-    same : (o : Option Ref) (a b : ℕ) → o ≡ Some (InnerAt a) → o ≡ Some (InnerAt b) → a ≡ b
-    same o a b h k = cc
+    (row, subst (λ b. IsTop ps b row leaves target) (cc) top)
 
 module _ (pairs : List Pair) (words : ℕ) (opens : CanOpen pairs words) where
   -- the cut of a row stays as rows grow
@@ -181,13 +172,10 @@ module _ (pairs : List Pair) (words : ℕ) (opens : CanOpen pairs words) where
       (λ new.
       let stood = (adds-with_inners t caller rows h.1.held s).keeps rebuild (Rebuild h.1.row) h.1.published in
       let old = same_value (qs rebuild) it.0 (Rebuild h.1.row) (subst (λ b. qs b ≡ Some it.0) new.0 it.1) stood in
-      let row_is : row ≡ record h.1.row { root = word } = rebuild_is row (record h.1.row { root = word }) (new.1 ∙ ap (with_root word) old) in
+      let row_is : row ≡ record h.1.row { root = word } = cc (new.1 ∙ ap (with_root word) old) in
       subst (λ n. IsCutBy (state_of pairs words (Root caller rebuild word rows ∷ log)) n r) (sym (ap (λ x. x.target) row_is))
       (new_root log caller rebuild word rows h root r (ap (λ x. ref_of x.root) (sym row_is) ∙ is) published))
       it.2
-    where
-      rebuild_is : (x y : RebuildRow) → Rebuild x ≡ Rebuild y → x ≡ y
-      rebuild_is x y e = cc
   cut_step log (Count caller node) h cut base row root r there is published = by_step log
       (Count caller node) h count_same cut base row root r there is published
   cut_step log (Draw caller rebuild part) h cut base row root r there is published = by_step log

@@ -1,5 +1,5 @@
 -- What a slot holds, before and after a write. Serves each law about slots.
-use Rattle.std.proofs.Common.{◌≡◌, ◌≢◌, ℕ, zero, suc, ◌⊎◌, ◌==◌, Bool, true, false, if◌then◌else◌, List, [], ◌∷◌, slice_get, slice_set, Option, Some, None, option_map, refl, sym, ap, ◌∙◌, subst, inl, inr, ⊎_elim, arith}
+use Rattle.std.proofs.Common.{◌≡◌, ◌≢◌, ℕ, zero, suc, ◌⊎◌, ◌==◌, Bool, true, false, if◌then◌else◌, List, [], ◌∷◌, slice_get, slice_set, Some, None, option_map, refl, sym, ap, ◌∙◌, subst, inl, inr, ⊎_elim, arith}
 use Rattle.std.proofs.lemmas.Bool.Decides.{nat_tests, eqb_tells}
 use Rattle.ist_core.specs.declared.states.InnerRow.{InnerRow}
 use Rattle.ist_core.specs.RowLayout.{anchor}
@@ -43,10 +43,7 @@ get-set_some (y ∷ xs) (suc i) (suc j) x word e = ⊎_elim (λ w. inl (ap suc w
 -- no row lies at the anchor
 pub no_row : (ps : Pieces) (node : ℕ) (r : InnerRow) → ps anchor ≡ None → node ≡ anchor
     → ps node ≡ Some (Inner r) → ⊥
-no_row ps node r none e there = clash (ps anchor) none (subst (λ b. ps b ≡ Some (Inner r)) e there)
-  where
-    clash : (o : Option Piece) → o ≡ None → o ≡ Some (Inner r) → ⊥
-    clash o a b = cc
+no_row ps node r none e there = cc (subst (λ b. ps b ≡ Some (Inner r)) e there)
 
 -- a row with a status that isn't open isn't open
 pub closed_not_open : (t : Snapshot) (node : ℕ) (r : InnerRow) → t.pieces anchor ≡ None

@@ -1,5 +1,5 @@
 -- Each change is decided once, so few are decided yes. Serves `laws.counts_are_low`.
-use Rattle.std.proofs.Common.{◌≡◌, ◌≢◌, ℕ, zero, suc, ◌+◌, ◌<◌, ◌≤◌, ◌⊎◌, ◌==◌, if◌then◌else◌, Bool, true, false, not, List, [], ◌∷◌, length, Option, Some, option_map, refl, sym, ap, ◌∙◌, subst, inl, inr, arith}
+use Rattle.std.proofs.Common.{◌≡◌, ◌≢◌, ℕ, zero, suc, ◌+◌, ◌<◌, ◌≤◌, ◌⊎◌, ◌==◌, if◌then◌else◌, Bool, true, false, not, List, [], ◌∷◌, length, Some, option_map, refl, sym, ap, ◌∙◌, subst, inl, inr, arith}
 use Rattle.std.proofs.lemmas.Bool.Decides.{eqb_tells}
 use Rattle.ist_core.specs.declared.pairs.Pair.{Pair}
 use Rattle.ist_core.specs.declared.states.InnerRow.{InnerRow}
@@ -9,8 +9,9 @@ use Rattle.ist_core.specs.declared.events.Event.TheVariants.{Enter, Reserve, Ins
 use Rattle.ist_core.specs.RowLayout.{place_limit}
 use Rattle.ist_core.specs.Statuses.{undecided, decided_yes}
 use Rattle.ist_core.specs.Elements.{Among, Each, Distinct}
-use Rattle.ist_core.specs.Pieces.{Pieces, Piece, Inner, Change, with_decision}
+use Rattle.ist_core.specs.Pieces.{Pieces, Inner, Change, with_decision}
 use Rattle.ist_core.specs.StartLayout.{start}
+use Rattle.ist_core.specs.After.{decision_word}
 use Rattle.ist_core.specs.Logs.{Log}
 use Rattle.ist_core.specs.Lawful.{EachEnabled, CanOpen, state_of}
 use Rattle.ist_core.specs.Limits.{decided_yes_in}
@@ -23,6 +24,7 @@ use Rattle.ist_core.proofs.StepLemmas.{grow_step}
 use Rattle.ist_core.proofs.RoomLemmas.{published_good}
 use Rattle.ist_core.proofs.CountLemmas.{drop_all, counts_few}
 use Rattle.ist_core.proofs.TallyLemmas.{count_at_most}
+use Rattle.ist_core.proofs.OptionLemmas.{same_change}
 
 -- ---- numbers without a repetition, all below a number
 
@@ -94,6 +96,11 @@ distinct_below (suc n) xs d h =
 
 -- ---- changes that were decided yes
 
+-- a word of a decision isn't undecided
+pub said_something : (said : Bool) → decision_word said ≢ undecided
+said_something true e = cc
+said_something false e = cc
+
 -- there is a decided change at the base
 IsDecided : Pieces → ℕ → Type 0
 IsDecided ps base = (r : ChangeRow) × (ps base ≡ Some (Change r)) × (r.decision ≢ undecided)
@@ -136,15 +143,11 @@ module _ (pairs : List Pair) (words : ℕ) where
         (now, decided_on log (Decide c base true) h (decided_yes_in log) before.0),
         (
           (λ i. let it = each-among (IsDecided ps) base (decided_yes_in log) before.0 i in
-              it.2 (ap (λ r. r.decision) (same (ps base) it.0 change it.1 h.1.pending.published) ∙
+              it.2 (ap (λ r. r.decision) (same_change (ps base) it.0 change it.1 h.1.pending.published) ∙
               h.1.pending.unset)),
           before.1,
         ),
       )
-    where
-      same : (o : Option Piece) (r s : ChangeRow) → o ≡ Some (Change r) → o ≡ Some (Change s)
-          → r ≡ s
-      same o r s e f = cc
   yes_once (Decide c base false ∷ log) h = let before = yes_once log h.0 in
       (decided_on log (Decide c base false) h (decided_yes_in log) before.0, before.1)
   yes_once (Enter c ∷ log) h = let before = yes_once log h.0 in
@@ -203,7 +206,3 @@ module _ (pairs : List Pair) (words : ℕ) where
       let low = distinct_below place_limit (decided_yes_in log) once.1
       (yes_below opens log h (decided_yes_in log) once.0) in
       omega arith
-
--- one event decides one change
-pub same_base : (a b c d : ℕ) → Decide a b true ≡ Decide c d true → b ≡ d
-same_base a b c d e = cc

@@ -159,10 +159,7 @@ okay_ready v change place word w node r at (as_load l none) here same =
     by_word (eqb_tells word open_word)
   where
     set_when : (r.decision == undecided) ≡ false → r.decision ≢ undecided
-    set_when e is = clash (sym e ∙ ap (λ d. d == undecided) is)
-      where
-        clash : false ≡ true → ⊥
-        clash f = cc
+    set_when e is = cc (sym e ∙ ap (λ d. d == undecided) is)
 
     by_word : (((word == open_word) ≡ true) × (word ≡ open_word))
         ⊎ (((word == open_word) ≡ false) × (word ≢ open_word))

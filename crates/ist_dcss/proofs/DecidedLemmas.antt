@@ -21,7 +21,8 @@ use Rattle.ist_rule.proofs.WentOnLemmas.{looked_went, logged_went, went_now, wen
 use Rattle.ist_dcss.proofs.DecideLemmas.{MayDecide, can_decide, deciding_is}
 use Rattle.ist_dcss.proofs.HelperLemmas.{went_row}
 use Rattle.ist_dcss.proofs.OutcomeLemmas.{HasFate, fate, okay_seen}
-use Rattle.laws_links.proofs.ChangeLemmas.{yes_has_okay, said_something}
+use Rattle.laws_links.proofs.ChangeLemmas.{yes_has_okay}
+use Rattle.ist_core.proofs.YesLemmas.{said_something}
 
 -- ---- what the exchange of the decision says
 

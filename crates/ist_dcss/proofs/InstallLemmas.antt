@@ -149,24 +149,16 @@ unrefused_later pairs words number node old log before h l all none base r e own
     let on = change_there t.pieces u.pieces (grow_between pairs words old log h (later-goes_on l))
     base
     was.0 was.1 in
-    let same : on.0 ≡ r = same_row on.0 r on.1 e in
+    let same : on.0 ≡ r = cc (on.1) in
     let owner : was.0.owner ≡ number =
     sym (ap (λ x. x.owner) on.2.others) ∙ ap (λ x. x.owner) same ∙ own in
     let node_is : was.0.node ≡ node =
     sym (ap (λ x. x.node) on.2.others) ∙ ap (λ x. x.node) same ∙ at in
     let d = resolved_decided pairs words old before base (all base was.0 was.1 owner) in
-    let set : was.0.decision ≢ undecided = λ x. d.decided
-    (ap (λ y. y.decision) (same_row_old d.change was.0 d.published was.1) ∙ x) in
+    let was_is : d.change ≡ was.0 = cc (d.published, was.1) in
+    let set : was.0.decision ≢ undecided = λ x. d.decided (ap (λ y. y.decision) was_is ∙ x) in
     λ no. none base was.0 was.1 owner node_is
     (sym (on.2.decided set) ∙ ap (λ x. x.decision) same ∙ no)
-  where
-    same_row : (a b : ChangeRow) → (state_of pairs words log).pieces base ≡ Some (Change a)
-        → (state_of pairs words log).pieces base ≡ Some (Change b) → a ≡ b
-    same_row a b p q = cc
-
-    same_row_old : (a b : ChangeRow) → (state_of pairs words old).pieces base ≡ Some (Change a)
-        → (state_of pairs words old).pieces base ≡ Some (Change b) → a ≡ b
-    same_row_old a b p q = cc
 
 -- ---- the exchange
 

@@ -197,8 +197,5 @@ pub aimed_other : (v : View) (base : ℕ) (f : Filling) (m : IsInstallable v bas
     → Looked u place found w → found ≢ from → (word : ℕ) → Other found ≡ Other word
     → IsOther v base f word w
 aimed_other v base f m place from u a found w l ne word is =
-    subst (λ n. IsOther v base f n w) (answer found word is)
+    subst (λ n. IsOther v base f n w) (cc)
     (other_tells v base f m u a.seen place found w a.at l (λ e. ne (e ∙ a.from_is)))
-  where
-    answer : (a b : ℕ) → Other a ≡ Other b → a ≡ b
-    answer a b e = cc

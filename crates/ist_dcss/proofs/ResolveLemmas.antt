@@ -14,7 +14,7 @@ use Rattle.ist_core.specs.Slots.{SlotHolds}
 use Rattle.ist_core.specs.Lawful.{state_of}
 use Rattle.ist_core.specs.Writing.{place_of_slot, touch_of_resolve}
 use Rattle.ist_core.proofs.FateLemmas.{grow_between}
-use Rattle.laws_links.proofs.ChangeLemmas.{unresolved_stands, said_something}
+use Rattle.laws_links.proofs.ChangeLemmas.{unresolved_stands}
 use Rattle.laws_links.proofs.ResolvedLemmas.{resolved_gone}
 use Rattle.ist_rule.specs.declared.view.View.{View}
 use Rattle.ist_core.specs.declared.events.Who.TheVariants.{Caller}
@@ -33,6 +33,7 @@ use Rattle.ist_dcss.proofs.HelperLemmas.{went_row}
 use Rattle.ist_dcss.proofs.SlotPlaceLemmas.{change_slot, slot_shown, shown_in_slot, slot_place_later}
 use Rattle.ist_dcss.proofs.FieldLemmas.{field_now}
 use Rattle.ist_dcss.proofs.DecideLemmas.{row_after, number_low}
+use Rattle.ist_core.proofs.YesLemmas.{said_something}
 
 -- an event resolves the change or doesn't
 resolves_now : (base : ℕ) (event : Event) → Resolves base event ⊎ ¬ (Resolves base event)
@@ -222,7 +223,7 @@ may_resolve v change m said d u h place slot w k side offset field offset_is =
     let more = went_row (Serves change) change u w k slot.row slot.published in
     let set : d.row.decision ≢ undecided = λ e. said_something said (sym d.decision ∙ e) in
     let is : on.0.decision ≡ decision_word said = on.2.decided set ∙ d.decision in
-    let one : on.0 ≡ more.0 = same_row on.0 more.0 on.1 more.1 in
+    let one : on.0 ≡ more.0 = cc (on.1, more.1) in
     let node : more.0.node ≡ slot.row.node = ap (λ x. x.node) more.2.others in
     let index : more.0.index ≡ slot.row.index = ap (λ x. x.index) more.2.others in
     let was = change_slot u.start u.words u.log s.lawful.enabled change slot.row slot.published in
@@ -245,10 +246,6 @@ may_resolve v change m said d u h place slot w k side offset field offset_is =
           (ap (λ x. x.index) one ∙ index));
       side_is = side_by w change side said (subst (λ n. IsField w change n side) offset_is field) on.0 on.1 is;
     }
-  where
-    same_row : (a b : ChangeRow) → (now w).pieces change ≡ Some (Change a)
-        → (now w).pieces change ≡ Some (Change b) → a ≡ b
-    same_row a b e f = cc
 
 -- the event that the exchange of a slot names
 pub resolving_is : (v : View) (number change old : ℕ) → v.who ≡ Caller number

@@ -1,5 +1,5 @@
 -- Where the slot of a change lies, and what is shown there. Serves `slot_of` and `resolve`.
-use Rattle.std.proofs.Common.{◌≡◌, ◌≢◌, ℕ, ◌+◌, ◌≤◌, List, ◌∷◌, length, Some, None, refl, sym, ap, ◌∙◌, subst, arith}
+use Rattle.std.proofs.Common.{◌≡◌, ◌≢◌, ℕ, ◌+◌, ◌≤◌, List, ◌∷◌, length, Some, refl, sym, ap, ◌∙◌, subst, arith}
 use Rattle.ist_core.specs.declared.pairs.Pair.{Pair}
 use Rattle.ist_core.specs.declared.states.InnerRow.{InnerRow}
 use Rattle.ist_core.specs.declared.states.ChangeRow.{ChangeRow}
@@ -53,11 +53,8 @@ module _ (pairs : List Pair) (words : ℕ) (log : Log) (enabled : EachEnabled (s
 
     -- an inner row isn't the anchor
     pub no_anchor : (node : ℕ) (r : InnerRow) → t.pieces node ≡ Some (Inner r) → node ≢ anchor
-    no_anchor node r e is = clash (sym (anchor_free pairs words log enabled) ∙ subst
+    no_anchor node r e is = cc (sym (anchor_free pairs words log enabled) ∙ subst
         (λ n. t.pieces n ≡ Some (Inner r)) is e)
-      where
-        clash : None ≡ Some (Inner r) → ⊥
-        clash f = cc
 
     -- an inner row has as many slots as its degree says
     pub has_degree : (node : ℕ) (r : InnerRow) → t.pieces node ≡ Some (Inner r) → HasDegree r

@@ -1,6 +1,6 @@
 -- Looks at slots and the nodes that a search reaches, by what a caller has loaded. Serves
 -- `finding`.
-use Rattle.std.proofs.Common.{◌≡◌, ◌≢◌, ℕ, ◌<◌, ◌≤◌, ◌⊎◌, List, [], ◌∷◌, ◌++◌, length, Option, Some, refl, sym, subst, inl, inr}
+use Rattle.std.proofs.Common.{◌≡◌, ◌≢◌, ℕ, ◌<◌, ◌≤◌, ◌⊎◌, List, [], ◌∷◌, ◌++◌, length, Some, refl, sym, subst, inl, inr}
 use Rattle.std.proofs.Math.Nat.{le_trans}
 use Rattle.ist_core.specs.declared.loads.Load.{Load}
 use Rattle.ist_core.specs.declared.pairs.Pair.{Pair}
@@ -202,14 +202,11 @@ pub word_looked : (v w : View) → GoesOnTo v w → (key node i word : ℕ) (ref
 word_looked v w g key node i word ref rows h index holds is no_change no_rebuild =
     let named = holds_named w g.sound node i word holds in
     let plain : IsPlain (ref_of word) =
-    λ base e. no_change base (some_same (ref_of word) ref (ChangeAt base) is e) in
+    λ base e. no_change base (cc) in
     look_told v w w w key node i word word ref rows h g index holds
     (no_change_told w g.sound word named plain)
     (no_rebuild_told w g.sound word ref is named plain
-    (λ base e. no_rebuild base (some_same (ref_of word) ref (RebuildAt base) is e)))
-  where
-    some_same : (o : Option Ref) (a b : Ref) → o ≡ Some a → o ≡ Some b → a ≡ b
-    some_same o a b e f = cc
+    (λ base e. no_rebuild base (cc)))
 
 -- a walk goes down by a word that is an inner row
 pub word_down : (v w : View) → GoesOnTo v w → (key node i word child : ℕ) (rows : List ℕ)

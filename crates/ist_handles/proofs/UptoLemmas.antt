@@ -15,9 +15,6 @@ IsInside all first last x = (j : ℕ) × (slice_get all j ≡ Some x) × (first 
 
 -- ---- one pair before others
 
-no_pair : (n : ℕ) (x : Pair) → slice_get {X = Pair} [] n ≡ Some x → ⊥
-no_pair n x at = cc
-
 -- ---- a pair of an interval
 
 later : (p : Pair) (ps : List Pair) (first last : ℕ) (x : Pair) → IsInside ps first last x
@@ -36,7 +33,7 @@ at_first p ps first last from to rest (suc n) x at = later p ps first last x (re
 -- a pair of an interval is one of all, between both ends
 pub inside : (all : List Pair) (first last n : ℕ) (x : Pair)
     → slice_get (pairs_between first last all) n ≡ Some x → IsInside all first last x
-inside [] first last n x at = absurd (no_pair n x at)
+inside [] first last n x at = absurd (cc)
 inside (p ∷ ps) first last n x at =
     let Other : Type 0 = (nat_le first p.key && nat_le p.key last) ≡ false in
     let skip : Other → IsInside (p ∷ ps) first last x = λ e. later p ps first last x
@@ -89,7 +86,7 @@ module _ (p : Pair) (ps : List Pair) (first last : ℕ)
 pub upto : (all : List Pair) → Rise all → (first last n : ℕ) (x : Pair)
     → slice_get (pairs_between first last all) n ≡ Some x
     → take (suc n) (pairs_between first last all) ≡ pairs_between first x.key all
-upto [] rises first last n x at = absurd (no_pair n x at)
+upto [] rises first last n x at = absurd (cc)
 upto (p ∷ ps) rises first last n x at =
     let rest = upto ps (λ i j y z at_i at_j low. rises (suc i) (suc j) y z at_i at_j (omega arith)) first last in
     let here = kept first last p ps in

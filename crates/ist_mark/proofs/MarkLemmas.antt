@@ -5,7 +5,7 @@ use Rattle.ist_core.specs.declared.events.Event.{Event}
 use Rattle.ist_core.specs.declared.events.Event.TheVariants.{Mark}
 use Rattle.ist_core.specs.declared.states.InnerRow.{InnerRow}
 use Rattle.ist_core.specs.RowLayout.{inner_status_offset}
-use Rattle.ist_core.specs.Statuses.{Open, Finished, status_of, open_word, marked_word}
+use Rattle.ist_core.specs.Statuses.{Finished, status_of, open_word, marked_word}
 use Rattle.ist_core.specs.Pieces.{Inner, with_status}
 use Rattle.ist_core.specs.StartLayout.{start}
 use Rattle.ist_core.specs.Marking.{IsCalled}
@@ -91,10 +91,7 @@ pub record MarkTells (v w : View) (node found : ℕ) : Type 0 where
 
 -- the word of a finished status isn't an open status's word
 not_open : (word k : ℕ) → status_of word ≡ Some (Finished k) → word ≢ open_word
-not_open word k e is = clash (sym (ap status_of is ∙ status_of-open) ∙ e)
-  where
-    clash : Some Open ≡ Some (Finished k) → ⊥
-    clash e = cc
+not_open word k e is = cc (sym (ap status_of is ∙ status_of-open) ∙ e)
 
 module _ (v : View) (number node place found : ℕ) (w : View) (row : InnerRow)
     (published : (now v).pieces node ≡ Some (Inner row)) (at : place ≡ node + inner_status_offset)

@@ -88,15 +88,11 @@ module _ (pairs : List Pair) (words : ℕ) (opens : CanOpen pairs words) (log : 
       (ap (logical t.pieces) unset ∙ ap (λ o. past_rebuild t.pieces (past_change t.pieces o))
       ref_of-unset))
       (λ f.
-      let same = same_row f.1.row row f.1.published published in
+      let same : f.1.row ≡ row = cc (f.1.published) in
       let odd : f.1.row.status ≡ 4 * f.0 + 3 = f.1.status in
       let one : f.1.row.status ≡ 1 = ap (λ r. r.status) same ∙ marked in
       omega arith)
       (linked_or_finished pairs words opens log h node was)
-    where
-      same_row : (a b : InnerRow) → t.pieces node ≡ Some (Inner a) → t.pieces node ≡ Some (Inner b)
-          → a ≡ b
-      same_row a b e f = cc
 
 -- ---- what is known after a load
 

@@ -23,7 +23,7 @@ use Rattle.ist_rebuild.specs.Going.{Begins, StartsAt}
 use Rattle.ist_rebuild.specs.Starting.{ReservesNeeded, StartsDoneSince, StartsNone, StoodInstead}
 use Rattle.ist_rebuild.specs.StartSteps.{HasBegun, HasReserved, IsStartReady, TellsStart, start_filling}
 use Rattle.ist_rebuild.proofs.FewLemmas.{none_installed}
-use Rattle.ist_rebuild.proofs.StartAnswerLemmas.{after_done, after_uninstalled, after_unstarted, has_put, no_closed, no_done, no_start, put_aims, put_begins, same_answer, same_word, yes_done, yes_started}
+use Rattle.ist_rebuild.proofs.StartAnswerLemmas.{after_done, after_uninstalled, after_unstarted, has_put, no_closed, no_done, no_start, put_aims, put_begins, yes_done, yes_started}
 use Rattle.ist_rebuild.proofs.StartGoingLemmas.{HasPutIn, aims_reserving, begins_reserving}
 use Rattle.ist_rebuild.proofs.StartOwnLemmas.{starts_none_reserving, starts_reserving}
 use Rattle.ist_rebuild.proofs.StartPutLemmas.{put_caller, put_quiet, put_refused, start_bases}
@@ -84,7 +84,7 @@ module _ (old new : Caller) (c : IsCaller old) (q : IsQuiet old) (r : HasReserve
       record {
         yes = λ rebuild e. absurd (cc e);
         other = λ other e. subst (StoodInstead new.token.view parent index target)
-            (same_word word other (same_answer (Other word) (Other other) e)) stood;
+            (cc) stood;
         marked = λ e. absurd (cc e);
         done = done;
         unstarted = none;
@@ -198,7 +198,7 @@ module _ (who : Caller) (parent index target rebuild change : ℕ) (f : Filling)
           begun.1,
           record {
             yes = λ other e. yes_started who parent index target rebuild change f ready s last.view
-                (put true d) other (same_answer (Yes rebuild) (Yes other) e);
+                (put true d) other (cc);
             other = λ word e. absurd (cc e);
             marked = λ e. absurd (cc e);
             done = yes_done who parent index target rebuild change f ready s last.view (put true d);

@@ -107,10 +107,7 @@ few_row old new words answer c words_is held fresh full = at old.change refl hel
         → HasTakenFewIn a (wanting o change_words) 0 old new
     at (Some base) e h (Ok found) f r =
         subst (HasTakenFew 0 0 old) (sym h.1) (few_same 0 old)
-    at (Some base) e h (Err x) f r = absurd (held_some r.none e)
-      where
-        held_some : {o : Option ℕ} → o ≡ None → o ≡ Some base → ⊥
-        held_some {o} p q = cc
+    at (Some base) e h (Err x) f r = absurd (cc (r.none))
     at None e h (Ok base) f r = few_reserved old new c base (kind_words Change) (f e).0
     at None e h (Err x) f r = full_out old new c words (kind_words Change) x words_is r.cause
 

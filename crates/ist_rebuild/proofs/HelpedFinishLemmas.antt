@@ -214,11 +214,8 @@ pub other_holds : (who : Caller) (plan : PlannedFinish) (change found : ℕ) (w 
     → IsOther who.token.view change (filling_at who.token.view change) found w
     → (word : ℕ) → Other found ≡ Other word → SlotHolds (now w) plan.parent plan.index word
 other_holds who plan change found w p o word e =
-    subst (SlotHolds (now w) plan.parent plan.index) (answer found word e)
+    subst (SlotHolds (now w) plan.parent plan.index) (cc)
     (subst (λ (r : ChangeRow). SlotHolds (now w) r.node r.index found) p.is o.in_slot)
-  where
-    answer : (a b : ℕ) → Other a ≡ Other b → a ≡ b
-    answer a b e = cc
 
 -- the other word isn't the rebuild's
 pub other_differs : (who : Caller) (plan : PlannedFinish) (change found : ℕ) (w : View)

@@ -156,9 +156,6 @@ pub took_row : (old new : Caller) (base : ℕ) → IsReady old → IsSound old.t
     → HasRow old new (Ok base) → HasTakenRow old new base
 took_row old new base ready s h = at old.change refl h.held
   where
-    one : (a b : ℕ) → ◌≡◌ {A = Result ℕ Full} (Ok a) (Ok b) → a ≡ b
-    one a b e = cc
-
     at : (o : Option ℕ) → old.change ≡ o
         → IfSome o (λ held. (◌≡◌ {A = Result ℕ Full} (Ok base) (Ok held)) × (new ≡ old))
         → HasTakenRow old new base
@@ -166,7 +163,7 @@ took_row old new base ready s h = at old.change refl h.held
         subst (λ x. HasTakenRow old x base) (sym k.1) record {
           helped = helped_same old ready s;
           by = went_same Builds old.token.view s;
-          row = is ∙ ap (λ n. Some n) (sym (one base held k.0));
+          row = is ∙ ap (λ n. Some n) (sym (cc (k.0)));
         }
     at None is k =
         let f = h.fresh is in

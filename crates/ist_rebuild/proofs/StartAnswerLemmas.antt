@@ -34,18 +34,6 @@ use Rattle.ist_rows.proofs.ShortLemmas.{short_from}
 
 -- ---- answers
 
--- the rebuild and the word that are answered
-pub same_rebuild : (a b : ℕ) → Yes a ≡ Yes b → a ≡ b
-same_rebuild a b e = cc
-
--- `Other` is injective
-pub same_word : (a b : ℕ) → Other a ≡ Other b → a ≡ b
-same_word a b e = cc
-
--- `Ok` is injective
-pub same_answer : (a b : Started) → ◌≡◌ {A = Result Started Full} (Ok a) (Ok b) → a ≡ b
-same_answer a b e = cc
-
 -- what was installed, helped and decided so is the filling
 pub has_put : (v : View) (change : ℕ) (f g : Filling) (said : Bool) (between w : View) → f ≡ g
     → IsInstalled v change f between → WentOn (Serves change) between w → IsDecided w change said
@@ -113,7 +101,7 @@ module _ (who : Caller) (parent index target rebuild change : ℕ) (f : Filling)
   pub yes_started : HasPutIn v change plan true w → (other : ℕ) → Yes rebuild ≡ Yes other
       → IsStartedAt (now w) other parent index target
   yes_started h other is =
-      subst (λ n. IsStartedAt (now w) n parent index target) (same_rebuild rebuild other is)
+      subst (λ n. IsStartedAt (now w) n parent index target) (cc)
       (put_started who.number parent index target rebuild change apart good v w h)
 
   -- if it was decided yes, all other starts of the caller since a state are done

@@ -1,5 +1,5 @@
 -- How a caller goes on while it starts a rebuild. Serves `start`.
-use Rattle.std.proofs.Common.{◌≡◌, ℕ, Bool, Some, refl, ap, ◌∙◌}
+use Rattle.std.proofs.Common.{◌≡◌, ℕ, Bool, refl, ap, ◌∙◌}
 use Rattle.ist_build.specs.Laying.{IsReservation}
 use Rattle.ist_core.specs.declared.events.Event.{Event}
 use Rattle.ist_core.specs.declared.events.Event.TheVariants.{Reserve, Install, Okay, Decide, Resolve}
@@ -62,16 +62,11 @@ put_went P v change f said w h installs serves =
 -- the rows of a start are of its kind
 pub begins_installing : (change : ℕ) (f : Filling) → f.change.kind ≡ start_kind
     → IsOfKind start_kind (rows_of f change)
-begins_installing change f kind x is = ap (λ (y : ChangeRow). y.kind) (one x is) ∙ kind
-  where
-    one : (x : ChangeRow) → Some f.change ≡ Some x → x ≡ f.change
-    one x e = cc
+begins_installing change f kind x is =
+    let same : x ≡ f.change = cc in ap (λ (y : ChangeRow). y.kind) same ∙ kind
 
 -- the install of a start aims at its target
 pub aims_installing : (target change : ℕ) (f : Filling) → f.change.from ≡ word_of (InnerAt target)
     → (number : ℕ) → StartsAt target (Install number change (rows_of f change))
 aims_installing target change f from number x is kind =
-    ap (λ (y : ChangeRow). y.from) (one x is) ∙ from
-  where
-    one : (x : ChangeRow) → Some f.change ≡ Some x → x ≡ f.change
-    one x e = cc
+    let same : x ≡ f.change = cc in ap (λ (y : ChangeRow). y.from) same ∙ from

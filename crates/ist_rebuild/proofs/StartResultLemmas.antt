@@ -137,13 +137,10 @@ module _ (number parent index target rebuild change : ℕ) (apart : rebuild ≢ 
       ∙ ap (λ (c : ChangeRow). ref_of c.to) x.2.others)) to
       (ref_of-word_of (RebuildAt rebuild) good)
     where
-      one_base : (a b : ℕ) → Some (RebuildAt a) ≡ Some (RebuildAt b) → a ≡ b
-      one_base a b e = cc
-
       one_ref : (o : Option Ref) → ref_of (word_of (RebuildAt rebuild)) ≡ o
           → o ≡ Some (RebuildAt other)
           → ref_of (word_of (RebuildAt rebuild)) ≡ Some (RebuildAt rebuild) → other ≡ rebuild
-      one_ref o f g k = one_base other rebuild (sym g ∙ sym f ∙ k)
+      one_ref o f g k = cc (sym g ∙ sym f ∙ k)
 
 -- if the slot held another word, it holds that word
 pub other_stood : (f : Filling) (number parent index target rebuild change : ℕ) (v : View)

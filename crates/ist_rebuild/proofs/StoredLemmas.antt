@@ -15,11 +15,7 @@ module _ (v : View) (base : ℕ) (row : ChangeRow) where
   word_at : (k word : ℕ) → k < 9 → slice_get (words_of (Change row)) k ≡ Some word
       → own_at w.own (base + k) ≡ word
   word_at k word less got =
-      one (own_at w.own (base + k)) word
-      (sym (stored_at v.own base (words_of (Change row)) k less) ∙ got)
-    where
-      one : (a b : ℕ) → Some a ≡ Some b → a ≡ b
-      one a b e = cc
+      cc (sym (stored_at v.own base (words_of (Change row)) k less) ∙ got)
 
   same : (a b c d e f g h i : ℕ) → a ≡ row.decision → b ≡ row.kind → c ≡ row.node → d ≡ row.index
       → e ≡ row.from → f ≡ row.to → g ≡ row.owner → h ≡ row.key → i ≡ row.value

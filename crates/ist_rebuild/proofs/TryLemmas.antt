@@ -1,5 +1,5 @@
 -- Trying a finish: a load of the parent's status, and then steps of help. Serves `try_finish`.
-use Rattle.std.proofs.Common.{◌≡◌, ℕ, Option, None, Result, Ok}
+use Rattle.std.proofs.Common.{ℕ, Result, Ok}
 use Rattle.ist_core.specs.declared.ports.Full.{Full}
 use Rattle.laws_coming.specs.Further.{CameFurther}
 use Rattle.laws_coming.proofs.FurtherLemmas.{no_less}
@@ -10,15 +10,10 @@ use Rattle.ist_rows.specs.Going.{IsReady}
 use Rattle.ist_rows.specs.Taken.{HasTakenFew, HasTakenFewIn, TakesNoWords}
 use Rattle.ist_rows.proofs.FewStepLemmas.{few_any, few_call, few_kept, none_loads, none_more}
 use Rattle.ist_rows.proofs.GoneLemmas.{still_ready}
-use Rattle.ist_rebuild.specs.declared.answers.Helped.{Helped}
 use Rattle.ist_rebuild.specs.Going.{ServesRebuild}
 use Rattle.ist_rebuild.specs.Helping.{HasHelped}
 use Rattle.ist_rebuild.proofs.FewLemmas.{after_helped}
 use Rattle.ist_rebuild.proofs.HelpedLemmas.{helped_more, loads_helped}
-
--- an answer that tells nothing
-pub none_of : (o : Option Helped) → ◌≡◌ {A = Result (Option Helped) Full} (Ok o) (Ok None) → o ≡ None
-none_of o e = cc
 
 module _ (who : Caller) (token : TokenFace) (ready : IsReady who)
     (seen : GoesOnTo who.token.view token.view) where

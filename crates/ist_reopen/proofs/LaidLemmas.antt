@@ -94,9 +94,6 @@ module _ (number : ℕ) where
   shift_high first count (call ∷ calls) high =
       (let low = high.0 in omega arith, shift_high first count calls high.1)
 
-  entry_tail : (x y : Entry) (xs ys : List Entry) → x ∷ xs ≡ y ∷ ys → xs ≡ ys
-  entry_tail x y xs ys e = cc
-
   -- later calls, if they and the later entries are known
   laid_later : (first : ℕ) (entry : Entry) (entries : List Entry) (xs : List Reading)
       (here rest : List Call) → ArePlacedAmong first (entry ∷ entries) xs (here ++ rest)
@@ -164,7 +161,7 @@ module _ (number : ℕ) where
   after_told first entry entries xs here _ h reads (changes {calls = calls} call e same low) more =
       rw owner (ap (λ ts. told_by_entry entry ∷ ts)
       (more calls (laid_later first entry entries xs here (call ∷ calls) h reads calls
-      (order_back here (call ∷ calls) h.order).1 low high.1 made.1 (entry_tail _ _ _ _ all)
+      (order_back here (call ∷ calls) h.order).1 low high.1 made.1 (cc (all))
       (λ position. rw e refl)))
       ∙ ap (λ (x : Entry). told_by_entry x ∷ map told_by_call calls) is)
     where

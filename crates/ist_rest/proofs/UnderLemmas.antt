@@ -35,14 +35,6 @@ pub data IsReadUnder (t : Snapshot) (n i b : ℕ) : Type 0 where
   row_under : {m k : ℕ} → HasHome t m k b → Up t n i m k → IsReadUnder t n i b
   leaf_under : (r : LeafRow) → t.pieces b ≡ Some (Leaf r) → LiesIn t r.key n i → IsReadUnder t n i b
 
-leaf_inner : (o : Option Piece) (r : LeafRow) (s : InnerRow) → o ≡ Some (Leaf r)
-    → o ≡ Some (Inner s) → ⊥
-leaf_inner o r s e f = cc
-
-leaf_rebuild : (o : Option Piece) (r : LeafRow) (s : RebuildRow) → o ≡ Some (Leaf r)
-    → o ≡ Some (Rebuild s) → ⊥
-leaf_rebuild o r s e f = cc
-
 -- a rebuild isn't an inner row
 pub rebuild_inner : (o : Option Piece) (r : RebuildRow) (s : InnerRow) → o ≡ Some (Rebuild r)
     → o ≡ Some (Inner s) → ⊥
@@ -55,9 +47,8 @@ module _ (t : Snapshot) (o : WordsName t) (home : HasOneHome t) (free : t.pieces
 
     -- a leaf has no such home
     pub no_home : (m k b : ℕ) (r : LeafRow) → t.pieces b ≡ Some (Leaf r) → HasHome t m k b → ⊥
-    no_home m k b r e (as_child c) = let it = inner_there m k b c in leaf_inner (t.pieces b) r it.0
-        e it.1
-    no_home m k b r e (as_rebuild h) = leaf_rebuild (t.pieces b) r h.row e h.published
+    no_home m k b r e (as_child c) = let it = inner_there m k b c in cc (it.1)
+    no_home m k b r e (as_rebuild h) = cc (h.published)
 
     -- a row has one home
     home_once : (m k n i b : ℕ) → HasHome t m k b → HasHome t n i b → (m ≡ n) × (k ≡ i)

@@ -88,10 +88,7 @@ caller_later pairs words old log number own lawful l c =
 is_base_some : (o : Option ℕ) (base : ℕ) → is_base o base ≡ true → o ≡ Some base
 is_base_some None base e = cc
 is_base_some (Some b) base e = ⊎_elim (λ k. ap (λ n. Some n) k.1)
-    (λ k. absurd (clash (sym e ∙ k.0))) (eqb_tells b base)
-  where
-    clash : true ≡ false → ⊥
-    clash f = cc
+    (λ k. absurd (cc (sym e ∙ k.0))) (eqb_tells b base)
 
 -- one of two tests holds
 or_true : (a b : Bool) → (a || b) ≡ true → (a ≡ true) ⊎ (b ≡ true)

@@ -18,7 +18,7 @@ use Rattle.ist_rows.proofs.CallerLawLemmas.{loaded_made, caller_made}
 pub may_drop : (who : Caller) (pair node : ℕ) → IsCaller who → HasPairBelow who node
     → who.pair ≡ Some pair → CanLoadPast who.token.view pair node
 may_drop who pair node c h is =
-    let same : h.pair ≡ pair = one h.pair (sym h.held ∙ is) in
+    let same : h.pair ≡ pair = cc (sym h.held ∙ is) in
     record {
       number = who.number;
       mine = c.mine;
@@ -27,18 +27,12 @@ may_drop who pair node c h is =
       published = h.published;
       above = subst (λ n. n < node) same h.below;
     }
-  where
-    one : (p : ℕ) → Some p ≡ Some pair → p ≡ pair
-    one p e = cc
 
 -- the load is the loss
 pub has_lost : (v : View) (number pair node place word : ℕ) (w : View) → v.who ≡ CallerOf number
     → place ≡ node + inner_status_offset → LoadedAs v (past_of v pair) place word w
     → HasLost v number pair node w
-has_lost v number pair node place word w who at (as_load l none) = absurd (clash none)
-  where
-    clash : {event : Event} → Some event ≡ None → ⊥
-    clash e = cc
+has_lost v number pair node place word w who at (as_load l none) = absurd (cc)
 has_lost v number pair node place word w who at (as_event event l e) = (
   word,
   subst (λ p. LoggedLoad v (Lose number (pair ∷ [])) p word w) at

@@ -82,11 +82,8 @@ held_by_own pairs words log number event mine = at event mine
         (state_of pairs words log).held
 
     same_number : (caller : ℕ) → CallerOf caller ≡ CallerOf number → (caller == number) ≡ true
-    same_number caller e = ⊎_elim (λ k. k.0) (λ k. absurd (k.1 (one caller e)))
+    same_number caller e = ⊎_elim (λ k. k.0) (λ k. absurd (k.1 (cc)))
         (eqb_tells caller number)
-      where
-        one : (caller : ℕ) → CallerOf caller ≡ CallerOf number → caller ≡ number
-        one caller f = cc
 
     at : (e : Event) → whose e ≡ CallerOf number
         → held_by (state_of pairs words (e ∷ log)) number

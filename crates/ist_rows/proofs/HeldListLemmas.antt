@@ -38,14 +38,11 @@ filter_filter : {A : Type 0} (p q : A → Bool) (xs : List A)
 filter_filter p q [] h = refl
 filter_filter p q (x ∷ xs) h = at (filter_filter p q xs (λ y i. h y (inr i))) (p x) refl (q x) refl
   where
-    clash : true ≡ false → ⊥
-    clash e = cc
-
     at : filter p (filter q xs) ≡ filter p xs → (a : Bool) → p x ≡ a → (b : Bool) → q x ≡ b
         → filter p (filter q (x ∷ xs)) ≡ filter p (x ∷ xs)
     at rest true e true f = ap (filter p) (filter_here q x xs true f) ∙ filter_here p x
         (filter q xs) true e ∙ ap (λ ys. x ∷ ys) rest ∙ sym (filter_here p x xs true e)
-    at rest true e false f = absurd (clash (sym (h x (inl refl) e) ∙ f))
+    at rest true e false f = absurd (cc (sym (h x (inl refl) e) ∙ f))
     at rest false e true f = ap (filter p) (filter_here q x xs true f) ∙ filter_here p x
         (filter q xs) false e ∙ rest ∙ sym (filter_here p x xs false e)
     at rest false e false f = ap (filter p) (filter_here q x xs false f) ∙ rest ∙ sym
@@ -146,11 +143,8 @@ others_without t number bases apart =
     (λ h i mine. at h i mine (list_any (λ base. base == h.base) bases) refl)
   where
     is_number : (h : HeldRow) → (h.caller == number) ≡ true → h.caller ≡ number
-    is_number h e = ⊎_elim (λ k. k.1) (λ k. absurd (clash (sym e ∙ k.0)))
+    is_number h e = ⊎_elim (λ k. k.1) (λ k. absurd (cc (sym e ∙ k.0)))
         (eqb_tells h.caller number)
-      where
-        clash : true ≡ false → ⊥
-        clash f = cc
 
     at : (h : HeldRow) → Among h t.held → (h.caller == number) ≡ true → (b : Bool)
         → list_any (λ base. base == h.base) bases ≡ b

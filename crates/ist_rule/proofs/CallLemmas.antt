@@ -110,16 +110,12 @@ module _ (pairs : List Pair) (words : ℕ) (number : ℕ) (calls : List Call) wh
                   (undecided_comes pairs words log event enabled number other v) is,
             )
           where
-            install_base : {a b : ℕ} {xs ys : List Row} → Install number a xs ≡ Install number b ys
-                → a ≡ b
-            install_base f = cc
-
             near : (other : ℕ) {c : Option Command} {e : Event}
                 → UndecidedComes (start pairs words) log number other c e
                 → e ≡ Install number base rows → (base ≡ other)
                 ⊎ IsUndecided (state_of pairs words log) number other
             near other (was_undecided w k) f = inr w
-            near other (now_installed h2 up2 k) f = inl (sym (install_base f))
+            near other (now_installed h2 up2 k) f = inl (sym (cc))
 
     -- a call that made no entry goes on so, or makes its entry now
     work_on : IsAtWork pairs words log number calls command
@@ -200,26 +196,20 @@ module _ (pairs : List Pair) (words : ℕ) (number : ℕ) (calls : List Call) wh
       → CallStands pairs words (event ∷ log) number calls o
   call_on log event enabled None may b = between_on log event enabled out b
     where
-      none_some : (p : Pending) → None ≡ Some p → ⊥
-      none_some p e = cc
-
       out : (base : ℕ) (rows : List Row) → event ≢ Install number base rows
       out base rows is = let it = may base rows is
-          (subst (Enabled (start pairs words) log) is enabled.1) in none_some it.0 it.1
+          (subst (Enabled (start pairs words) log) is enabled.1) in cc (it.1)
   call_on log event enabled (Some pending) may b =
       ⊎_elim (λ w. work_on log event enabled pending.command brings w)
       (λ w. inr (entered_on log event enabled pending.command brings w)) b
     where
-      some_one : (p q : Pending) → Some p ≡ Some q → p ≡ q
-      some_one p q e = cc
-
       brings : (base : ℕ) (rows : List Row) → event ≡ Install number base rows
           → (h : CanInstall (start pairs words) log number base rows)
           → MayBring pairs words log number calls pending.command h.change
       brings base rows is h =
           let it = may base rows is h in
-          subst (λ p. MayBring pairs words log number calls p.command h.change)
-          (sym (some_one pending it.0 it.1)) it.2
+          let same : pending ≡ it.0 = cc (it.1) in
+          subst (λ p. MayBring pairs words log number calls p.command h.change) (sym same) it.2
 
   -- nothing that others do takes a call further than that
   pub call_by_others : (log : Log) (event : Event) → EachEnabled (start pairs words) (event ∷ log)

@@ -15,7 +15,7 @@ use Rattle.ist_rule.specs.declared.view.Loads.{Loads}
 use Rattle.ist_rule.specs.declared.view.Pending.{Pending}
 use Rattle.ist_rule.specs.declared.view.About.{About}
 use Rattle.ist_core.specs.declared.events.Who.{Who}
-use Rattle.ist_core.specs.declared.events.Who.TheVariants.{Caller, Note}
+use Rattle.ist_core.specs.declared.events.Who.TheVariants.{Caller}
 use Rattle.ist_core.specs.Authors.{Later}
 use Rattle.ist_core.proofs.PrefixLemmas.{goes_on_by, goes_on_more, goes_on_length}
 use Rattle.ist_rule.specs.Standings.{StandsInPrefix, HasMade, IsBetween, CallStands, entries_made}
@@ -36,7 +36,6 @@ use Rattle.ist_rule.proofs.LaterLemmas.{between}
 use Rattle.ist_rule.proofs.FrameLemmas.{Table}
 use Rattle.ist_rule.proofs.SpeakLemmas.{heard_spoken, out_of_call, begun_as, spoken_begins, spoken_returns, spoken_gives_up}
 use Rattle.ist_rule.specs.Conditions.{CanEnd, CanGiveUp}
-use Rattle.ist_rule.proofs.WhoLemmas.{same_number}
 use Rattle.ist_rule.proofs.UndecidedLemmas.{none_undecided}
 use Rattle.ist_rule.proofs.CallLemmas.{between_later}
 use Rattle.ist_rule.proofs.FitLemmas.{each_map, stands_on, well_made_on}
@@ -47,10 +46,7 @@ use Rattle.ist_rule.proofs.LookLemmas.{CanTurn}
 -- a caller keeps its own calls
 keeps_own : (number other : ℕ) (w : Who) → KeepsCalls number w → w ≡ Caller other → number ≡ other
 keeps_own number other _ its_own e = cc
-keeps_own number other _ noted e = absurd (note_caller e)
-  where
-    note_caller : Note (Some number) ≡ Caller other → ⊥
-    note_caller f = cc
+keeps_own number other _ noted e = absurd (cc)
 
 -- what became of the changes of a caller, when it is between calls and begins one
 begun : (pairs : List Pair) (words : ℕ) (log : Log) → Lawful pairs words log
@@ -74,7 +70,7 @@ ended : (k : About) (log : Log) (image : List ℕ) (v : View) → Lawful k.start
     → (n : ℕ) → v.who ≡ Caller n → IsBetween k.start.value.items k.words log n calls
 ended k log image v lawful f number mine calls made resolved n is =
     subst (λ i. IsBetween k.start.value.items k.words log i calls)
-    (same_number number n (sym mine ∙ is))
+    (cc (sym mine ∙ is))
     (between_later k.start.value.items k.words number calls v.log log lawful.enabled
     (subst (λ w. Later w v.log log) mine f.later)
     record {

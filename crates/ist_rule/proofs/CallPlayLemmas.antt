@@ -31,7 +31,7 @@ use Rattle.ist_rule.specs.Glancing.{glancing, glances}
 use Rattle.ist_rule.specs.Learning.{moment_seen, TurnedAt, beginning, searching, beginning_read, ending, giving_up}
 use Rattle.ist_rule.specs.Conditions.{CanBegin, CanEnd, CanGiveUp, MayWalk}
 use Rattle.laws_real_time.proofs.KeepLemmas.{ended_low}
-use Rattle.ist_rule.proofs.WhoLemmas.{caller_maker, same_number}
+use Rattle.ist_rule.proofs.WhoLemmas.{caller_maker}
 use Rattle.ist_rule.proofs.FitLemmas.{each_map, well_made_on}
 use Rattle.ist_rule.proofs.ViewPartLemmas.{well_made_but, true_but}
 use Rattle.ist_rule.proofs.SoundViewLemmas.{as_view, sound_of}
@@ -115,7 +115,7 @@ module _ (k : About) (s : Table) (r : Kept k s) (id : ℕ) (v : View) (live : v.
       at (inl e) =
           subst
           (λ i. CallStands k.start.value.items k.words r.log i (calls_returned i all)
-          (pending_of (in_call i all))) (sym (same_number n number e))
+          (pending_of (in_call i all))) (sym (cc))
           (spoken_stands k.start.value.items k.words r.log all number calls pending spoken_all
           (t.call number is))
       at (inr other) =
@@ -192,7 +192,7 @@ module _ (k : About) (s : Table) (r : Kept k s) (id : ℕ) (v : View) (live : v.
             (λ e. absurd (caller_maker number (sym is ∙ e)))
             record {
               spoken = λ n e. subst (λ i. HasSpoken all i calls pending)
-                  (same_number number n (sym is ∙ e)) spoken_all;
+                  (cc (sym is ∙ e)) spoken_all;
               silent = λ e. absurd (caller_maker number (sym is ∙ e));
               linear = (working_linear k.start.value.items k.words r.log all r.lawful keeps_all
                   working_all).linear;

@@ -57,9 +57,6 @@ get_there : (xs : List ℕ) (place word : ℕ) → slice_get xs place ≡ Some w
     → slice_get (slice_set xs place w) place ≡ Some w
 get_there xs place word e w = get-set_same xs place w word e
 
-some_one : {m n : ℕ} → Some m ≡ Some n → m ≡ n
-some_one e = cc
-
 module _ (pairs : List Pair) (words : ℕ) (log : Log) (enabled : EachEnabled (start pairs words) log)
   where
     -- the words of held rows are loose
@@ -102,5 +99,5 @@ module _ (pairs : List Pair) (words : ℕ) (log : Log) (enabled : EachEnabled (s
         let found' : slice_get other touch.place ≡ Some touch.found =
         subst (λ t. slice_get other t.place ≡ Some t.found) there two.found in
         let now = get_there image touch.place touch.found found (touch.found + 1) in
-        let same : touch.found + 1 ≡ touch.found = some_one (sym now ∙ found') in
+        let same : touch.found + 1 ≡ touch.found = cc (sym now ∙ found') in
         omega arith

@@ -31,11 +31,8 @@ pub caller_or : (w : Who) (number : ℕ) → (w ≡ Caller number) ⊎ (w ≢ Ca
 caller_or Maker number = inr (λ e. absurd (cc))
 caller_or (Note of) number = inr (λ e. absurd (cc))
 caller_or Spent number = inr (λ e. absurd (cc))
-caller_or (Caller n) number = ⊎_elim (λ t. inl (ap Caller t.1)) (λ t. inr (λ e. t.1 (same e)))
+caller_or (Caller n) number = ⊎_elim (λ t. inl (ap Caller t.1)) (λ t. inr (λ e. t.1 (cc)))
     (eqb_tells n number)
-  where
-    same : Caller n ≡ Caller number → n ≡ number
-    same e = cc
 
 -- no moments are linearizable
 pub none_linear : (m : Map) → IsLinearizable m []
@@ -63,10 +60,7 @@ pub later_silent : {other : Who} (number : ℕ) {earlier moments : Moments}
     → MomentsLater (Caller number) earlier moments
 later_silent number no_later h = no_later
 later_silent number (one_later moment l other) h =
-    one_later moment (later_silent number l h.1) (λ e. h.0 (same e))
-  where
-    same : Caller moment.caller ≡ Caller number → moment.caller ≡ number
-    same e = cc
+    one_later moment (later_silent number l h.1) (λ e. h.0 (cc))
 
 -- ---- lists of moments that go on
 

@@ -1,5 +1,5 @@
 -- Where undecided changes come from at each event, and which stay decided. Serves the conjunct `call`.
-use Rattle.std.proofs.Common.{◌≡◌, ◌≢◌, ℕ, Bool, true, false, List, [], ◌∷◌, Option, Some, option_map, sym, ap, ◌∙◌, subst, inl, inr}
+use Rattle.std.proofs.Common.{◌≡◌, ◌≢◌, ℕ, Bool, List, [], ◌∷◌, Option, Some, option_map, sym, ap, ◌∙◌, subst, inl, inr}
 use Rattle.ist_core.specs.declared.commands.Command.{Command}
 use Rattle.ist_core.specs.declared.pairs.Pair.{Pair}
 use Rattle.ist_core.specs.declared.states.ChangeRow.{ChangeRow}
@@ -7,7 +7,7 @@ use Rattle.ist_core.specs.declared.lists.Row.{Row}
 use Rattle.ist_core.specs.declared.events.Event.{Event}
 use Rattle.ist_core.specs.declared.events.Event.TheVariants.{Install, Decide, Resolve}
 use Rattle.ist_core.specs.Statuses.{undecided}
-use Rattle.ist_core.specs.Pieces.{Piece, Change, with_decision}
+use Rattle.ist_core.specs.Pieces.{Change, with_decision}
 use Rattle.ist_core.specs.Snapshots.{Snapshot}
 use Rattle.ist_core.specs.After.{decision_word}
 use Rattle.ist_core.specs.StartLayout.{start}
@@ -26,6 +26,7 @@ use Rattle.ist_core.proofs.StartLemmas.{sound_start}
 use Rattle.ist_rule.specs.Standings.{IsUndecided}
 use Rattle.ist_rule.proofs.ChangeLemmas.{ChangeComes, stood, is_installed, change_comes, grows_same_change, grows_undecided}
 use Rattle.laws_histories.proofs.EntryLemmas.{command_stays}
+use Rattle.ist_core.proofs.YesLemmas.{said_something}
 
 -- ---- changes that are undecided, and changes that are resolved
 
@@ -92,14 +93,8 @@ module _ (pairs : List Pair) (words : ℕ) (log : Log) (event : Event)
           let made = changed_at-same (state_of pairs words log).pieces base
           (with_decision (decision_word b)) ∙ ap
           (option_map (with_decision (decision_word b))) there in
-          word_decides b (ap (λ x. x.decision) (same_row _ _ (sym made ∙ e)) ∙ f)
-        where
-          same_row : (x y : ChangeRow) → Some (Change x) ≡ Some (Change y) → x ≡ y
-          same_row x y k = cc
-
-          word_decides : (b : Bool) → decision_word b ≢ undecided
-          word_decides true k = cc
-          word_decides false k = cc
+          let same : record r { decision = decision_word b } ≡ new = cc (sym made ∙ e) in
+          said_something b (ap (λ x. x.decision) same ∙ f)
 
 -- what was resolved is decided
 pub record WasDecided (t : Snapshot) (base : ℕ) : Type 0 where
@@ -152,13 +147,8 @@ module _ (pairs : List Pair) (words : ℕ) where
       → ¬ (IsUndecided (state_of pairs words log) number base)
   none_undecided log enabled number all base u =
       let d = resolved_decided log enabled base (all base u.change u.pending.published u.owned) in
-      d.decided (ap (λ r. r.decision)
-      (same_row ((state_of pairs words log).pieces base) d.change u.change d.published
-      u.pending.published) ∙ u.pending.unset)
-    where
-      same_row : (o : Option Piece) (r s : ChangeRow) → o ≡ Some (Change r) → o ≡ Some (Change s)
-          → r ≡ s
-      same_row o r s e f = cc
+      let same : d.change ≡ u.change = cc (d.published, u.pending.published) in
+      d.decided (ap (λ r. r.decision) same ∙ u.pending.unset)
 
   -- what is resolved stays so, if the caller installs nothing
   pub resolved_on : (log : Log) (event : Event) → EachEnabled (start pairs words) (event ∷ log)

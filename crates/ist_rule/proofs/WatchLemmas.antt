@@ -125,17 +125,11 @@ if_some false x y e = absurd (cc)
 
 -- if the negated test of two numbers is true, they differ
 pub not_true : (m n : ℕ) → not (m == n) ≡ true → m ≢ n
-not_true m n e = ⊎_elim (λ k. absurd (clash (sym e ∙ ap not k.0))) (λ k. k.1) (eqb_tells m n)
-  where
-    clash : true ≡ not true → ⊥
-    clash f = cc
+not_true m n e = ⊎_elim (λ k. absurd (cc (sym e ∙ ap not k.0))) (λ k. k.1) (eqb_tells m n)
 
 -- a word that is tested to be no change's is no change's
 pub no_change : (o : Option Ref) → not (is_change_ref o) ≡ true → (base : ℕ) → o ≢ Some (ChangeAt base)
-no_change o e base is = clash (sym e ∙ ap (λ x. not (is_change_ref x)) is)
-  where
-    clash : true ≡ not true → ⊥
-    clash f = cc
+no_change o e base is = cc (sym e ∙ ap (λ x. not (is_change_ref x)) is)
 
 -- the place of the status of an inner row
 pub status_place_inner : (node : ℕ) → node ≢ anchor → place_of_status node ≡ node + inner_status_offset

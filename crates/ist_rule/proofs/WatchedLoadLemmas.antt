@@ -1,5 +1,5 @@
 -- Each of the three loads that are events meets what such a load asks. Serves `watching`.
-use Rattle.std.proofs.Common.{◌≡◌, ◌≢◌, ℕ, ◌+◌, ◌<◌, ◌&&◌, ◌==◌, not, [], ◌∷◌, length, slice_get, Some, None, refl, sym, ap, ap₂, ◌∙◌, subst, inl, inr, arith}
+use Rattle.std.proofs.Common.{◌≡◌, ◌≢◌, ℕ, ◌+◌, ◌<◌, ◌&&◌, ◌==◌, not, [], ◌∷◌, length, slice_get, Some, refl, sym, ap, ap₂, ◌∙◌, subst, inl, inr, arith}
 use Rattle.std.proofs.lemmas.Option.{slice_get-get_or}
 use Rattle.std.proofs.lemmas.Bool.{eqb-true}
 use Rattle.ist_core.specs.declared.states.InnerRow.{InnerRow}
@@ -67,11 +67,8 @@ module _ (v : View) (s : IsSound v) (log : Log) (m : MayCome v log) where
 
   -- no row lies at the anchor
   not_anchor : (node : ℕ) (r : InnerRow) → u.pieces node ≡ Some (Inner r) → node ≢ anchor
-  not_anchor node r e is = clash (sym (anchor_free v.start v.words log m.lawful.enabled) ∙ subst
+  not_anchor node r e is = cc (sym (anchor_free v.start v.words log m.lawful.enabled) ∙ subst
       (λ n. u.pieces n ≡ Some (Inner r)) is e)
-    where
-      clash : None ≡ Some (Inner r) → ⊥
-      clash f = cc
 
   -- the status of a node is shown at its place
   status_shown : (node : ℕ) → IsNode u node → (word : ℕ) × IsShown u (place_of_status node) word

@@ -13,7 +13,3 @@ maker_live e = cc
 -- the maker is no caller
 pub maker_caller : (number : ℕ) → Maker ≡ Caller number → ⊥
 maker_caller number e = cc
-
--- one caller has one number
-pub same_number : (m n : ℕ) → Caller m ≡ Caller n → m ≡ n
-same_number m n e = cc

@@ -45,12 +45,9 @@ some_cut [] key rises = (
   record {
     within = omega arith;
     below = λ i pair low at. absurd (omega arith);
-    above = λ i pair high at. absurd (none_some i pair at);
+    above = λ i pair high at. absurd (cc);
   },
 )
-  where
-    none_some : (i : ℕ) (pair : Pair) → slice_get {X = Pair} [] i ≡ Some pair → ⊥
-    none_some i pair at = cc
 some_cut (x ∷ pairs) key rises =
     let rest = some_cut pairs key (λ i j y z at_i at_j low. rises (suc i) (suc j) y z at_i at_j (omega arith)) in
     ⊎_elim

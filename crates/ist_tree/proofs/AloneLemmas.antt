@@ -11,7 +11,6 @@ use Rattle.ist_core.specs.RowLayout.{change_words, rebuild_words}
 use Rattle.ist_core.specs.Spending.{reserved_by, spent}
 use Rattle.ist_core.proofs.PrefixLemmas.{goes_on_more}
 use Rattle.ist_rows.specs.Taken.{taken_at, taken_by}
-use Rattle.ist_rule.proofs.WhoLemmas.{same_number}
 use Rattle.ist_rows.proofs.TakenLemmas.{own_takes, taken_grows, taken_later}
 use Rattle.ist_tree.specs.declared.freezing.Frozen.{Frozen}
 use Rattle.ist_tree.specs.Faces.{PassFace, TreeFace}
@@ -34,7 +33,7 @@ takes_less number _ = omega arith
 own_all : (number : ℕ) (event : Event) → whose event ≡ CallerOf number
     → taken_at number event ≡ reserved_by event
 own_all number (Reserve caller base size) mine =
-    subst (λ n. taken_at n (Reserve caller base size) ≡ size) (same_number caller number mine)
+    subst (λ n. taken_at n (Reserve caller base size) ≡ size) (cc)
     (own_takes caller base size)
 own_all number _ mine = refl
 

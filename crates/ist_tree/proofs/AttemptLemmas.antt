@@ -33,7 +33,7 @@ use Rattle.ist_tree.proofs.EventLemmas.{help_aims, help_plain, serves_start_none
 use Rattle.ist_tree.proofs.InsteadLemmas.{change_helped, none_helped, rebuild_helped}
 use Rattle.ist_tree.proofs.RebuildLemmas.{load_plain, may_start_went, plain_done, starts_went}
 use Rattle.ist_tree.proofs.ShortLemmas.{due_refused_more, other_refused, own_refused}
-use Rattle.ist_tree.proofs.HelpedRebuildLemmas.{all_done, not_open_shut, not_shut_open, same_ok}
+use Rattle.ist_tree.proofs.HelpedRebuildLemmas.{all_done, not_open_shut, not_shut_open}
 
 -- ---- helping the rebuild that was started
 
@@ -210,7 +210,7 @@ other_tried {a} {b} {c} {token} {due} {words} {word} {opened} {answer} may one i
           due_further Rebuilds Rebuilds a.token.view b.token.view c.token.view token.view due.parent
           due.index due.target word may one.on.gone.went (other word (ap started is)) h.on.on.gone.went
           h.settled seen
-          (not_shut_open opened (IsOpen (now token.view) due.target) iff (same_ok _ _ shut));
+          (not_shut_open opened (IsOpen (now token.view) due.target) iff (cc));
       done = done_more a b last one.on.gone.number kept
           (done_more b c last h.on.on.gone.number h.done
           (plain_done (λ event. ⊥) load_plain c token (still_ready h.on.on)

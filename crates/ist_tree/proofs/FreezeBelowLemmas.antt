@@ -1,11 +1,10 @@
 -- What is frozen below the anchor: what was met there as it is, or the target of a rebuild. Serves
 -- `freeze_below`.
-use Rattle.std.proofs.Common.{◌≡◌, ℕ, Option, Some, None, IfSome, refl, sym, ap, ◌∙◌, subst}
+use Rattle.std.proofs.Common.{ℕ, Option, Some, None, IfSome, refl, sym, ap, ◌∙◌, subst}
 use Rattle.ist_core.specs.declared.ports.Full.{Full}
 use Rattle.ist_core.specs.Lawful.{Lawful}
 use Rattle.ist_core.specs.Logs.{same_log}
 use Rattle.ist_core.specs.Rebuilding.{IsFinishedWith}
-use Rattle.ist_core.specs.References.{InnerAt}
 use Rattle.ist_layout.specs.Meanings.{ref_meant}
 use Rattle.ist_rebuild.specs.Starting.{StartsDoneBut, StartsDoneSince}
 use Rattle.ist_rule.specs.declared.view.View.{View}
@@ -37,9 +36,6 @@ still_frozen a c words frozen m =
       few = few_still a c frozen.keys m.few;
     }
 
-one_inner : (a b : ℕ) → InnerAt a ≡ InnerAt b → a ≡ b
-one_inner a b e = cc
-
 -- the target of a rebuild that was met, and finished
 pub target_frozen : (a b c : Caller) (words rebuild target : ℕ) (outcome : FreezeOutcome)
     → HasMet a b (Rebuilt rebuild target) → FreezesTarget b c words rebuild target outcome
@@ -62,7 +58,7 @@ target_frozen a b c words rebuild target outcome m f =
           (m.done first done)));
       rebuilt = λ row e.
           subst (λ n. IsRebuiltIn v w words n outcome.refused)
-          (one_inner target row (sym (ap ref_meant f.root_is) ∙ e))
+          (cc (sym (ap ref_meant f.root_is) ∙ e))
           record {
             rebuild = rebuild;
             of = rebuild_on Rebuilds b.token.view c.token.view f.on.gone.went rebuild target m.is.0;

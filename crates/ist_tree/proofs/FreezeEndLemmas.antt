@@ -240,9 +240,6 @@ module _ (who began new : Caller) (token : TokenFace) (it : IsFreezeCall who beg
         cause = λ full e. from r met cause full e;
       }
     where
-      one : (a c : Full) → Some a ≡ Some c → a ≡ c
-      one a c e = cc
-
       from : (o m : Option Full) → IfSome m (IsTopShort b w words) → (full : Full)
           → option_or o m ≡ Some full
           → (o ≡ Some full) ⊎ IsTopRefused (pass_face who r)
@@ -250,5 +247,5 @@ module _ (who began new : Caller) (token : TokenFace) (it : IsFreezeCall who beg
       from (Some first) m c full e = inl e
       from None (Some other) c full e =
           inr (top_refused r (option_or r met) words full same
-          (subst (IsTopShort b w words) (one other full e) c))
+          (subst (IsTopShort b w words) (cc) c))
       from None None c full e = absurd (cc)

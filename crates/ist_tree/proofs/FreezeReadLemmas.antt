@@ -63,10 +63,7 @@ inner_meant : (root : layouts.Ref) (base : ℕ) → ref_meant root ≡ InnerAt b
 inner_meant Empty base e = absurd (cc)
 inner_meant Unset base e = absurd (cc)
 inner_meant (LeafRef other) base e = absurd (cc)
-inner_meant (Inner other) base e = ap Inner (same other base e)
-  where
-    same : (a b : ℕ) → InnerAt a ≡ InnerAt b → a ≡ b
-    same a b e = cc
+inner_meant (Inner other) base e = ap Inner (cc)
 inner_meant (Change other) base e = absurd (cc)
 inner_meant (Rebuild other) base e = absurd (cc)
 
@@ -115,9 +112,6 @@ number_seen v w ref i base n g =
 
 -- ---- its pair
 
-same_row : (r s : LeafRow) → Some (Leaf r) ≡ Some (Leaf s) → r ≡ s
-same_row r s e = cc
-
 -- so the pair has the number
 pub numbered_pair : (v w : View) → IsSound v → (frozen : Frozen) (i base : ℕ) (pair : Pair)
     → IsStill (now v) (ref_meant frozen.root) frozen.keys
@@ -131,8 +125,7 @@ numbered_pair v w s frozen i base pair still n g p =
     (leaves_stand (now v).pieces (Some (ref_meant frozen.root)) n.leaves n.reached) n.there in
     let later = leaf_there (now v).pieces (now w).pieces (goes_on_grow v w g) n.leaf.base n.leaf.row
     here in
-    let row_is = same_row n.leaf.row p.row
-    (sym later ∙ ap (now w).pieces n.base_is ∙ p.published) in
+    let row_is : n.leaf.row ≡ p.row = cc (sym later ∙ ap (now w).pieces n.base_is ∙ p.published) in
     let key = ap (λ (r : LeafRow). r.key) row_is ∙ sym p.key_is in
     let value = ap (λ (r : LeafRow). r.value) row_is ∙ sym p.value_is in
     record {

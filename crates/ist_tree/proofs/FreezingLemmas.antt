@@ -102,9 +102,6 @@ pub record HasItsLeaves (t : Snapshot) (ref : Ref) (keys : ℕ) : Type 0 where
 none_rise : IsStrictlyIncreasing []
 none_rise k less = absurd (omega arith)
 
-one_rises : (key : ℕ) → IsStrictlyIncreasing (key ∷ [])
-one_rises key k less = absurd (omega arith)
-
 -- a reference that no step changes has its leaves
 pub still_leaves : (pairs : List Pair) (words : ℕ) (log : Log) → Lawful pairs words log
     → (ref : Ref) (keys : ℕ) → IsStill (state_of pairs words log) ref keys
@@ -116,7 +113,7 @@ still_leaves pairs words log l _ _ (one_key base row e) =
       leaves = record { base = base; row = row } ∷ [];
       below = leaf_here row e;
       number = refl;
-      rising = one_rises row.key;
+      rising = λ k less. absurd (omega arith);
     }
 still_leaves pairs words log l _ _ (all_keys base keys f) =
     let it = finished_leaves pairs words l.opens log l.enabled base keys f in

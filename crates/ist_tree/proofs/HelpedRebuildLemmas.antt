@@ -1,8 +1,7 @@
 -- What a rebuild that was helped leaves closed and done, and what a slot holds instead of a row.
 -- Serves `try_due` and `help_other`.
-use Rattle.std.proofs.Common.{◌≡◌, ℕ, refl, Result, Ok, ◌⊎◌, Bool, true, false, not, IsTrue, ◌↔◌, Some, sym, ap, ◌∙◌, subst, inl, inr, ⊎_elim}
+use Rattle.std.proofs.Common.{◌≡◌, ℕ, refl, ◌⊎◌, Bool, true, false, not, IsTrue, ◌↔◌, Some, sym, ap, ◌∙◌, subst, inl, inr, ⊎_elim}
 use Rattle.ist_core.specs.declared.events.Event.{Event}
-use Rattle.ist_core.specs.declared.ports.Full.{Full}
 use Rattle.ist_core.specs.declared.states.RebuildRow.{RebuildRow}
 use Rattle.ist_core.specs.Pieces.{Rebuild}
 use Rattle.ist_core.specs.Rebuilding.{IsStarted, IsReplaced}
@@ -129,27 +128,10 @@ module _ (v : View) (s : IsSound v) (parent index target word base : ℕ)
 
 -- if a node is reported shut, it isn't open
 pub not_open_shut : (b : Bool) (P : Type 0) → IsTrue b ↔ P → not b ≡ true → ¬ P
-not_open_shut true P iff is p = clash is
-  where
-    clash : false ≡ true → ⊥
-    clash e = cc
-not_open_shut false P iff is p = clash (iff.1 p)
-  where
-    clash : false ≡ true → ⊥
-    clash e = cc
+not_open_shut true P iff is p = cc
+not_open_shut false P iff is p = cc (iff.1 p)
 
 -- and if it is reported open, it was open
 pub not_shut_open : (b : Bool) (P : Type 0) → IsTrue b ↔ P → not b ≡ false → P
 not_shut_open true P iff is = iff.0 refl
-not_shut_open false P iff is = absurd (clash is)
-  where
-    clash : true ≡ false → ⊥
-    clash e = cc
-
--- a bool that is returned
-abbrev ok_of : Bool → Result Bool Full
-ok_of a = Ok a
-
--- equal results have equal bools
-pub same_ok : (a b : Bool) → ok_of a ≡ Ok b → a ≡ b
-same_ok a b e = cc
+not_shut_open false P iff is = absurd (cc)

@@ -31,12 +31,6 @@ names_change (Some Empty) is e = absurd (cc)
 names_change (Some Unset) is e = absurd (cc)
 names_change None is e = absurd (cc)
 
-same_rebuild_base : (a b : ℕ) → Some (RebuildAt a) ≡ Some (RebuildAt b) → a ≡ b
-same_rebuild_base a b e = cc
-
-same_change_base : (a b : ℕ) → Some (ChangeAt a) ≡ Some (ChangeAt b) → a ≡ b
-same_change_base a b e = cc
-
 no_change_here : (a b : ℕ) → Some (RebuildAt a) ≢ Some (ChangeAt b)
 no_change_here a b e = cc
 
@@ -46,7 +40,7 @@ pub rebuild_helped : (w : View) (word base : ℕ) → ref_of word ≡ Some (Rebu
 rebuild_helped w word base is done =
     record {
       change = λ other e. absurd (no_change_here base other (sym is ∙ e));
-      rebuild = λ other e. subst (IsBuildable (now w)) (same_rebuild_base base other (sym is ∙ e)) done;
+      rebuild = λ other e. subst (IsBuildable (now w)) (cc (sym is ∙ e)) done;
     }
 
 -- a change was helped
@@ -54,7 +48,7 @@ pub change_helped : (w : View) (word base : ℕ) → ref_of word ≡ Some (Chang
     → Happened (Resolves base) w.log → IsHelpedWord w word
 change_helped w word base is done =
     record {
-      change = λ other e. subst (λ n. Happened (Resolves n) w.log) (same_change_base base other (sym is ∙ e)) done;
+      change = λ other e. subst (λ n. Happened (Resolves n) w.log) (cc (sym is ∙ e)) done;
       rebuild = λ other e. absurd (no_change_here other base (sym e ∙ is));
     }
 

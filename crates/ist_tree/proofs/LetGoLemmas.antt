@@ -4,7 +4,6 @@ use Rattle.std.proofs.Common.{◌≡◌, ℕ, Option, Some, sym, ap, ◌∙◌, 
 use Rattle.ist_core.specs.declared.commands.Command.{Command}
 use Rattle.ist_core.specs.declared.ports.Full.{Full}
 use Rattle.ist_rule.specs.declared.view.View.{View}
-use Rattle.ist_core.specs.declared.events.Who.TheVariants.{Caller as CallerOf}
 use Rattle.ist_rule.specs.Conditions.{IsResolved}
 use Rattle.ist_rule.specs.Faces.{TokenFace}
 use Rattle.ist_rule.specs.Learning.{TurnedAt, beginning, giving_up}
@@ -64,11 +63,7 @@ module _ (who began new : Caller) (token : TokenFace) (command : Command) (s : I
     -- each change of the caller is resolved
     resolved : IsResolved new.token.view new.number
     resolved =
-        subst (IsResolved new.token.view) (one_number d.can.number new.number
-        (sym d.can.mine ∙ d.caller.mine)) d.can.resolved
-      where
-        one_number : (a b : ℕ) → CallerOf a ≡ CallerOf b → a ≡ b
-        one_number a b e = cc
+        subst (IsResolved new.token.view) (cc (sym d.can.mine ∙ d.caller.mine)) d.can.resolved
 
     -- the caller is a pass again
     pub stopped_pass : IsPassWith (record new { token = token }) r

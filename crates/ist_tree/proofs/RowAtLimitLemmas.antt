@@ -38,12 +38,9 @@ pub event_since : (P : Event → Type 0) (event : Event) (w at : Log) (x : Log) 
     → GoesOn (event ∷ at) x → GoesOn (event ∷ at) w ⊎ P event
 event_since P event w at _ no_more on = inl on
 event_since P event w at _ (one_more {log = log} other later p) on =
-    ⊎_elim (λ e. inr (subst P (same event other at log e) p))
+    ⊎_elim (λ e. inr (subst P (cc) p))
     (λ more. event_since P event w at log later more)
     (whole_or_before (event ∷ at) other log on)
-  where
-    same : (a b : Event) (xs ys : Log) → a ∷ xs ≡ b ∷ ys → b ≡ a
-    same a b xs ys e = cc
 
 -- a prefix of a log with one event more that doesn't have that event is one of the log
 up_to : (event : Event) (at before : Log) → GoesOn before (event ∷ at)

@@ -3,7 +3,7 @@ use Rattle.std.proofs.Common.{◌≡◌, ◌≢◌, ◌⊎◌, ℕ, Some, None, 
 use Rattle.ist_core.specs.declared.events.Event.{Event}
 use Rattle.ist_core.specs.declared.states.ChangeRow.{ChangeRow}
 use Rattle.ist_core.specs.Lawful.{state_of}
-use Rattle.ist_core.specs.Pieces.{Change, Piece}
+use Rattle.ist_core.specs.Pieces.{Change}
 use Rattle.ist_core.specs.Snapshots.{Snapshot}
 use Rattle.ist_core.specs.Statuses.{start_kind}
 use Rattle.laws_calls.specs.Settling.{InstallsNoStart, IsDoneStart, StartsAreDone}
@@ -56,13 +56,10 @@ no_rows t = record t { pieces = λ base. None }
 pub keeps_all : (old new : Caller) → KeepsDone old new
     → StartsAreDone (now old.token.view) old.number → StartsAreDone (now new.token.view) old.number
 keeps_all old new keeps done base change e own kind said rebuild to =
-    ⊎_elim (λ was. absurd (none_some (Change change) was)) (λ d. d)
+    ⊎_elim (λ was. absurd (cc)) (λ d. d)
     (keeps (no_rows (now old.token.view))
     (λ base change e own kind said rebuild to. inr (done base change e own kind said rebuild to))
     base change e own kind said rebuild to)
-  where
-    none_some : (p : Piece) → None ≡ Some p → ⊥
-    none_some p e = cc
 
 -- a start that was decided yes before isn't one since
 pub since_none : (t u : Snapshot) (number : ℕ) → StartsNone t u number → StartsDoneSince t u number

@@ -112,7 +112,7 @@ pub can_end_on : (v w : View) (number : ℕ) (call : Call) → v.who ≡ CallerO
     → WentOn Rebuilds v w → IsResolved w number → CanEnd v call → CanEnd w call
 can_end_on v w number call mine went resolved c =
     let on = later_by-goes_on went.later in
-    let same = one_number c.number number (sym c.mine ∙ mine) in
+    let same : c.number ≡ number = cc (sym c.mine ∙ mine) in
     let none = rebuilt_no_entry v w c.number c.mine c.resolved went in
     let still = subst (IsResolved w) (sym same) resolved in
     subst (λ (x : View). CanEnd x call) (sym went.same) record {
@@ -132,9 +132,6 @@ can_end_on v w number call mine went resolved c =
       length_is = c.length_is;
       fresh = c.fresh;
     }
-  where
-    one_number : (a b : ℕ) → CallerOf a ≡ CallerOf b → a ≡ b
-    one_number a b e = cc
 
 -- a command that may end with a reply may do so after steps of rebuilding too
 pub may_end_on : (old new : Caller) (command : Command) (reply : Option ℕ)

@@ -21,7 +21,6 @@ use Rattle.laws_histories.specs.Calls.{HasCalls}
 use Rattle.laws_histories.proofs.WovenLemmas.{learnt_first}
 use Rattle.laws_calls.proofs.DoneLemmas.{others_count_nothing}
 use Rattle.laws_stability.proofs.LaterLemmas.{ever_later}
-use Rattle.ist_rule.specs.declared.view.Pending.{Pending}
 use Rattle.ist_rule.specs.declared.view.View.{View}
 use Rattle.ist_core.specs.declared.events.Who.TheVariants.{Caller as CallerOf}
 use Rattle.ist_core.specs.Authors.{whose}
@@ -257,17 +256,13 @@ module _ (who began new : Caller) (token : TokenFace) (command : Command)
         between (goes_on_more (way.v_to_b who began new token command it)
         (way.b_to_w who began new token command it)) c.goes_on
         (let low = goes_on_length (way.v_to_b who began new token command it) in
-        let same = one_length c.pending (sym pending_is ∙ c.in_call) in
+        let same : c.pending.length ≡ length b.log = cc (sym pending_is ∙ c.in_call) in
         let long = c.length_is in
         omega arith)
       where
         pending_is : w.pending ≡ Some record { command = Some command; length = length b.log }
         pending_is =
             ap (λ (y : View). y.pending) it.went.went.same ∙ ap (λ (y : View). y.pending) it.begun.view
-
-        one_length : (p : Pending) → Some record { command = Some command; length = length b.log }
-            ≡ Some p → p.length ≡ length b.log
-        one_length p e = cc
 
     fresh : IsFresh v.start v.words v.log v.stamp call
     fresh =

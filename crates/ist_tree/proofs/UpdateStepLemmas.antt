@@ -48,11 +48,7 @@ ending_reply v (Some pending) reply = refl
 -- the command of a call that may end is that in progress
 its_command : (w : View) (call : Call) (command : Command) (n : ℕ) → CanEnd w call
     → w.pending ≡ Some record { command = Some command; length = n } → call.command ≡ command
-its_command w call command n c is = at c.pending (sym is ∙ c.in_call) c.command_is
-  where
-    at : (p : Pending) → Some record { command = Some command; length = n } ≡ Some p
-        → p.command ≡ Some call.command → call.command ≡ command
-    at p e f = cc
+its_command w call command n c is = cc (sym is ∙ c.in_call, c.command_is)
 
 -- a pass began its call, and its work is done
 module _ (who began new : Caller) (command : Command) (s : IsSound who.token.view) (p : IsPass who)
@@ -76,14 +72,11 @@ module _ (who began new : Caller) (command : Command) (s : IsSound who.token.vie
       (at_prefix b.log w.log (later_by-goes_on went.went.later)) (lengths c.pending (sym pending_is
       ∙ c.in_call) c.length_is) in
       subst (λ n. HasCalls w.start w.words c.seen n w.stamp w.calls)
-      (one_number who.number c.number (sym mine ∙ c.mine))
+      (cc (sym mine ∙ c.mine))
       (subst (λ (l : Log). HasCalls w.start w.words l who.number w.stamp w.calls) (sym same_seen)
       (subst (λ (y : View). HasCalls y.start y.words b.log who.number y.stamp y.calls)
       (sym went.went.same) old))
     where
-      one_number : (a d : ℕ) → CallerOf a ≡ CallerOf d → a ≡ d
-      one_number a d e = cc
-
       lengths : (q : Pending)
           → Some record { command = Some command; length = length began.token.view.log } ≡ Some q
           → {n : ℕ} → q.length ≡ n → n ≡ length began.token.view.log
@@ -211,12 +204,9 @@ module _ (who began new : Caller) (token : TokenFace) (command : Command) (s : I
             → (row : ℕ) × IsRowRefused (pass_face who r) (face_as token new.number q) row full
         cause _ (working.was_refused f due t child d) full e = (
           due.target,
-          subst (IsRowRefused (pass_face who r) (face_as token new.number q) due.target) (one f full e)
+          subst (IsRowRefused (pass_face who r) (face_as token new.number q) due.target) (cc)
               (row_refused who began new token command it r q words f same_words due t child d),
         )
-          where
-            one : (a d : Full) → Some a ≡ Some d → a ≡ d
-            one a d e = cc
         cause _ (working.none_came none) full e = absurd (cc)
         cause _ (working.is_shut row t) full e = absurd (cc)
 

@@ -1,5 +1,6 @@
 -- Callers that are still asked: nothing of their call took effect. Serves each step of a try.
-use Rattle.std.proofs.Common.{◌≡◌, ◌≢◌, ℕ, List, ◌∷◌, sym, ap, ◌∙◌, subst, inl, inr, arith}
+use Rattle.std.proofs.Common.{◌≡◌, ◌≢◌, ℕ, List, ◌∷◌, sym, ap, ◌∙◌, subst, inl, inr}
+use Rattle.ist_updates.proofs.StandingLemmas.{no_finish}
 use Rattle.ist_core.specs.declared.commands.Command.{Command}
 use Rattle.ist_core.specs.declared.events.Event.{Event}
 use Rattle.ist_core.specs.declared.events.Event.TheVariants.{Install}
@@ -7,7 +8,6 @@ use Rattle.ist_core.specs.declared.pairs.Pair.{Pair}
 use Rattle.ist_core.specs.Authors.{GoesOnBy, no_more, one_more, whose, LaterBy}
 use Rattle.ist_core.specs.Lawful.{EachEnabled, state_of}
 use Rattle.ist_core.specs.Logs.{Log, GoesOn, same_log, one_event}
-use Rattle.ist_core.specs.Rebuilding.{IsUpdate}
 use Rattle.ist_core.specs.Snapshots.{Snapshot}
 use Rattle.ist_core.specs.StartLayout.{start}
 use Rattle.ist_core.specs.Statuses.{finish_kind}
@@ -72,11 +72,7 @@ module _ (pairs : List Pair) (words : ℕ) (last : Log) (h : EachEnabled (start 
       (installed_row pairs words log by base rows enabled.1) in
       let same = same_change ((state_of pairs words last).pieces base) on.0 change on.1 there in
       let kind : row.kind ≡ finish_kind = is row (ap first_change enabled.1.rows_are) in
-      absurd (no_update (sym (ap (λ c. c.kind) same) ∙ ap (λ c. c.kind) on.2.others ∙ kind) update)
-    where
-      no_update : {k : ℕ} → k ≡ finish_kind → IsUpdate k → ⊥
-      no_update e (inl f) = omega arith
-      no_update e (inr f) = omega arith
+      absurd (no_finish (sym (ap (λ c. c.kind) same) ∙ ap (λ c. c.kind) on.2.others ∙ kind) update)
   finish_no_yes log _ until is = tt
 
   -- a caller that only helped a rebuild installed no update that was decided yes

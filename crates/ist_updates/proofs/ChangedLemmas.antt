@@ -1,5 +1,5 @@
 -- What a change of a slot promises, by what came of its parts. Serves `change_slot` and `change_open`.
-use Rattle.std.proofs.Common.{◌≡◌, ℕ, true, false}
+use Rattle.std.proofs.Common.{ℕ, false}
 use Rattle.std.specs.Prelude.{Bool, Ok, Err, Result}
 use Rattle.ist_core.specs.declared.ports.Full.{Full}
 use Rattle.ist_core.specs.Slots.{IsOpen}
@@ -26,18 +26,6 @@ use Rattle.ist_updates.proofs.StepLemmas.{prepares_none, prepares_tries}
 
 -- ---- results
 
--- equal results without an error have equal values
-ok_is : (a b : Bool) → ◌≡◌ {A = Result Bool Full} (Ok a) (Ok b) → a ≡ b
-ok_is a b e = cc
-
--- an error is no value
-err_ok : (full : Full) (b : Bool) → ◌≡◌ {A = Result Bool Full} (Err full) (Ok b) → ⊥
-err_ok full b e = cc
-
--- a change that was lost didn't take effect
-lost_took : ◌≡◌ {A = Result Bool Full} (Ok false) (Ok true) → ⊥
-lost_took e = cc
-
 -- ---- what came of it
 
 module _ (old : Caller) (aim : Aim) (x : SlotPlan) (a : IsAsked old (command_by aim.key x)) where
@@ -56,9 +44,9 @@ module _ (old : Caller) (aim : Aim) (x : SlotPlan) (a : IsAsked old (command_by 
           gone = gone_all Prepares Tries prepares_tries old new gone;
           quiet = asked_quiet new (command_by aim.key x) still;
         };
-        took = λ is. absurd (err_ok full true is);
-        lost = λ is. absurd (err_ok full false is);
-        further = λ is. absurd (err_ok full false is);
+        took = λ is. absurd (cc);
+        lost = λ is. absurd (cc);
+        further = λ is. absurd (cc);
         still = still;
         full = refused;
       }
@@ -75,9 +63,9 @@ module _ (old : Caller) (aim : Aim) (x : SlotPlan) (a : IsAsked old (command_by 
           quiet = h.on.quiet;
         };
         took = λ is. prepared_taken old mid aim x plan a p room new.token.view
-            (h.took (ok_is taken true is) (command_by aim.key x) p.is_for.command);
-        lost = λ is. h.lost (ok_is taken false is) (command_by aim.key x) p.asked;
-        further = λ is first aimed. h.further (ok_is taken false is) first
+            (h.took (cc) (command_by aim.key x) p.is_for.command);
+        lost = λ is. h.lost (cc) (command_by aim.key x) p.asked;
+        further = λ is first aimed. h.further (cc) first
             (planned_aim first old.token.view mid.token.view aim plan.row aimed
             (after_went Prepares old.token.view mid.token.view p.gone.went) p.is_for.node
             p.is_for.index p.is_for.from);
@@ -111,7 +99,7 @@ module _ (old : Caller) (aim : Aim) (x : SlotPlan) (a : IsAsked old (command_by 
             gone = gone_all Prepares Tries prepares_tries old mid loaded;
             quiet = asked_quiet mid (command_by aim.key x) loads_still;
           };
-          took = λ is. absurd (lost_took is);
+          took = λ is. absurd (cc);
           lost = λ is. loads_still;
           further = λ is first aimed. shut_further first old.token.view token.view aim.node aim.index
               aim.word aimed (after_loads old.token.view token.view g) g.sound shut;

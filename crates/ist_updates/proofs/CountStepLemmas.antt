@@ -100,9 +100,6 @@ module _ (pairs : List Pair) (words : ℕ) (opens : CanOpen pairs words) (earlie
 
   -- ---- if the count reached no limit
 
-  same_inner : (a b : InnerRow) → Some (Inner a) ≡ Some (Inner b) → a ≡ b
-  same_inner a b e = cc
-
   -- a row that reached its limit reached it before
   came_before : reached ≡ false → (node : ℕ) → CameToLimit pairs words earlier longer caller node
       → CameToLimit pairs words earlier log caller node
@@ -116,7 +113,7 @@ module _ (pairs : List Pair) (words : ℕ) (opens : CanOpen pairs words) (earlie
       subst (λ n. (state_of pairs words c.at).pieces n ≡ Some (Inner here.row)) node_is
       (subst (λ l. (state_of pairs words l).pieces node ≡ Some (Inner here.row)) same.1
       here.published) in
-      let one = same_inner here.row c.inner (sym there ∙ c.published) in
+      let one : here.row ≡ c.inner = cc (sym there ∙ c.published) in
       absurd (c.no miss (subst (λ (r : InnerRow). limit r.size ≤ r.count + 1) one here.reached)))
       (λ sooner. came_back pairs words earlier caller log c.at (later_none c.later) node
       record {

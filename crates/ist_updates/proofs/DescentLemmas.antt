@@ -29,7 +29,7 @@ use Rattle.ist_updates.specs.Walking.{HasCounted, HasStood, HasWalked}
 use Rattle.ist_updates.proofs.AfterLemmas.{after_loads}
 use Rattle.ist_updates.proofs.FurtherLemmas.{come_linked, down_fresh, fresh_on}
 use Rattle.ist_updates.proofs.MissLemmas.{missed_loads}
-use Rattle.ist_updates.proofs.ResultLemmas.{err_walked, ok_walked}
+use Rattle.ist_updates.proofs.ResultLemmas.{err_walked}
 use Rattle.ist_updates.proofs.WalkingLemmas.{on_before, walked_here, none_below, may_count_there, stood_there, counted_here}
 
 -- the caller has gone down by loads to the slot of its key, which holds the word
@@ -59,14 +59,6 @@ pub record HasComeBack (old : Caller) (key : ℕ) (value : Option ℕ) (when : W
       → HasCounted u.start u.words earlier u.log second.number command (rows ++ row ∷ []) below
       → HasCounted u.start u.words earlier new.token.view.log second.number command rows done)
       → done.reply ≡ below.reply → IsWalk old key value when node words (Ok (Some (Took done))) new
-
--- a walk that took effect needn't begin again
-done_again : (done : Applied) → ◌≡◌ {A = Result (Option Outcome) Full} (Ok (Some (Took done))) (Ok None) → ⊥
-done_again done e = cc
-
--- a walk that took effect didn't miss a value
-done_unmet : (done : Applied) → ◌≡◌ {A = Result (Option Outcome) Full} (Ok (Some (Took done))) (Ok (Some Unmet)) → ⊥
-done_unmet done e = cc
 
 module _ {old : Caller} {token : TokenFace} {key : ℕ} {value : Option ℕ} {node index word : ℕ}
     (s : IsDown old token key value node index word) where
@@ -130,7 +122,7 @@ module _ {old : Caller} {token : TokenFace} {key : ℕ} {value : Option ℕ} {no
           → IsWalk there key value when row words (Ok x) new
           → IsWalk old key value when node words (Ok y) new
       below_walk {x} {y} {new} is none h =
-          none_walk (Ok y) new (λ done e. none done (ok_walked y (Some (Took done)) e))
+          none_walk (Ok y) new (λ done e. none done (cc))
           (subst (λ z. IsWalk there key value when row words (Ok z) new) is h)
 
       -- a walk that goes on from a row below and is refused
@@ -163,8 +155,8 @@ module _ {old : Caller} {token : TokenFace} {key : ℕ} {value : Option ℕ} {no
               walked = counted_here old token s.seen key value node index word row s.asked s.came
                   (λ rows come. s.down rows row come is) s.stays s.holds is words below second
                   on.number on.went walked.walked done new.token.view.log counted;
-              further = λ e. absurd (done_again done e);
+              further = λ e. absurd (cc);
               met = subst (IsMetBy when) (sym same) walked.met;
-              missed = λ e. absurd (done_unmet done e);
+              missed = λ e. absurd (cc);
             };
           }

@@ -17,7 +17,6 @@ use Rattle.ist_core.specs.Writing.{first_change}
 use Rattle.ist_core.specs.After.{decision_word}
 use Rattle.ist_core.proofs.GrowingLemmas.{change_there}
 use Rattle.ist_rule.specs.declared.view.View.{View}
-use Rattle.ist_core.specs.declared.events.Who.TheVariants.{Caller as CallerOf}
 use Rattle.ist_core.specs.Authors.{LaterBy}
 use Rattle.ist_core.proofs.OptionLemmas.{same_change}
 use Rattle.ist_rule.specs.Conditions.{IsResolved}
@@ -83,12 +82,9 @@ missed_quiet old new plan c m number g =
       in_call = ap (λ y. y.pending) g.same ∙ m.allowed.in_call;
       resolved = subst (IsResolved new.token.view) (sym number)
           (resolved_went v new.token.view old.number c.mine
-          (subst (IsResolved v) (one_caller m.number old.number (sym m.mine ∙ c.mine))
+          (subst (IsResolved v) (cc (sym m.mine ∙ c.mine))
           m.allowed.resolved) (goes_on_went InstallsNone v new.token.view g));
     }
-  where
-    one_caller : (a b : ℕ) → CallerOf a ≡ CallerOf b → a ≡ b
-    one_caller a b e = cc
 
 -- ---- an installed change
 
@@ -102,14 +98,10 @@ published_row v plan x i =
     (subst IsSound i.logged.view i.logged.sound).lawful in
     let can : CanInstall (start i.before.start i.before.words) i.logged.before i.number plan.base
     (rows_of (filling_of plan) plan.base) = lawful.enabled.1 in
-    let same : plan.row ≡ can.change = one_change plan.row can.change
-    (ap first_change can.rows_are) in
+    let same : plan.row ≡ can.change = cc (ap first_change can.rows_are) in
     subst (λ t. t.pieces plan.base ≡ Some (Change plan.row)) (sym (ap now i.logged.view))
     (installed_row i.before.start i.before.words i.logged.before i.number plan.base
     (rows_of (filling_of plan) plan.base) can ∙ ap (λ r. Some (Change r)) (sym same))
-  where
-    one_change : (a b : ChangeRow) → Some a ≡ Some b → a ≡ b
-    one_change a b e = cc
 
 -- its caller may help it
 pub carried_help : (old mid : Caller) (plan : PlannedChange) → IsCaller mid
@@ -147,11 +139,8 @@ module _ (old mid : Caller) (token : TokenFace) (plan : PlannedChange) (c : IsCa
   abbrev new : Caller
   new = record mid { token = token }
 
-  one_caller : (a b : ℕ) → CallerOf a ≡ CallerOf b → a ≡ b
-  one_caller a b e = cc
-
   number_is : m.number ≡ old.number
-  number_is = one_caller m.number old.number (sym m.mine ∙ c.mine)
+  number_is = cc (sym m.mine ∙ c.mine)
 
   -- ---- how the caller went on
 
@@ -165,11 +154,8 @@ module _ (old mid : Caller) (token : TokenFace) (plan : PlannedChange) (c : IsCa
 
   tries_event : Tries event
   tries_event change e start =
-      let same : plan.row ≡ change = one_change plan.row change e in
+      let same : plan.row ≡ change = cc in
       no_start (ap (λ r. r.kind) same ∙ start) update
-    where
-      one_change : (a b : ChangeRow) → Some a ≡ Some b → a ≡ b
-      one_change a b e = cc
 
   -- the caller went on by tries only
   pub carried_gone : HasGone Tries old new
@@ -255,7 +241,7 @@ module _ (old mid : Caller) (token : TokenFace) (plan : PlannedChange) (c : IsCa
           owned = ap (λ r. r.owner) grew.others ∙ m.owned ∙ number_is;
           update = subst IsUpdate (sym (ap (λ r. r.kind) grew.others)) update;
           decision = d.decision;
-          since = λ before there. absurd (clash before (sym unpublished ∙ there));
+          since = λ before there. absurd (cc (sym unpublished ∙ there));
           alone = alone;
         };
         command_is = ap command_of grew.others ∙ is;
@@ -264,9 +250,6 @@ module _ (old mid : Caller) (token : TokenFace) (plan : PlannedChange) (c : IsCa
             (fits_stands (start v.start v.words) v.log plan.row _ m.fits update)
             ∙ sym (ap (reply_of (now w).pieces) grew.others);
       }
-    where
-      clash : (r : ChangeRow) → None ≡ Some (Change r) → ⊥
-      clash r e = cc
 
   -- ---- if it was decided no
 

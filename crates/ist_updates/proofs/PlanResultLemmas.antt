@@ -1,5 +1,5 @@
 -- What carrying out a plan promises, by what came of its change. Serves `carry_out`.
-use Rattle.std.proofs.Common.{◌≡◌, Bool, true, false, subst}
+use Rattle.std.proofs.Common.{◌≡◌, Bool, false, subst}
 use Rattle.ist_core.specs.Rebuilding.{IsUpdate}
 use Rattle.ist_rule.specs.Faces.{TokenFace}
 use Rattle.ist_rule.specs.Going.{WentOn}
@@ -30,15 +30,12 @@ missed_carried old new {plan} c m caller number refused g other =
         gone = missed_gone old new caller number refused g Tries;
         quiet = missed_quiet old new plan c m number g;
       };
-      took = λ is. absurd (no is);
+      took = λ is. absurd (cc);
       lost = λ is. missed_asked old new caller number refused g;
       further = λ is first aimed. other_further first old.token.view new.token.view plan.row.node
           plan.row.index plan.row.from aimed (after_loads old.token.view new.token.view g) g.sound
           other.word other.holds other.differs;
     }
-  where
-    no : false ≡ true → ⊥
-    no e = cc
 
 -- the change was installed and helped
 module _ (old mid : Caller) (token : TokenFace) (plan : PlannedChange) (c : IsCaller old)

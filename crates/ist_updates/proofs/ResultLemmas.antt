@@ -11,18 +11,10 @@ pub not_true : (b : Bool) → b ≡ false → IsTrue b → ⊥
 not_true true e t = cc
 not_true false e t = cc
 
--- equal results without an error are equal walks
-pub ok_walked : (x y : Option Outcome) → ◌≡◌ {A = Result (Option Outcome) Full} (Ok x) (Ok y) → x ≡ y
-ok_walked x y e = cc
-
 -- an error is no walk
 pub err_walked : (full : Full) (x : Option Outcome)
     → ◌≡◌ {A = Result (Option Outcome) Full} (Err full) (Ok x) → ⊥
 err_walked full x e = cc
-
--- equal results without an error are equal outcomes
-pub ok_outcome : (x y : Outcome) → ◌≡◌ {A = Result Outcome Full} (Ok x) (Ok y) → x ≡ y
-ok_outcome x y e = cc
 
 -- an outcome that took no effect is no walk that did
 pub not_took : (o : Outcome) → ((done : Applied) → o ≢ Took done) → (done : Applied)

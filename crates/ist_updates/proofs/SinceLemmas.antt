@@ -2,7 +2,6 @@
 -- and the tries above it.
 use Rattle.std.proofs.Common.{◌≡◌, ℕ, ◌+◌, ◌≤◌, length, Option, Some, None, refl, sym, ◌∙◌, subst}
 use Rattle.ist_core.specs.declared.commands.Command.{Command}
-use Rattle.ist_core.specs.declared.states.ChangeRow.{ChangeRow}
 use Rattle.ist_core.specs.Changes.{changes_of}
 use Rattle.ist_core.specs.Lawful.{state_of}
 use Rattle.ist_rule.specs.Standings.{HasMade}
@@ -37,7 +36,7 @@ taken_since old mid command a b h w node told reply same_reply t =
         owned = t.update.owned ∙ h.number;
         update = t.update.update;
         decision = t.update.decision;
-        since = λ before there. absurd (clash before (sym fresh ∙ there));
+        since = λ before there. absurd (cc (sym fresh ∙ there));
         alone = alone;
       };
       command_is = t.command_is;
@@ -45,17 +44,11 @@ taken_since old mid command a b h w node told reply same_reply t =
       reply_is = same_reply ∙ t.reply_is;
     }
   where
-    clash : (r : ChangeRow) → None ≡ Some (Change r) → ⊥
-    clash r e = cc
-
-    some_none : (p q : Piece) → Some p ≡ None → ⊥
-    some_none p q e = cc
-
     none_before : (o : Option Piece) → (now old.token.view).pieces t.base ≡ o → o ≡ None
     none_before None e = refl
     none_before (Some p) e =
         let on = went_grow Prepares old.token.view mid.token.view h.went t.base p e in
-        absurd (some_none on.0 p (sym on.1 ∙ t.fresh))
+        absurd (cc (sym on.1 ∙ t.fresh))
 
     alone : length (entries_by old.number (changes_of old.token.view.start old.token.view.words w.log))
         ≤ length (entries_by old.number

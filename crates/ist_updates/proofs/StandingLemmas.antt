@@ -48,7 +48,8 @@ pub no_start : {k : ℕ} → k ≡ start_kind → IsUpdate k → ⊥
 no_start e (inl f) = omega arith
 no_start e (inr f) = omega arith
 
-no_finish : {k : ℕ} → k ≡ finish_kind → IsUpdate k → ⊥
+-- nor a finish
+pub no_finish : {k : ℕ} → k ≡ finish_kind → IsUpdate k → ⊥
 no_finish e (inl f) = omega arith
 no_finish e (inr f) = omega arith
 

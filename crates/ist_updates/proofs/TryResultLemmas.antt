@@ -36,22 +36,6 @@ use Rattle.ist_updates.proofs.WayLemmas.{met_other}
 
 -- ---- results
 
--- an error isn't `None`
-refused_again : (full : Full) → ◌≡◌ {A = Result (Option Outcome) Full} (Err full) (Ok None) → ⊥
-refused_again full e = cc
-
--- a reply isn't `None`
-took_again : (reply : Option ℕ) → ◌≡◌ {A = Result (Option Outcome) Full} (Ok (Some (just_took reply))) (Ok None) → ⊥
-took_again reply e = cc
-
--- nothing to remove isn't `None`
-nothing_again : ◌≡◌ {A = Result (Option Outcome) Full} (Ok (Some Nothing)) (Ok None) → ⊥
-nothing_again e = cc
-
--- a missed value isn't `None`
-unmet_again : ◌≡◌ {A = Result (Option Outcome) Full} (Ok (Some Unmet)) (Ok None) → ⊥
-unmet_again e = cc
-
 -- ---- a try without a step
 
 module _ (who : Caller) (aim : Aim) (value : Option ℕ) (words : ℕ) (s : IsSound who.token.view)
@@ -67,7 +51,7 @@ module _ (who : Caller) (aim : Aim) (value : Option ℕ) (words : ℕ) (s : IsSo
   -- the key has a value at which the update shouldn't take effect
   pub unmet_tried : HasTried who aim value words (Ok (Some Unmet)) who
   unmet_tried =
-      record { on = ready; told = a; full = tt; further = λ is. absurd (unmet_again is) }
+      record { on = ready; told = a; full = tt; further = λ is. absurd (cc) }
 
   -- there is nothing to remove
   pub nothing_tried : value ≡ None → HasFoundNone who.token.view aim.key
@@ -77,7 +61,7 @@ module _ (who : Caller) (aim : Aim) (value : Option ℕ) (words : ℕ) (s : IsSo
         on = ready;
         told = (none, found, a, refl);
         full = tt;
-        further = λ is. absurd (nothing_again is);
+        further = λ is. absurd (cc);
       }
 
 -- ---- a try with steps
@@ -106,7 +90,7 @@ module _ (old new : Caller) (aim : Aim) (value : Option ℕ) (words : ℕ) where
         on = record { gone = gone; quiet = asked_quiet new command refused.still };
         told = tt;
         full = refused;
-        further = λ is. absurd (refused_again full is);
+        further = λ is. absurd (cc);
       }
 
 -- a refusal that is handed on is the refusal of the try
@@ -137,7 +121,7 @@ module _ {old new : Caller} {aim : Aim} {x : SlotPlan} {words : ℕ} where
           refl,
         );
         full = tt;
-        further = λ e. absurd (took_again reply e);
+        further = λ e. absurd (cc);
       }
   changed_tried value {taken = false} tried reply is h took again told =
       subst (λ t. HasTried old aim value words (Ok t) new) (sym (again refl))

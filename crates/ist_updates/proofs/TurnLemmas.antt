@@ -29,7 +29,6 @@ use Rattle.ist_updates.specs.Walking.{IsAskedAgain, IsAskedStill, HasWalked}
 use Rattle.ist_updates.proofs.ApplyingLemmas.{HasBegunWalk, all_searched, begun_walk, still_on, refused_first, still_counted, still_due, took_is_counted, took_ends, took_due, nothing_told}
 use Rattle.ist_updates.proofs.FurtherLemmas.{begun_fresh}
 use Rattle.ist_updates.proofs.MissLemmas.{missed_since}
-use Rattle.ist_updates.proofs.ResultLemmas.{ok_outcome}
 use Rattle.ist_updates.proofs.WalkCountLemmas.{few_on, paid_on}
 
 -- a caller that is asked may give its call up
@@ -74,7 +73,7 @@ unmet_ends {outcome = outcome} d =
     }
   where
     same : ended outcome ≡ ended Unmet → outcome ≡ Unmet
-    same is = ok_outcome outcome Unmet is
+    same is = cc
 
 -- if it was refused, it took no effect
 pub record HasRefusedAll (old : Caller) (key : ℕ) (value : Option ℕ) (words : ℕ)

@@ -1,6 +1,6 @@
 -- Ideal subtrees over rows that are added to others. Serves the law on ideal subtrees.
 use Rattle.std.proofs.Common.{List, None, Option, Some, [], refl, ap, subst, sym, ℕ, ⊎_elim, ◌∙◌, ◌∷◌, ◌++◌, ◌≡◌}
-use Rattle.std.proofs.lemmas.List.{map-append}
+use Rattle.std.proofs.lemmas.List.{map-append, append-nil}
 use Rattle.ist_core.specs.declared.lists.Row.{Row}
 use Rattle.ist_core.specs.declared.states.InnerRow.{InnerRow}
 use Rattle.ist_core.specs.declared.states.LeafRow.{LeafRow}
@@ -47,11 +47,7 @@ pub parts_more : (ps : Pieces) (words : List ℕ) (following : List (List Placed
     → IsIdeal ps ref part above more
     → AreIdeal ps (words ++ word ∷ []) (following ++ part ∷ []) above (bases ++ more)
 parts_more ps _ _ above _ word ref part more no_part is ideal =
-    subst (AreIdeal ps (word ∷ []) (part ∷ []) above) (nil more) (one_part ref is ideal no_part)
-  where
-    nil : (xs : List ℕ) → xs ++ [] ≡ xs
-    nil [] = refl
-    nil (x ∷ xs) = ap (λ ys. x ∷ ys) (nil xs)
+    subst (AreIdeal ps (word ∷ []) (part ∷ []) above) (append-nil more) (one_part ref is ideal no_part)
 parts_more ps _ _ above _ word ref part more
     (one_part {words = words} {here = here} {rest = rest} {part = first} {following = following} r e i
     others) is ideal =
@@ -89,11 +85,8 @@ with_both ps (x ∷ xs) ys = ap (λ qs. with_row qs x.base (inner_of x.words)) (
 pub put_stands : (ps qs : Pieces) (rows : List Row) (base : ℕ) (p : Piece)
     → ps base ≡ None → with_inners ps rows base ≡ Some p → with_inners qs rows base ≡ Some p
 put_stands ps qs rows base p none e =
-    ⊎_elim (λ put. put) (λ stood. absurd (clash (ps base) none stood.0))
+    ⊎_elim (λ put. put) (λ stood. absurd (cc (stood.0)))
     (put_or_stood ps qs rows base p e)
-  where
-    clash : (o : Option Piece) → o ≡ None → o ≡ Some p → ⊥
-    clash o e f = cc
 
 -- ---- two lists of rows that share no base, put where no row was before
 

@@ -15,7 +15,7 @@ use Rattle.ist_core.specs.Links.{WasLinked}
 use Rattle.ist_core.specs.Logs.{Log}
 use Rattle.ist_core.specs.Pieces.{Change, Inner, Leaf, Piece, Pieces, Rebuild}
 use Rattle.ist_core.specs.Rebuilding.{IsStarted}
-use Rattle.ist_core.specs.References.{ChangeAt, Empty, InnerAt, LeafAt, RebuildAt, Ref, ref_of, word_of}
+use Rattle.ist_core.specs.References.{ChangeAt, RebuildAt, Ref, ref_of, word_of}
 use Rattle.ist_core.specs.Slots.{SlotHolds, in_anchor, in_row}
 use Rattle.ist_core.specs.Snapshots.{Snapshot}
 use Rattle.ist_core.specs.StartLayout.{start}
@@ -58,18 +58,9 @@ ideal_no_rebuild ps _ _ above _ (of_more r a b) rebuild e = cc
 -- a change that puts a rebuild in is a start
 start_of : (t : Snapshot) → WordsName t → (x : ChangeRow) (rebuild : ℕ) → IsFormed t x
     → ref_of x.to ≡ Some (RebuildAt rebuild) → x.kind ≡ start_kind
-start_of t o x rebuild (of_leaf_put f) to = absurd (clash (sym f.to ∙ to))
-  where
-    clash : Some (LeafAt f.leaf) ≡ Some (RebuildAt rebuild) → ⊥
-    clash q = cc
-start_of t o x rebuild (of_pair_put f) to = absurd (clash (sym f.to ∙ to))
-  where
-    clash : Some (InnerAt f.pair) ≡ Some (RebuildAt rebuild) → ⊥
-    clash q = cc
-start_of t o x rebuild (of_remove f) to = absurd (clash (sym f.to ∙ to))
-  where
-    clash : Some Empty ≡ Some (RebuildAt rebuild) → ⊥
-    clash q = cc
+start_of t o x rebuild (of_leaf_put f) to = absurd (cc (sym f.to ∙ to))
+start_of t o x rebuild (of_pair_put f) to = absurd (cc (sym f.to ∙ to))
+start_of t o x rebuild (of_remove f) to = absurd (cc (sym f.to ∙ to))
 start_of t o x rebuild (of_start f) to = f.kind
 start_of t o x rebuild (of_finish f) to =
     let row = o.rows f.rebuild (Rebuild f.row) f.published in

@@ -130,14 +130,11 @@ published_sizes ps rows once free all =
     sizes_by (with_inners ps rows) rows
     (λ row i.
     let it = p.named row i in
-    ⊎_elim (λ old. absurd (clash (ps row.base) it.0 (free row.base (base_among row rows i)) old))
+    ⊎_elim (λ old. absurd (cc (free row.base (base_among row rows i))))
     (λ k. size_is (with_inners ps rows row.base) it.0 it.1
     ∙ k.3 ∙ ap (λ x. length x.words) (one_row rows once k.0 row k.1 i k.2))
     (p.from row.base it.0 it.1))
   where
-    clash : (o : Option Piece) (q : Piece) → o ≡ None → o ≡ Some q → ⊥
-    clash o q e f = cc
-
     size_is : (o : Option Piece) (q : Piece) → o ≡ Some q → size_there o ≡ size_of q
     size_is o q e = ap size_there e
 

@@ -1,5 +1,5 @@
 -- One put at the start of a log is lawful, each time anew. Serves `examples`.
-use Rattle.std.proofs.Common.{◌≡◌, ℕ, ◌+◌, ◌≤◌, ◌<◌, ◌⊎◌, ◌==◌, true, List, [], ◌∷◌, ◌++◌, map, filter, Some, refl, inl, inr, subst, sym, arith}
+use Rattle.std.proofs.Common.{◌≡◌, ℕ, ◌+◌, ◌≤◌, ◌<◌, ◌⊎◌, ◌==◌, true, List, [], ◌∷◌, ◌++◌, map, filter, Some, refl, inl, inr, subst, sym, arith, ⊎_elim}
 use Rattle.ist_core.specs.declared.lists.HeldRow.{HeldRow}
 use Rattle.ist_core.specs.declared.events.Event.TheVariants.{Reserve, Resolve}
 use Rattle.ist_core.specs.References.{LeafAt, ChangeAt, ref_of, word_of}
@@ -202,11 +202,6 @@ resolved log leaf from to old count ready made =
       in_slot = in_row (left 0 count (word_of (ChangeAt (leaf + 2)))) made.stands refl;
     }
 
--- nothing happened on the way
-neither : ⊥ ⊎ ⊥ → ⊥
-neither (inl k) = k
-neither (inr k) = k
-
 -- the put may be counted at the left row
 counted_once : (log : Log) (leaf from to old count : ℕ)
     → IsBeforePut (state three log) leaf from old count
@@ -227,8 +222,8 @@ counted_once log leaf from to old count ready made =
             owned = refl;
             update = inl refl;
           };
-      last = λ k. neither k;
-      uncounted = λ k. neither k;
+      last = ⊎_elim (λ k. k) (λ k. k);
+      uncounted = ⊎_elim (λ k. k) (λ k. k);
       on_chain =
           let chain = left_chain _ ready.anchor ready.top_row in
           inr (inr (inr (inr (inl (4 ∷ 11 ∷ [], chain, inr (inl refl))))));

@@ -133,10 +133,6 @@ stamps_last stamp [] last h all = (omega arith, tt)
 stamps_last stamp (call ∷ calls) last h all =
     let low = all.0 in (omega arith, stamps_last stamp calls last h all.1)
 
--- a test has one outcome
-pub differ : (v : Bool) → v ≡ true → v ≡ false → ⊥
-differ v e h = cc
-
 -- ---- one more call
 
 -- a call that changes nothing is added
@@ -155,7 +151,7 @@ add_reading pairs words seen log number stamp calls last has g none plain fresh 
           record {
             made = λ call i e.
                 ⊎_elim (λ j. s.made call j e)
-                (λ z. absurd (differ (is_change call) e (ap is_change z ∙ plain)))
+                (λ z. absurd (cc (ap is_change z ∙ plain)))
                 (among_last call last calls i);
             exactly = s.exactly ∙ sym (due_reading number calls last plain);
             read = λ call i e.
@@ -213,7 +209,7 @@ add_update pairs words seen log number stamp calls last has took changing later 
                   read = λ call i e.
                       ⊎_elim
                       (λ j. subst (λ es. IsRead m es call) (sym all) (read_on m old (since.0 ++ (one ∷ until.0)) call (s.read call j e)))
-                      (λ z. absurd (differ (is_change call) (ap is_change z ∙ changing) e))
+                      (λ z. absurd (cc (ap is_change z ∙ changing)))
                       (among_last call last calls i);
                   in_order =
                       follow_more calls last s.in_order

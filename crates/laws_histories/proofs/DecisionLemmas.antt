@@ -147,16 +147,12 @@ module _ (pairs : List Pair) (words : ℕ) where
       following : GoesOn earlier (Decide d.caller base true ∷ d.earlier) → Turning earlier log base
       following x = at (Decide d.caller base true ∷ d.earlier) refl x
         where
-          the_rest : (ev : Event) (r : Log) → ev ∷ r ≡ Decide d.caller base true ∷ d.earlier
-              → r ≡ d.earlier
-          the_rest ev r z = cc
-
           at : (whole : Log) → whole ≡ Decide d.caller base true ∷ d.earlier → GoesOn earlier whole
               → Turning earlier log base
           at _ z same_log =
               absurd (before (subst (λ l. GoesOn (Decide d.caller base true ∷ d.earlier) l) (sym z) same_log))
           at _ z (one_event {log = rest} event y) =
-              record { caller = d.caller; at = d.earlier; since = subst (λ r. GoesOn earlier r) (the_rest event rest z) y; until = d.decided }
+              record { caller = d.caller; at = d.earlier; since = subst (λ r. GoesOn earlier r) (cc) y; until = d.decided }
 
   -- a change that turned to yes was decided so in between
   pub turning : (earlier log : Log) → GoesOn earlier log → EachEnabled (start pairs words) log

@@ -1,7 +1,6 @@
 -- Of one change there is one entry, and an entry is of one change. Serves `laws.updates_are_entries`.
 use Rattle.std.proofs.Common.{◌≡◌, ℕ, ◌<◌, true, List, [], ◌∷◌, length, Some, refl, sym, ap, ◌∙◌, subst, ⊎_elim, arith, length-append}
 use Rattle.ist_core.specs.declared.pairs.Pair.{Pair}
-use Rattle.ist_core.specs.declared.events.Event.{Event}
 use Rattle.ist_core.specs.declared.events.Event.TheVariants.{Decide}
 use Rattle.ist_core.specs.StartLayout.{start}
 use Rattle.ist_core.specs.Logs.{Log, GoesOn, same_log, one_event}
@@ -15,14 +14,6 @@ use Rattle.laws_histories.proofs.DecisionLemmas.{prefixes, decided_after}
 use Rattle.laws_histories.specs.Telling.{IsEntryOf}
 use Rattle.laws_histories.proofs.EntryLemmas.{command_stays}
 use Rattle.laws_histories.proofs.ChangeLemmas.{changes_rise}
-
--- equal logs that end with a Decide have equal logs before it
-same_prefix : (a b c d : ℕ) (x y : Log) → Decide a b true ∷ x ≡ Decide c d true ∷ y → x ≡ y
-same_prefix a b c d x y e = cc
-
--- one event decides one change
-same_base : (a b c d : ℕ) (x y : Log) → Decide a b true ∷ x ≡ Decide c d true ∷ y → b ≡ d
-same_base a b c d x y e = cc
 
 module _ (pairs : List Pair) (words : ℕ) (opens : CanOpen pairs words) where
   -- a change that was decided isn't pending later
@@ -48,13 +39,10 @@ module _ (pairs : List Pair) (words : ℕ) (opens : CanOpen pairs words) where
         where
           at : (whole : Log) → whole ≡ Decide d base true ∷ b
               → GoesOn (Decide c base true ∷ a) whole → a ≡ b
-          at _ e same_log = same_prefix c base d base a b e
+          at _ e same_log = cc
           at _ e (one_event {log = rest} event y) =
-              let tail : rest ≡ b = the_rest event rest e in
+              let tail : rest ≡ b = cc in
               absurd (undecided_later c base d a b (enabled_before (start pairs words) (Decide d base true ∷ b) log k h) (subst (λ r. GoesOn (Decide c base true ∷ a) r) tail y))
-            where
-              the_rest : (ev : Event) (r : Log) → ev ∷ r ≡ Decide d base true ∷ b → r ≡ b
-              the_rest ev r e = cc
 
   -- of one change there is one entry
   pub entries_once : (log : Log) → EachEnabled (start pairs words) log → (base p q : ℕ)
@@ -104,16 +92,12 @@ module _ (pairs : List Pair) (words : ℕ) (opens : CanOpen pairs words) where
         where
           at : (whole : Log) → whole ≡ Decide y.caller n true ∷ y.earlier
               → GoesOn (Decide x.caller m true ∷ x.earlier) whole → m ≡ n
-          at _ e same_log = same_base x.caller m y.caller n x.earlier y.earlier e
+          at _ e same_log = cc
           at _ e (one_event {log = rest} event z) =
-              let tail : rest ≡ y.earlier = the_rest event rest e in
+              let tail : rest ≡ y.earlier = cc in
               let before = subst (λ r. GoesOn (Decide x.caller m true ∷ x.earlier) r) tail z in
               let less =
               more_changes log h position m x y.earlier before
               (goes_on_more (one_event (Decide y.caller n true) same_log) y.decided) in
               let same = y.position_is in
               absurd (omega arith)
-            where
-              the_rest : (ev : Event) (r : Log) → ev ∷ r ≡ Decide y.caller n true ∷ y.earlier
-                  → r ≡ y.earlier
-              the_rest ev r e = cc

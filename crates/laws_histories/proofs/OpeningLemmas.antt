@@ -128,11 +128,7 @@ rows_of fuel base (pair ∷ []) all sub =
         → pair ≡ record { key = r.key; value = r.value }
     one r e =
         let same : record { key = pair.key; value = pair.value } ≡ r =
-        row_is r e in ap (λ x. record { key = x.key; value = x.value }) same
-      where
-        row_is : (r : LeafRow) → Leaf record { key = pair.key; value = pair.value } ≡ Leaf r
-            → record { key = pair.key; value = pair.value } ≡ r
-        row_is r e = cc
+        cc in ap (λ x. record { key = x.key; value = x.value }) same
 rows_of zero base (pair ∷ more ∷ pairs) all sub = tt
 rows_of (suc fuel) base (pair ∷ more ∷ pairs) all sub =
     let xs = pair ∷ more ∷ pairs in (
@@ -151,15 +147,9 @@ same_pairs [] [] all rise e h k = refl
 same_pairs [] (y ∷ ys) all rise e h k = absurd (cc)
 same_pairs (x ∷ xs) [] all rise e h k = absurd (cc)
 same_pairs (x ∷ xs) (y ∷ ys) all rise e h k =
-    let one = same_pair x y all rise h.0 k.0 (head x.key y.key _ _ e) in
-    let rest = same_pairs xs ys all rise (tail x.key y.key _ _ e) h.1 k.1 in
+    let one = same_pair x y all rise h.0 k.0 (cc) in
+    let rest = same_pairs xs ys all rise (cc) h.1 k.1 in
     ap (λ p. p ∷ xs) one ∙ ap (λ ps. y ∷ ps) rest
-  where
-    head : (a b : ℕ) (ks ls : List ℕ) → a ∷ ks ≡ b ∷ ls → a ≡ b
-    head a b ks ls e = cc
-
-    tail : (a b : ℕ) (ks ls : List ℕ) → a ∷ ks ≡ b ∷ ls → ks ≡ ls
-    tail a b ks ls e = cc
 
 -- each element of a list is among it
 each_self : (xs all : List Pair) → ((p : Pair) → Among p xs → Among p all)

@@ -2,7 +2,6 @@
 use Rattle.std.proofs.Common.{◌≡◌, ℕ, zero, suc, ◌≢◌, false, [], ◌∷◌, replicate, slice_get, Some, refl, inl, ap, ◌∙◌, arith}
 use Rattle.ist_core.specs.declared.commands.Command.TheVariants.{Put}
 use Rattle.ist_core.specs.declared.states.LeafRow.{LeafRow}
-use Rattle.ist_core.specs.declared.states.InnerRow.{InnerRow}
 use Rattle.ist_core.specs.declared.states.ChangeRow.{ChangeRow}
 use Rattle.ist_core.specs.declared.events.Event.TheVariants.{Decide, Mark}
 use Rattle.ist_core.specs.Arithmetic.{degree, square_root, root_up_to, part_len, part_lens}
@@ -138,11 +137,7 @@ finish_installed =
 not_open : ¬ (IsOpen (state three left_finish_installed) 4)
 unfolding ref_of rows_within degree square_root root_up_to part_len part_lens ideal_words ideal_words_within
 not_open (anchor_is e) = omega arith
-not_open (row_is r e s) = let one : ◌≡◌ {A = ℕ} 1 r.status = status_is r e in omega arith
-  where
-    status_is : (r : InnerRow) → (state three left_finish_installed).pieces 4 ≡ Some (Inner r)
-        → 1 ≡ r.status
-    status_is r e = cc
+not_open (row_is r e s) = let one : ◌≡◌ {A = ℕ} 1 r.status = cc in omega arith
 
 -- it is decided no
 refused : CanDecide (state three left_finish_installed) left_finish_installed 0 147 false

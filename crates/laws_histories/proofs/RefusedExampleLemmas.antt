@@ -1,5 +1,5 @@
 -- The log of a put that is refused is lawful, and changes nothing. Serves `examples`.
-use Rattle.std.proofs.Common.{◌≡◌, ℕ, false, [], ◌∷◌, Some, refl, inl, inr, arith}
+use Rattle.std.proofs.Common.{◌≡◌, ℕ, false, [], ◌∷◌, refl, inl, inr, arith}
 use Rattle.ist_core.specs.declared.states.InnerRow.{InnerRow}
 use Rattle.ist_core.specs.declared.states.ChangeRow.{ChangeRow}
 use Rattle.ist_core.specs.declared.events.Event.TheVariants.{Mark, Decide}
@@ -7,7 +7,7 @@ use Rattle.ist_core.specs.Arithmetic.{degree, square_root, root_up_to, part_len,
 use Rattle.ist_core.specs.Shapes.{ideal_words, ideal_words_within}
 use Rattle.ist_core.specs.References.{ref_of}
 use Rattle.ist_core.specs.Statuses.{put_kind}
-use Rattle.ist_core.specs.Pieces.{Inner, Change, with_status}
+use Rattle.ist_core.specs.Pieces.{Change, with_status}
 use Rattle.ist_core.specs.StartLayout.{rows_within}
 use Rattle.ist_core.specs.Logs.{state}
 use Rattle.ist_core.specs.Slots.{IsOpen, anchor_is, row_is, in_anchor, in_row, of_anchor, of_row}
@@ -100,11 +100,7 @@ installed =
 not_open : ¬ (IsOpen (state two refused_installed) 4)
 unfolding rows_within degree square_root root_up_to part_len part_lens ideal_words ideal_words_within
 not_open (anchor_is e) = omega arith
-not_open (row_is r e s) = let one : ◌≡◌ {A = ℕ} 1 r.status = status_is r e in omega arith
-  where
-    status_is : (r : InnerRow) → (state two refused_installed).pieces 4 ≡ Some (Inner r)
-        → 1 ≡ r.status
-    status_is r e = cc
+not_open (row_is r e s) = let one : ◌≡◌ {A = ℕ} 1 r.status = cc in omega arith
 
 -- it is decided no, since its node is marked
 decided : CanDecide (state two refused_installed) refused_installed 2 31 false

@@ -4,7 +4,7 @@ use Rattle.ist_core.specs.declared.pairs.Pair.{Pair}
 use Rattle.ist_core.specs.declared.states.ChangeRow.{ChangeRow}
 use Rattle.ist_core.specs.declared.states.RebuildRow.{RebuildRow}
 use Rattle.ist_core.specs.References.{Ref, Empty, Unset, LeafAt, InnerAt, ChangeAt, RebuildAt, ref_of, unset_word}
-use Rattle.ist_core.specs.Pieces.{Piece, Inner, Change, Rebuild}
+use Rattle.ist_core.specs.Pieces.{Inner, Change, Rebuild}
 use Rattle.ist_core.specs.Snapshots.{Snapshot}
 use Rattle.ist_core.specs.StartLayout.{start}
 use Rattle.ist_core.specs.Logs.{Log}
@@ -49,14 +49,11 @@ module _ (pairs : List Pair) (words : ℕ) (opens : CanOpen pairs words) (log : 
   target_named node i base is =
       let read = ap rebuild_reads is.published in
       record {
-        a_leaf = λ leaf e. absurd (clash leaf (sym read ∙ e));
+        a_leaf = λ leaf e. absurd (cc (sym read ∙ e));
         a_row = λ child e.
             (let same = one_inner is.row.target child (sym read ∙ e) in
             inr (base, Rebuild is.row, is.published, (sym is.parent, sym is.index, inl (ap InnerAt same))));
       }
-    where
-      clash : (leaf : ℕ) → Some (InnerAt is.row.target) ≡ Some (LeafAt leaf) → ⊥
-      clash leaf e = cc
 
   -- the root of a rebuild in a slot names what may be in the slot
   root_named : (node i base : ℕ) (is : IsRebuildFor Here.pieces node i base)
@@ -98,7 +95,7 @@ module _ (pairs : List Pair) (words : ℕ) (opens : CanOpen pairs words) (log : 
       let side = ((names pairs words opens log h).rows base (Change change) e).0 in
       let is : IsRebuildFor Here.pieces change.node change.index rebuild =
       subst (λ ref. SideNames Here.pieces change.node change.index ref) from side in
-      let same = same_row (Here.pieces rebuild) is.row row is.published f in
+      let same : is.row ≡ row = cc (is.published) in
       let root : change.to ≡ is.row.root = to ∙ ap (λ r. r.root) (sym same) in
       let named =
       subst (λ ref. ReadsAs Here change.node change.index (past_rebuild Here.pieces ref))
@@ -113,7 +110,3 @@ module _ (pairs : List Pair) (words : ℕ) (opens : CanOpen pairs words) (log : 
       (named_value (past_rebuild Here.pieces (ref_of change.from)) leaves old change.node change.index named key) found in
       subst (λ v. Finds Here.pieces key (past_rebuild Here.pieces (ref_of change.to)) v) one
       (named_value (past_rebuild Here.pieces (ref_of change.to)) leaves new change.node change.index also key)
-    where
-      same_row : (o : Option Piece) (r s : RebuildRow) → o ≡ Some (Rebuild r) → o ≡ Some (Rebuild s)
-          → r ≡ s
-      same_row o r s e f = cc

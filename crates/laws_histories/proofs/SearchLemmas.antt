@@ -167,12 +167,6 @@ module _ (pairs : List Pair) (words : ℕ) (opens : CanOpen pairs words) (key : 
 
 -- ---- what is found below a slot
 
--- a word of one row
-same_read : (r x : InnerRow) (i j word other : ℕ) → r ≡ x → i ≡ j → slice_get r.slots i ≡ Some word
-    → slice_get x.slots j ≡ Some other
-    → word ≡ other
-same_read r x i j word other e f a b = cc
-
 -- what is found from an inner row on is found from its slot on
 pub row_finds : (ps : Pieces) (key base : ℕ) (value : Option ℕ) (r : InnerRow) (i word : ℕ)
     → Finds ps key (Some (InnerAt base)) value
@@ -181,8 +175,7 @@ pub row_finds : (ps : Pieces) (key base : ℕ) (value : Option ℕ) (r : InnerRo
 row_finds ps key base value r i word (in_node {word = other} x e g f) there is read =
     let one = same_inner (ps base) x r e there in
     let same : other ≡ word =
-    same_read x r (child_count x.keys key) i other word one
-    (ap (λ y. child_count y.keys key) one ∙ sym is) g read in
+    cc (ap (λ y. child_count y.keys key) one ∙ sym is) in
     subst (λ w. Finds ps key (logical ps w) value) same f
 
 -- what the tree gives the key is found from a slot on to which the key leads

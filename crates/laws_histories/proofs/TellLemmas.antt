@@ -28,7 +28,6 @@ use Rattle.ist_core.proofs.SlotStepLemmas.{slot_stays}
 use Rattle.ist_core.proofs.FreezingLemmas.{change_read, side_not_yes}
 use Rattle.ist_core.proofs.GrowingLemmas.{child_remains}
 use Rattle.ist_core.proofs.OptionLemmas.{same_change}
-use Rattle.ist_core.proofs.YesLemmas.{same_base}
 use Rattle.laws_links.specs.Linking.{IsFinished}
 use Rattle.laws_links.proofs.FormLemmas.{finished_grows}
 use Rattle.laws_links.proofs.InductionLemmas.{sound_after}
@@ -86,7 +85,7 @@ module _ (pairs : List Pair) (words : ℕ) (opens : CanOpen pairs words)
   turned_is : (node i : ℕ) (ref : Option Ref)
       (turn : Turns Before Following (Decide caller base true) node i ref) → turn.change ≡ change
   turned_is node i ref turn =
-      let same = same_base caller base turn.decides.caller turn.base turn.decides.is in
+      let same : base ≡ turn.base = cc (turn.decides.is) in
       same_change (Before.pieces base) turn.change change
       (subst (λ b. Before.pieces b ≡ Some (Change turn.change)) (sym same) turn.pending.published) h.1.pending.published
 

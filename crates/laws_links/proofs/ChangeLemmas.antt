@@ -29,11 +29,7 @@ use Rattle.ist_core.proofs.StepLemmas.{holds_installed}
 use Rattle.ist_core.proofs.OptionLemmas.{no_value, same_change}
 use Rattle.ist_core.proofs.FateLemmas.{grow_after}
 use Rattle.laws_links.proofs.InductionLemmas.{changes_by, sound_after}
-
--- a word of a decision isn't undecided
-pub said_something : (said : Bool) → decision_word said ≢ undecided
-said_something true e = let one : ◌≡◌ {A = ℕ} 1 0 = e in omega arith
-said_something false e = let two : ◌≡◌ {A = ℕ} 2 0 = e in omega arith
+use Rattle.ist_core.proofs.YesLemmas.{said_something}
 
 -- if a decision's word is yes, the decision is yes
 pub said_yes : (said : Bool) → decision_word said ≡ decided_yes → said ≡ true

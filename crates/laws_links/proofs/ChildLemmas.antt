@@ -90,33 +90,18 @@ pub takes : (t : Snapshot) (x : ChangeRow) (ref : Ref) (child : ℕ) → IsForme
 takes t x ref child (of_leaf_put h) e leads = absurd (room h.from)
   where
     room : HasRoomFor t x.key x.from → ⊥
-    room (nothing k) = clash (ap (past_rebuild t.pieces) (sym k ∙ e) ∙ leads)
-      where
-        clash : Some Empty ≡ Some (InnerAt child) → ⊥
-        clash q = cc
-    room (same_key leaf k l) = clash (ap (past_rebuild t.pieces) (sym k ∙ e) ∙ leads)
-      where
-        clash : Some (LeafAt leaf) ≡ Some (InnerAt child) → ⊥
-        clash q = cc
+    room (nothing k) = cc (ap (past_rebuild t.pieces) (sym k ∙ e) ∙ leads)
+    room (same_key leaf k l) = cc (ap (past_rebuild t.pieces) (sym k ∙ e) ∙ leads)
 takes t x ref child (of_pair_put h) e leads =
-    absurd (clash (ap (past_rebuild t.pieces) (sym h.from ∙ e) ∙ leads))
-  where
-    clash : Some (LeafAt h.other) ≡ Some (InnerAt child) → ⊥
-    clash q = cc
+    absurd (cc (ap (past_rebuild t.pieces) (sym h.from ∙ e) ∙ leads))
 takes t x ref child (of_remove h) e leads =
-    absurd (clash (ap (past_rebuild t.pieces) (sym h.from ∙ e) ∙ leads))
-  where
-    clash : Some (LeafAt h.leaf) ≡ Some (InnerAt child) → ⊥
-    clash q = cc
+    absurd (cc (ap (past_rebuild t.pieces) (sym h.from ∙ e) ∙ leads))
 takes t x ref child (of_start h) e leads =
     takes_none_away (RebuildAt h.rebuild) h.to
     (leads_rebuild t.pieces h.rebuild h.row h.published ∙ ap (past_rebuild t.pieces) (sym h.from ∙ e) ∙ leads)
 takes t x ref child (of_finish h) e leads =
     takes_finished
-    (subst (λ n. IsFinished t n) (one_inner h.row.target child (sym (leads_rebuild t.pieces h.rebuild h.row h.published) ∙ ap (past_rebuild t.pieces) (sym h.from ∙ e) ∙ leads)) h.finished)
-  where
-    one_inner : (a b : ℕ) → Some (InnerAt a) ≡ Some (InnerAt b) → a ≡ b
-    one_inner a b q = cc
+    (subst (λ n. IsFinished t n) (cc (sym (leads_rebuild t.pieces h.rebuild h.row h.published) ∙ ap (past_rebuild t.pieces) (sym h.from ∙ e) ∙ leads)) h.finished)
 
 module _ (pairs : List Pair) (words : ℕ) (opens : CanOpen pairs words) where
   -- after the event a child is still a child, or is finished

@@ -113,13 +113,10 @@ module _ (pairs : List Pair) (words : ℕ) (opens : CanOpen pairs words) where
       at (of_finish f) =
           let one : ◌≡◌ {A = ℕ} 4 3 = kinds finish_kind start_kind f.kind s.kind in absurd (omega arith)
       at (of_start f) =
-          let same : f.rebuild ≡ rebuild = one_rebuild f.rebuild rebuild (sym f.to ∙ s.to) in
+          let same : f.rebuild ≡ rebuild = cc (sym f.to ∙ s.to) in
           let row : f.row ≡ r = same_rebuild ((state_of pairs words log).pieces rebuild) f.row r (subst (λ b. (state_of pairs words log).pieces b ≡ Some (Rebuild f.row)) same f.published) e in
           subst (λ x. WasLinked (start pairs words) log x.target) row
           (yes_from_linked log h s.base s.change s.published s.decision f.row.target f.from)
-        where
-          one_rebuild : (a b : ℕ) → Some (RebuildAt a) ≡ Some (RebuildAt b) → a ≡ b
-          one_rebuild a b k = cc
 
   -- what is known of a word stays known
   after_later : (log : Log) (event : Event) → EachEnabled (start pairs words) (event ∷ log)

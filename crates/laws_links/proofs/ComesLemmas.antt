@@ -16,7 +16,7 @@ use Rattle.ist_core.specs.StartLayout.{start}
 use Rattle.ist_core.specs.Statuses.{finished_word, marked_word}
 use Rattle.ist_core.proofs.BornLemmas.{Born}
 use Rattle.laws_links.proofs.OriginLemmas.{ChangeComes, KeepsStatuses, RebuildComes, StatusComes, change-counted, change-drawn, change-with_root, change-with_slot, change-with_status, change_was, finished_now, is_begun, is_decided, is_drawn, is_installed, is_new, is_rooted, marked_now, rebuild-counted, rebuild-with_decision, rebuild-with_slot, rebuild-with_status, rebuild_was, status-counted, status-drawn, status-with_decision, status-with_root, status-with_slot, status-with_status, status_was}
-use Rattle.laws_links.proofs.PublishedLemmas.{born_open, installed_change, installed_rebuild, new_rebuild_row, published_inner}
+use Rattle.laws_links.proofs.PublishedLemmas.{born_open, installed_change, installed_rebuild, published_inner}
 use Rattle.laws_links.proofs.RowEventLemmas.{RowCame, BecameBy, as_it_was, by_count, by_decide, by_draw, by_finish, by_install, by_mark, by_place, by_resolve, by_root, came, from_new, from_old}
 use Rattle.ist_core.proofs.BornLemmas as born
 use Rattle.ist_core.proofs.OptionLemmas.{same_value}
@@ -68,17 +68,11 @@ module _ (pairs : List Pair) (words : ℕ) where
       subst (λ b. ChangeComes (start pairs words) log b x (Install caller change rows)) (sym it.0)
       (is_installed h it.1)
   born_change log _ base x (born.by_root {rows = rows} i e) =
-      ⊎_elim (λ w. absurd (not_inner w.0 w.1)) (λ old. change_was old)
+      ⊎_elim (λ w. absurd (cc (w.1))) (λ old. change_was old)
       (published_inner (state_of pairs words log).pieces rows base (Change x) e)
-    where
-      not_inner : (r : InnerRow) → Change x ≡ Inner r → ⊥
-      not_inner r k = cc
   born_change log _ base x (born.by_place {rows = rows} i e) =
-      ⊎_elim (λ w. absurd (not_inner w.0 w.1)) (λ old. change_was old)
+      ⊎_elim (λ w. absurd (cc (w.1))) (λ old. change_was old)
       (published_inner (state_of pairs words log).pieces rows base (Change x) e)
-    where
-      not_inner : (r : InnerRow) → Change x ≡ Inner r → ⊥
-      not_inner r k = cc
 
   -- where each change after an enabled event comes from
   pub change_comes : (log : Log) (event : Event) → EachEnabled (start pairs words) (event ∷ log)
@@ -143,22 +137,13 @@ module _ (pairs : List Pair) (words : ℕ) where
   born_rebuild log _ base x (born.by_install {change = change} h new) =
       let it =
       installed_rebuild (start pairs words) log change h.change h.fresh h.fits base x new in
-      is_begun h it.starts it.here (same x (new_rebuild_row h.change it.starts.target) it.is)
-    where
-      same : (a b : RebuildRow) → Rebuild a ≡ Rebuild b → a ≡ b
-      same a b e = cc
+      is_begun h it.starts it.here (cc (it.is))
   born_rebuild log _ base x (born.by_root {rows = rows} i e) =
-      ⊎_elim (λ w. absurd (not_inner w.0 w.1)) (λ old. rebuild_was old)
+      ⊎_elim (λ w. absurd (cc (w.1))) (λ old. rebuild_was old)
       (published_inner (state_of pairs words log).pieces rows base (Rebuild x) e)
-    where
-      not_inner : (r : InnerRow) → Rebuild x ≡ Inner r → ⊥
-      not_inner r k = cc
   born_rebuild log _ base x (born.by_place {rows = rows} i e) =
-      ⊎_elim (λ w. absurd (not_inner w.0 w.1)) (λ old. rebuild_was old)
+      ⊎_elim (λ w. absurd (cc (w.1))) (λ old. rebuild_was old)
       (published_inner (state_of pairs words log).pieces rows base (Rebuild x) e)
-    where
-      not_inner : (r : InnerRow) → Rebuild x ≡ Inner r → ⊥
-      not_inner r k = cc
 
   -- where each rebuild after an enabled event comes from
   pub rebuild_comes : (log : Log) (event : Event) → EachEnabled (start pairs words) (event ∷ log)

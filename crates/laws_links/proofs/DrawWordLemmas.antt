@@ -12,7 +12,7 @@ use Rattle.ist_core.specs.Lawful.{CanOpen, EachEnabled, state_of}
 use Rattle.ist_core.specs.Leaves.{PlacedLeaf}
 use Rattle.ist_core.specs.Logs.{Log}
 use Rattle.ist_core.specs.Pieces.{Pieces, Rebuild, with_inners}
-use Rattle.ist_core.specs.References.{InnerAt, Ref, Unset, ref_of, unset_word}
+use Rattle.ist_core.specs.References.{InnerAt, Unset, ref_of, unset_word}
 use Rattle.ist_core.specs.RowLayout.{place_limit}
 use Rattle.ist_core.specs.Snapshots.{bases_of}
 use Rattle.ist_core.specs.StartLayout.{start}
@@ -45,10 +45,7 @@ module _ (pairs : List Pair) (words : ℕ) (opens : CanOpen pairs words) where
           → IsRoot ps word k leaves target bases → ⊥
       at ps k leaves target bases (root_whole ref few is ideal) =
           ideal_set ps ref leaves target bases ideal
-          (one ref (sym is ∙ ap ref_of none ∙ ref_of-unset))
-        where
-          one : (r : Ref) → Some r ≡ Some Unset → r ≡ Unset
-          one r q = cc
+          (cc (sym is ∙ ap ref_of none ∙ ref_of-unset))
       at ps k leaves target bases (root_top b row many is top unset all) =
           clash (sym is ∙ ap ref_of none ∙ ref_of-unset)
         where

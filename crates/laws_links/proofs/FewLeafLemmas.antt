@@ -1,7 +1,6 @@
 -- There are at most as many leaves with strictly increasing keys as a table has places. Serves the
 -- laws on numbers and on draw words.
 use Rattle.std.proofs.Common.{List, Option, Some, [], ap, arith, inl, inr, length, refl, subst, ℕ, ◌<◌, ◌∷◌, ◌≡◌}
-use Rattle.ist_core.specs.declared.states.LeafRow.{LeafRow}
 use Rattle.ist_core.specs.Elements.{Among, Distinct, Each}
 use Rattle.ist_core.specs.Leaves.{HasLeaves, PlacedLeaf, SlotsHaveLeaves, leaf_here, no_slot, none_here, one_slot, row_here}
 use Rattle.ist_core.specs.Pieces.{Leaf, Piece, Pieces}
@@ -43,13 +42,10 @@ base_absent : (ps : Pieces) (leaf : PlacedLeaf) (leaves : List PlacedLeaf)
 base_absent ps leaf [] e all above i = i
 base_absent ps leaf (l ∷ leaves) e all above (inl same) =
     let row : leaf.row ≡ l.row =
-    one (ps l.base) leaf.row l.row (subst (λ b. ps b ≡ Some (Leaf leaf.row)) same e) all.0 in
+    cc (subst (λ b. ps b ≡ Some (Leaf leaf.row)) same e, all.0) in
     let keys = ap (λ r. r.key) row in
     let less = above.0 in
     omega arith
-  where
-    one : (o : Option Piece) (r s : LeafRow) → o ≡ Some (Leaf r) → o ≡ Some (Leaf s) → r ≡ s
-    one o r s x y = cc
 base_absent ps leaf (l ∷ leaves) e all above (inr i) = base_absent ps leaf leaves e all.1 above.1 i
 
 -- leaves with strictly increasing keys have distinct bases

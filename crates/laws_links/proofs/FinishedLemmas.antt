@@ -80,11 +80,8 @@ passed_finished t _ _ child (of_child {child = m} {k = k} f) e =
 passed_finished t _ _ child (of_target {target = target} {k = k} h f) e =
     let read : Some (InnerAt h.row.target) ≡ Some (InnerAt child) =
     sym (ap rebuild_reads h.published) ∙ e in
-    let same : h.row.target ≡ child = one_inner h.row.target child read in
+    let same : h.row.target ≡ child = cc in
     (k, subst (λ n. IsFinishedWith t n k) (sym h.target_is ∙ same) f)
-  where
-    one_inner : (a b : ℕ) → Some (InnerAt a) ≡ Some (InnerAt b) → a ≡ b
-    one_inner a b e = cc
 
 -- a row keeps its number of slots
 pub same_length : (ps qs : Pieces) → AllGrow ps qs → (base : ℕ) (r s : InnerRow)

@@ -1,6 +1,6 @@
 -- New trees, whole or with parts that aren't built yet: they stay if their rows stay. Serves the
 -- replacement law.
-use Rattle.std.proofs.Common.{List, Option, Some, [], ap, inl, inr, length, refl, replicate, slice_get, slice_set, subst, suc, zero, ℕ, ◌++◌, ◌∙◌, ◌∷◌, ◌≡◌, ◌≢◌}
+use Rattle.std.proofs.Common.{List, Some, [], ap, inl, inr, length, refl, replicate, slice_get, slice_set, subst, suc, zero, ℕ, ◌++◌, ◌∙◌, ◌∷◌, ◌≡◌, ◌≢◌}
 use Rattle.ist_core.specs.declared.states.InnerRow.{InnerRow}
 use Rattle.ist_core.specs.declared.states.LeafRow.{LeafRow}
 use Rattle.ist_core.specs.Elements.{Among, Each}
@@ -76,14 +76,8 @@ parts_set : (ps : Pieces) (words : List ℕ) (following : List (List PlacedLeaf)
 parts_set ps _ _ _ _ no_part i e = absurd (cc)
 parts_set ps _ _ above _
     (one_part {word = word} {here = here} {part = part} ref is first more) zero e =
-    ideal_set ps ref part above here first
-    (one_ref (ref_of word) ref Unset is (ap ref_of (one_word word unset_word e) ∙ ref_of-unset))
-  where
-    one_word : (a b : ℕ) → Some a ≡ Some b → a ≡ b
-    one_word a b q = cc
-
-    one_ref : (o : Option Ref) (a b : Ref) → o ≡ Some a → o ≡ Some b → a ≡ b
-    one_ref o a b x y = cc
+    let named : word ≡ unset_word = cc in
+    ideal_set ps ref part above here first (cc (ap ref_of named ∙ ref_of-unset))
 parts_set ps _ _ above _
     (one_part {words = words} {rest = rest} {following = following} ref is first more) (suc i) e =
     parts_set ps words following above rest more i e

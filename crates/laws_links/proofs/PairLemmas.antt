@@ -32,7 +32,7 @@ use Rattle.ist_core.proofs.RowLemmas.{changed_at-other}
 use Rattle.ist_core.proofs.SlotLemmas.{slot_once}
 use Rattle.ist_core.proofs.SlotStepLemmas.{install_stands}
 use Rattle.ist_core.proofs.StepLemmas.{holds_installed}
-use Rattle.laws_links.proofs.ChangeLemmas.{said_something, undecided_stands}
+use Rattle.laws_links.proofs.ChangeLemmas.{undecided_stands}
 use Rattle.laws_links.proofs.FormLemmas.{leaf_of_grows}
 use Rattle.laws_links.proofs.FormedLemmas.{fresh_after, leaf_grown}
 use Rattle.laws_links.proofs.InductionLemmas.{changes_by, sound_after}
@@ -43,6 +43,7 @@ use Rattle.laws_links.proofs.UntouchedLemmas.{inner_row, not_the_anchor, stays_w
 use Rattle.ist_core.specs.Installing as kinds
 use Rattle.ist_core.proofs.OptionLemmas.{no_value}
 use Rattle.ist_core.proofs.FateLemmas.{grow_after}
+use Rattle.ist_core.proofs.YesLemmas.{said_something}
 
 -- ---- what an undecided change would put in
 
@@ -92,13 +93,10 @@ over_set : (key left right i : ℕ) (r : InnerRow) → pair_over key left right 
 over_set key left right i r e k =
     at i (subst (λ x. slice_get x.slots i ≡ Some unset_word) (sym (inner_row _ r e)) k)
   where
-    word : (a b : ℕ) → Some a ≡ Some b → a ≡ b
-    word a b q = cc
-
     at : (i : ℕ)
         → slice_get (word_of (LeafAt left) ∷ word_of (LeafAt right) ∷ []) i ≡ Some unset_word → ⊥
-    at zero q = leaf_set left (word (word_of (LeafAt left)) unset_word q)
-    at (suc zero) q = leaf_set right (word (word_of (LeafAt right)) unset_word q)
+    at zero q = leaf_set left (cc)
+    at (suc zero) q = leaf_set right (cc)
     at (suc (suc i)) q = absurd (cc)
 
 pair_set : (key base other_key other i : ℕ) (r : InnerRow)
@@ -176,10 +174,7 @@ module _ (pairs : List Pair) (words : ℕ) (opens : CanOpen pairs words) where
           → ((b : ℕ) (p : Piece) → IsPublishedWith (start pairs words) log can.change can.fresh fits b p
           → with_installed (state_of pairs words log).pieces base can.change can.fresh b ≡ Some p)
           → IsFilledPair pairs words (Install caller base rows ∷ log) can.change pair
-      at (kinds.a_put f) following stands = absurd (clash (sym f.to ∙ to))
-        where
-          clash : Some (LeafAt f.leaf) ≡ Some (InnerAt pair) → ⊥
-          clash q = cc
+      at (kinds.a_put f) following stands = absurd (cc (sym f.to ∙ to))
       at (kinds.a_remove f) following stands =
           absurd (let one : ◌≡◌ {A = ℕ} 1 2 = sym kind ∙ f.kind in omega arith)
       at (kinds.a_start f) following stands =
@@ -188,11 +183,8 @@ module _ (pairs : List Pair) (words : ℕ) (opens : CanOpen pairs words) where
           absurd (let one : ◌≡◌ {A = ℕ} 1 4 = sym kind ∙ f.kind in omega arith)
       at (kinds.a_pair f) following stands =
           subst (λ n. IsFilledPair pairs words (Install caller base rows ∷ log) can.change n)
-          (one_inner f.pair pair (sym f.to ∙ to)) filled
+          (cc (sym f.to ∙ to)) filled
         where
-          one_inner : (a b : ℕ) → Some (InnerAt a) ≡ Some (InnerAt b) → a ≡ b
-          one_inner a b q = cc
-
           none : (state_of pairs words log).pieces f.pair ≡ None
           none =
               let held = subst (λ xs. HoldsRows (state_of pairs words log) caller (row_at base (Change can.change) ∷ xs)) f.fresh_are holds in

@@ -137,12 +137,9 @@ module _ (pairs : List Pair) (words : ℕ) (opens : CanOpen pairs words) where
       let t = state_of pairs words log in
       let writes = place_writes t caller rebuild j word rows h.1 (sound_after pairs words log h.0) (anchor_free pairs words log h.0) in
       ⊎_elim
-      (λ w. inr (filled_by h.1 w.1 w.2 (one_ref (past_change t.pieces (ref_of r.word)) ref Unset r.reads (ap (λ v. past_change t.pieces (ref_of v)) w.0 ∙ ap (past_change t.pieces) ref_of-unset))))
+      (λ w. inr (filled_by h.1 w.1 w.2 (cc (r.reads, ap (λ v. past_change t.pieces (ref_of v)) w.0 ∙ ap (past_change t.pieces) ref_of-unset))))
       (λ stays. inl (inl (reads_left log (Place caller rebuild j word rows) h tt node i ref r stays)))
       (writes.others node i r.word r.holds)
-    where
-      one_ref : (o : Option Ref) (a b : Ref) → o ≡ Some a → o ≡ Some b → a ≡ b
-      one_ref o a b x y = cc
 
   -- a Decide turns the slot of its change, or leaves what it reads as
   pub reads_decide : (log : Log) (caller base : ℕ) (said : Bool)
@@ -192,16 +189,13 @@ module _ (pairs : List Pair) (words : ℕ) (opens : CanOpen pairs words) where
                 slot_stays (start pairs words) log (Decide caller base false) h.1 (sound_after pairs words log h.0) tt node i r.word r.holds;
             reads = past_same t.pieces (changed_at t.pieces base f) (ref_of r.word) ref
                 (λ b x named e.
-                let same : b ≡ base = one_change b base (sym named ∙ is) in
+                let same : b ≡ base = cc (sym named ∙ is) in
                 let row = same_change (t.pieces base) x h.1.change (subst (λ n. t.pieces n ≡ Some (Change x)) same e) h.1.pending.published in (
                   record x { decision = decided_no },
                   subst (λ n. changed_at t.pieces base f n ≡ Some (Change record x { decision = decided_no })) (sym same) (changed_at-same t.pieces base f ∙ ap (option_map f) (subst (λ n. t.pieces n ≡ Some (Change x)) same e)),
                   sym (side_undecided x (ap (λ c. c.decision) row ∙ h.1.pending.unset)),
                 )) r.reads;
           }
-        where
-          one_change : (a b : ℕ) → Some (ChangeAt a) ≡ Some (ChangeAt b) → a ≡ b
-          one_change a b e = cc
       at true h (inl is) =
           let t = state_of pairs words log in
           let here : SlotNames t.pieces node i (Some (ChangeAt base)) = subst (λ o. SlotNames t.pieces node i o) is (slot_names t node i r.word (names pairs words opens log h.0) r.holds) in

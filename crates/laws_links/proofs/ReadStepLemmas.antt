@@ -76,10 +76,7 @@ module _ (pairs : List Pair) (words : ℕ) (opens : CanOpen pairs words) where
       at None is (inl side) =
           absurd (subst (λ r. SideNames (state_of pairs words log).pieces node i r) is side)
       at None is (inr unset) =
-          absurd (clash (past_change (state_of pairs words log).pieces (ref_of word)) is unset)
-        where
-          clash : (x : Option Ref) → x ≡ None → x ≡ Some Unset → ⊥
-          clash x a b = cc
+          absurd (cc)
 
   -- a slot of a node that was there before held a word
   pub slot_held : (log : Log) (event : Event) → EachEnabled (start pairs words) (event ∷ log)

@@ -11,7 +11,7 @@ use Rattle.ist_core.specs.Links.{Linked, at_anchor, below}
 use Rattle.ist_core.specs.Logs.{Log}
 use Rattle.ist_core.specs.Pieces.{Change, Rebuild}
 use Rattle.ist_core.specs.Rebuilding.{IsStarted}
-use Rattle.ist_core.specs.References.{InnerAt, RebuildAt, Ref, ref_of}
+use Rattle.ist_core.specs.References.{InnerAt, RebuildAt, ref_of}
 use Rattle.ist_core.specs.Slots.{SlotHolds, logical, past_rebuild}
 use Rattle.ist_core.specs.StartLayout.{start}
 use Rattle.ist_core.specs.Statuses.{decided_yes}
@@ -80,12 +80,9 @@ module _ (pairs : List Pair) (words : ℕ) (opens : CanOpen pairs words) where
           let slot = subst (λ m. SlotHolds u m x.index c.word) (home.0 ∙ n) (subst (λ m. SlotHolds u node m c.word) (home.1 ∙ j) c.holds) in
           let same = slot_once u x.node x.index c.word reads.word (anchor_free pairs words (Decide caller base true ∷ log) h) slot reads.holds in
           let lead : past_rebuild u.pieces (Some p.ref) ≡ Some (InnerAt child) = ap (past_rebuild u.pieces) (sym reads.reads) ∙ ap (logical u.pieces) (sym same) ∙ c.reads in
-          let is_ref : p.ref ≡ InnerAt r.target = one_ref p.ref (InnerAt r.target) (sym (ideal_plain_in u.pieces t.pieces p.ref p.leaves r.target p.rows p.ideal) ∙ lead ∙ ap (λ m. Some (InnerAt m)) is) in
+          let is_ref : p.ref ≡ InnerAt r.target = cc (sym (ideal_plain_in u.pieces t.pieces p.ref p.leaves r.target p.rows p.ideal) ∙ lead ∙ ap (λ m. Some (InnerAt m)) is) in
           let high = ideal_above t.pieces p.ref p.leaves r.target p.rows r.target p.ideal is_ref in
           omega arith
-        where
-          one_ref : (a b : Ref) → Some a ≡ Some b → a ≡ b
-          one_ref a b q = cc
 
   -- the target of a rebuild that was replaced isn't linked
   pub replaced_unlinked : (log : Log) → EachEnabled (start pairs words) log

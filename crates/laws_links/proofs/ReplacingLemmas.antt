@@ -8,7 +8,7 @@ use Rattle.ist_core.specs.declared.states.RebuildRow.{RebuildRow}
 use Rattle.ist_core.specs.Lawful.{CanOpen, EachEnabled, state_of}
 use Rattle.ist_core.specs.Logs.{Log}
 use Rattle.ist_core.specs.Pieces.{Change, Rebuild}
-use Rattle.ist_core.specs.References.{RebuildAt, Ref, Unset, ref_of, unset_word}
+use Rattle.ist_core.specs.References.{RebuildAt, ref_of, unset_word}
 use Rattle.ist_core.specs.StartLayout.{start}
 use Rattle.ist_core.specs.Statuses.{undecided}
 use Rattle.ist_core.proofs.ReferenceLemmas.{ref_of-unset}
@@ -76,8 +76,5 @@ module _ (pairs : List Pair) (words : ℕ) (opens : CanOpen pairs words) where
       let t = state_of pairs words log in
       let none = deciding pairs words opens log caller base true h x e in
       let p = puts_ideal log h.0 base x e none rebuild row from there in
-      let set : row.root ≢ unset_word = λ k. ideal_set t.pieces p.ref p.leaves row.target p.rows p.ideal (one p.ref (sym p.root_is ∙ ap ref_of k ∙ ref_of-unset)) in
+      let set : row.root ≢ unset_word = λ k. ideal_set t.pieces p.ref p.leaves row.target p.rows p.ideal (cc (sym p.root_is ∙ ap ref_of k ∙ ref_of-unset)) in
       (p, puts_ideal_after log caller base h x rebuild row there set p)
-    where
-      one : (r : Ref) → Some r ≡ Some Unset → r ≡ Unset
-      one r q = cc

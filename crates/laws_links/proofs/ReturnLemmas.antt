@@ -72,10 +72,7 @@ module _ (pairs : List Pair) (words : ℕ) (opens : CanOpen pairs words) where
           ap rebuild_reads here.published ∙ ap (λ n. Some (InnerAt n)) (sym on.2.target) ∙ sym
           (ap rebuild_reads on.1) ∙ k
       at (RebuildAt base) is k (inr unset) =
-          absurd (clash (past_change (state_of pairs words log).pieces (ref_of r.word)) is unset)
-        where
-          clash : (x : Option Ref) → x ≡ Some (RebuildAt base) → x ≡ Some Unset → ⊥
-          clash x a b = cc
+          absurd (cc)
       at Empty is k side = absurd (cc)
       at Unset is k side = absurd (cc)
       at (LeafAt base) is k side = absurd (cc)
@@ -112,30 +109,21 @@ module _ (pairs : List Pair) (words : ℕ) (opens : CanOpen pairs words) where
 
       by_form : IsFormed (state_of pairs words log) can.change
           → IsChild (state_of pairs words log) node i child
-      by_form (of_leaf_put f) = absurd (clash (leads_to (LeafAt f.leaf) f.to))
-        where
-          clash : Some (LeafAt f.leaf) ≡ Some (InnerAt child) → ⊥
-          clash q = cc
+      by_form (of_leaf_put f) = absurd (cc (leads_to (LeafAt f.leaf) f.to))
       by_form (of_pair_put f) =
           let same = one_inner f.pair child (leads_to (InnerAt f.pair) f.to) in
           let filled = pair_is_filled pairs words opens log h.0 base can.change can.pending.published can.pending.unset f.kind f.pair f.to in
           absurd (filled.never (subst (λ m. WasLinked (start pairs words) log m) (sym same) linked))
-      by_form (of_remove f) = absurd (clash (leads_to Empty f.to))
-        where
-          clash : Some Empty ≡ Some (InnerAt child) → ⊥
-          clash q = cc
+      by_form (of_remove f) = absurd (cc (leads_to Empty f.to))
       by_form (of_start f) =
           let t = state_of pairs words log in
           let u = state_of pairs words (Decide caller base true ∷ log) in
           let now = leads_grows t u (grow_after pairs words log (Decide caller base true) h) (RebuildAt f.rebuild) f.row.target (leads_rebuild t.pieces f.rebuild f.row f.published) in
           let same = one_inner f.row.target child (sym now ∙ leads_to (RebuildAt f.rebuild) f.to) in
           let here : was ≡ InnerAt f.row.target =
-          one_ref was (InnerAt f.row.target) (sym from ∙ f.from) in
+          cc (sym from ∙ f.from) in
           read_child t node i child was old
           (ap (λ x. past_rebuild t.pieces (Some x)) here ∙ ap (λ m. Some (InnerAt m)) same)
-        where
-          one_ref : (a b : Ref) → Some a ≡ Some b → a ≡ b
-          one_ref a b q = cc
       by_form (of_finish f) =
           let t = state_of pairs words log in
           let row = (names pairs words opens log h.0).rows f.rebuild (Rebuild f.row) f.published in
@@ -148,18 +136,9 @@ module _ (pairs : List Pair) (words : ℕ) (opens : CanOpen pairs words) where
               → ¬ (ref_of f.row.root ≡ Some (InnerAt child)) → ⊥
           by_root (Some (InnerAt b)) is k never =
               never (is ∙ leads_to (InnerAt b) (ap ref_of f.to ∙ is))
-          by_root (Some Empty) is k never = clash (leads_to Empty (ap ref_of f.to ∙ is))
-            where
-              clash : Some Empty ≡ Some (InnerAt child) → ⊥
-              clash q = cc
-          by_root (Some Unset) is k never = clash (leads_to Unset (ap ref_of f.to ∙ is))
-            where
-              clash : Some Unset ≡ Some (InnerAt child) → ⊥
-              clash q = cc
-          by_root (Some (LeafAt b)) is k never = clash (leads_to (LeafAt b) (ap ref_of f.to ∙ is))
-            where
-              clash : Some (LeafAt b) ≡ Some (InnerAt child) → ⊥
-              clash q = cc
+          by_root (Some Empty) is k never = cc (leads_to Empty (ap ref_of f.to ∙ is))
+          by_root (Some Unset) is k never = cc (leads_to Unset (ap ref_of f.to ∙ is))
+          by_root (Some (LeafAt b)) is k never = cc (leads_to (LeafAt b) (ap ref_of f.to ∙ is))
           by_root (Some (ChangeAt b)) is k never = k
           by_root (Some (RebuildAt b)) is k never = k
           by_root None is k never = k
@@ -183,12 +162,9 @@ module _ (pairs : List Pair) (words : ℕ) (opens : CanOpen pairs words) where
       let qs = with_inners t.pieces rows in
       let child_is : Some can.ref ≡ Some (InnerAt child) =
       sym (ideal_reads u.pieces qs can.ref can.part can.root (bases_of rows) can.ideal) ∙ ap (past_rebuild u.pieces) read ∙ leads in
-      let among = ideal_among qs can.ref can.part can.root (bases_of rows) child can.ideal (one_ref can.ref (InnerAt child) child_is) in
+      let among = ideal_among qs can.ref can.part can.root (bases_of rows) child can.ideal (cc) in
       no_value (t.pieces child) (Inner there.0)
       (held_free t caller rows can.held (sound_after pairs words log h.0) child among) there.1
-    where
-      one_ref : (a b : Ref) → Some a ≡ Some b → a ≡ b
-      one_ref a b q = cc
 
   -- going down by base: a row that was linked and is linked after an event is linked before it
   not_brought_back : (log : Log) (event : Event) → EachEnabled (start pairs words) (event ∷ log)

@@ -79,23 +79,17 @@ added_changed : (ps qs : Pieces) (New : ℕ → Piece → Type 0) (at : ℕ) (f 
     → (base ≡ at → ps base ≡ None → ⊥) → Either ps qs New at f base q
 added_changed ps qs New at f adds base q e stood = here (ps base) refl
   where
-    same : (o : Option Piece) (a b : Piece) → o ≡ Some a → o ≡ Some b → a ≡ b
-    same o a b x y = cc
-
-    clash : (o : Option Piece) (a : Piece) → o ≡ None → o ≡ Some a → ⊥
-    clash o a x y = cc
-
     here : (o : Option Piece) → ps base ≡ o → Either ps qs New at f base q
     here (Some p) is =
         let it = changed_at-some qs at base f q e in
-        let one : it.0 ≡ p = same (qs base) it.0 p it.1 (adds.keeps base p is) in
+        let one : it.0 ≡ p = cc (it.1, adds.keeps base p is) in
         inl (p, is, subst (λ x. (q ≡ x) ⊎ ((base ≡ at) × (q ≡ f x))) one it.2)
     here None is =
         let it = changed_at-some qs at base f q e in
         ⊎_elim
         (λ kept.
         let there : qs base ≡ Some q = subst (λ x. qs base ≡ Some x) (sym kept) it.1 in
-        inr (⊎_elim (λ old. absurd (clash (ps base) q is old)) (λ new. new) (adds.from base q there), there, is))
+        inr (⊎_elim (λ old. absurd (cc)) (λ new. new) (adds.from base q there), there, is))
         (λ turned. absurd (stood turned.0 is))
         it.2
 

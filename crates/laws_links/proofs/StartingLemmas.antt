@@ -10,7 +10,7 @@ use Rattle.ist_core.specs.Lawful.{CanOpen, EachEnabled, state_of}
 use Rattle.ist_core.specs.Logs.{Log}
 use Rattle.ist_core.specs.Pieces.{Change, Rebuild, row_at}
 use Rattle.ist_core.specs.Rebuilding.{IsStarted}
-use Rattle.ist_core.specs.References.{ChangeAt, Empty, InnerAt, LeafAt, RebuildAt, Ref, ref_of, word_of}
+use Rattle.ist_core.specs.References.{ChangeAt, RebuildAt, Ref, ref_of, word_of}
 use Rattle.ist_core.specs.Slots.{SlotHolds}
 use Rattle.ist_core.specs.Snapshots.{HoldsRows, Snapshot}
 use Rattle.ist_core.specs.StartLayout.{start}
@@ -21,7 +21,7 @@ use Rattle.ist_core.proofs.OrderLemmas.{names}
 use Rattle.ist_core.proofs.PlaceLemmas.{anchor_free}
 use Rattle.ist_core.proofs.SlotLemmas.{slot_once}
 use Rattle.ist_core.proofs.StepLemmas.{holds_installed}
-use Rattle.laws_links.proofs.ChangeLemmas.{said_something, undecided_stands}
+use Rattle.laws_links.proofs.ChangeLemmas.{undecided_stands}
 use Rattle.laws_links.proofs.ComesLemmas.{change_comes}
 use Rattle.laws_links.proofs.FormLemmas.{IsFinish, IsFormed, of_finish, of_leaf_put, of_pair_put, of_remove, of_start}
 use Rattle.laws_links.proofs.InductionLemmas.{changes_by, sound_after}
@@ -31,6 +31,7 @@ use Rattle.laws_links.proofs.ReadLemmas.{ReadsAs, side_undecided}
 use Rattle.ist_core.specs.Installing as kinds
 use Rattle.ist_core.proofs.OptionLemmas.{no_value, same_rebuild, same_change}
 use Rattle.ist_core.proofs.FreezingLemmas.{same_change_word}
+use Rattle.ist_core.proofs.YesLemmas.{said_something}
 
 -- ---- changes that name a rebuild
 
@@ -45,26 +46,11 @@ pub finish_of : (t : Snapshot) (x : ChangeRow) (rebuild : ℕ) → IsFormed t x
 finish_of t x rebuild (of_leaf_put f) e = absurd (room f.from)
   where
     room : HasRoomFor t x.key x.from → ⊥
-    room (nothing k) = clash (sym k ∙ e)
-      where
-        clash : Some Empty ≡ Some (RebuildAt rebuild) → ⊥
-        clash q = cc
-    room (same_key leaf k l) = clash (sym k ∙ e)
-      where
-        clash : Some (LeafAt leaf) ≡ Some (RebuildAt rebuild) → ⊥
-        clash q = cc
-finish_of t x rebuild (of_pair_put f) e = absurd (clash (sym f.from ∙ e))
-  where
-    clash : Some (LeafAt f.other) ≡ Some (RebuildAt rebuild) → ⊥
-    clash q = cc
-finish_of t x rebuild (of_remove f) e = absurd (clash (sym f.from ∙ e))
-  where
-    clash : Some (LeafAt f.leaf) ≡ Some (RebuildAt rebuild) → ⊥
-    clash q = cc
-finish_of t x rebuild (of_start f) e = absurd (clash (sym f.from ∙ e))
-  where
-    clash : Some (InnerAt f.row.target) ≡ Some (RebuildAt rebuild) → ⊥
-    clash q = cc
+    room (nothing k) = cc (sym k ∙ e)
+    room (same_key leaf k l) = cc (sym k ∙ e)
+finish_of t x rebuild (of_pair_put f) e = absurd (cc (sym f.from ∙ e))
+finish_of t x rebuild (of_remove f) e = absurd (cc (sym f.from ∙ e))
+finish_of t x rebuild (of_start f) e = absurd (cc (sym f.from ∙ e))
 finish_of t x rebuild (of_finish f) e = record { form = f; same = one (sym f.from ∙ e) }
   where
     one : Some (RebuildAt f.rebuild) ≡ Some (RebuildAt rebuild) → f.rebuild ≡ rebuild
@@ -111,25 +97,13 @@ module _ (pairs : List Pair) (words : ℕ) (opens : CanOpen pairs words) where
 
       at : FitsKind (start pairs words) log can.change can.fresh
           → (state_of pairs words log).pieces rebuild ≡ None
-      at (kinds.a_put f) = absurd (clash (sym f.to ∙ to))
-        where
-          clash : Some (LeafAt f.leaf) ≡ Some (RebuildAt rebuild) → ⊥
-          clash q = cc
-      at (kinds.a_pair f) = absurd (clash (sym f.to ∙ to))
-        where
-          clash : Some (InnerAt f.pair) ≡ Some (RebuildAt rebuild) → ⊥
-          clash q = cc
-      at (kinds.a_remove f) = absurd (clash (sym f.to ∙ to))
-        where
-          clash : Some Empty ≡ Some (RebuildAt rebuild) → ⊥
-          clash q = cc
+      at (kinds.a_put f) = absurd (cc (sym f.to ∙ to))
+      at (kinds.a_pair f) = absurd (cc (sym f.to ∙ to))
+      at (kinds.a_remove f) = absurd (cc (sym f.to ∙ to))
       at (kinds.a_start f) =
           let held = subst (λ xs. HoldsRows (state_of pairs words log) caller (row_at base (Change can.change) ∷ xs)) f.fresh_are (holds_installed (start pairs words) log caller base rows can) in
-          subst (λ b. (state_of pairs words log).pieces b ≡ None) (one (sym f.to ∙ to))
+          subst (λ b. (state_of pairs words log).pieces b ≡ None) (cc (sym f.to ∙ to))
           (s.unpublished record { caller = caller; base = f.rebuild; size = 5 } held.1.0)
-        where
-          one : Some (RebuildAt f.rebuild) ≡ Some (RebuildAt rebuild) → f.rebuild ≡ rebuild
-          one q = cc
       at (kinds.a_finish f) =
           let row = (names pairs words opens log h.0).rows f.rebuild (Rebuild f.row) f.published in
           absurd

@@ -1,6 +1,6 @@
 -- The tree of a rebuild that wasn't replaced was never linked, so it stays as it was built. Serves
 -- the replacement law.
-use Rattle.std.proofs.Common.{List, Option, Some, [], ap, arith, inl, inr, refl, slice_get, subst, sym, ℕ, ⊎_elim, ◌<◌, ◌∙◌, ◌∷◌, ◌≡◌, ◌≢◌}
+use Rattle.std.proofs.Common.{List, Some, [], ap, arith, inl, inr, refl, slice_get, subst, sym, ℕ, ⊎_elim, ◌<◌, ◌∙◌, ◌∷◌, ◌≡◌, ◌≢◌}
 use Rattle.ist_core.specs.declared.events.Event.{Event}
 use Rattle.ist_core.specs.declared.events.Event.TheVariants.{Draw, Root}
 use Rattle.ist_core.specs.declared.pairs.Pair.{Pair}
@@ -14,7 +14,7 @@ use Rattle.ist_core.specs.Links.{Linked, WasLinked, at_anchor, below}
 use Rattle.ist_core.specs.Logs.{Log}
 use Rattle.ist_core.specs.Pieces.{Inner, Pieces, Rebuild, with_inners}
 use Rattle.ist_core.specs.Rebuilding.{IsReplaced, IsStarted}
-use Rattle.ist_core.specs.References.{InnerAt, Ref, Unset, ref_of, unset_word}
+use Rattle.ist_core.specs.References.{InnerAt, Ref, ref_of, unset_word}
 use Rattle.ist_core.specs.RowLayout.{anchor}
 use Rattle.ist_core.specs.Slots.{SlotHolds, in_row, logical, past_rebuild, rebuild_reads}
 use Rattle.ist_core.specs.Snapshots.{bases_of}
@@ -55,15 +55,9 @@ pub root_among : (ps : Pieces) (word k : ℕ) (leaves : List PlacedLeaf) (target
     (base : ℕ)
     → IsRoot ps word k leaves target rows → ref_of word ≡ Some (InnerAt base) → Among base rows
 root_among ps word k leaves target rows base (root_whole ref few is ideal) e =
-    ideal_among ps ref leaves target rows base ideal (one (ref_of word) ref (InnerAt base) is e)
-  where
-    one : (o : Option Ref) (a b : Ref) → o ≡ Some a → o ≡ Some b → a ≡ b
-    one o a b x y = cc
+    ideal_among ps ref leaves target rows base ideal (cc)
 root_among ps word k leaves target rows base (root_top b row many is top unset all) e =
-    subst (λ bs. Among base bs) (sym all) (inl (one base b (sym e ∙ is)))
-  where
-    one : (a b : ℕ) → Some (InnerAt a) ≡ Some (InnerAt b) → a ≡ b
-    one a b q = cc
+    subst (λ bs. Among base bs) (sym all) (inl (cc (sym e ∙ is)))
 
 module _ (pairs : List Pair) (words : ℕ) (opens : CanOpen pairs words) where
   -- a rebuild with a root was started
@@ -97,10 +91,7 @@ module _ (pairs : List Pair) (words : ℕ) (opens : CanOpen pairs words) where
 
   -- a word that names an inner row is set
   pub inner_set : (word base : ℕ) → ref_of word ≡ Some (InnerAt base) → word ≢ unset_word
-  inner_set word base is e = clash (sym ref_of-unset ∙ ap ref_of (sym e) ∙ is)
-    where
-      clash : Some Unset ≡ Some (InnerAt base) → ⊥
-      clash q = cc
+  inner_set word base is e = cc (sym ref_of-unset ∙ ap ref_of (sym e) ∙ is)
 
   -- the root of a rebuild that wasn't replaced isn't linked
   root_unlinked : (log : Log) → EachEnabled (start pairs words) log
@@ -120,14 +111,11 @@ module _ (pairs : List Pair) (words : ℕ) (opens : CanOpen pairs words) where
       (rooted_is_started log h rebuild r e (inner_set r.root base is))) in
       let slot = subst (λ j. SlotHolds t r.parent j c.word) home.1 (subst (λ n. SlotHolds t n i c.word) home.0 c.holds) in
       let same = slot_once t r.parent r.index c.word reads.word (anchor_free pairs words log h) slot reads.holds in
-      let target : r.target ≡ base = one r.target base (sym (ap rebuild_reads e) ∙ sym (ap (past_rebuild t.pieces) reads.reads) ∙ ap (logical t.pieces) (sym same) ∙ c.reads) in
+      let target : r.target ≡ base = cc (sym (ap rebuild_reads e) ∙ sym (ap (past_rebuild t.pieces) reads.reads) ∙ ap (logical t.pieces) (sym same) ∙ c.reads) in
       let high : (r.target < base) × InnerHere t.pieces base =
       subst (λ x. RootNames t.pieces r.target x) is (o.rows rebuild (Rebuild r) e).2 in
       let higher = high.0 in
       omega arith
-    where
-      one : (a b : ℕ) → Some (InnerAt a) ≡ Some (InnerAt b) → a ≡ b
-      one a b q = cc
 
   -- the root of a rebuild that wasn't replaced was never linked
   pub root_never_linked : (log : Log) → EachEnabled (start pairs words) log

@@ -130,16 +130,13 @@ module _ (pairs : List Pair) (words : ℕ) (opens : CanOpen pairs words) where
           (λ turn. inr (turned (Decide caller base true) refl turn))
           (reads_step pairs words opens log (Decide caller base true) h node i ref set record { word = w; holds = old; reads = is })
         where
-          same_base : (a b c d : ℕ) → Decide a b true ≡ Decide c d true → d ≡ b
-          same_base a b c d q = cc
-
           turned : (event : Event) → Decide caller base true ≡ event
               → Turns (start pairs words) log node i ref event
               → HasSome (state_of pairs words (Decide caller base true ∷ log)).pieces (logical (state_of pairs words (Decide caller base true ∷ log)).pieces v)
           turned _ one (turned_by {caller = c} {base = b} can n j from) =
               let t = state_of pairs words log in
               let u = state_of pairs words (Decide caller base true ∷ log) in
-              let here : b ≡ base = same_base caller base c b one in
+              let here : b ≡ base = cc in
               let mine = h.1 in
               let row : can.change ≡ mine.change = same_change (t.pieces base) can.change mine.change (subst (λ m. t.pieces m ≡ Some (Change can.change)) here can.pending.published) mine.pending.published in
               let to = undecided_to log h.0 base mine.change mine.pending.published in

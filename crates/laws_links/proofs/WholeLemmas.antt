@@ -18,7 +18,7 @@ use Rattle.ist_core.specs.Logs.{Log}
 use Rattle.ist_core.specs.Parts.{parts}
 use Rattle.ist_core.specs.Pieces.{Change, Inner, Leaf, Pieces, Rebuild, changed_at, with_inners, with_root}
 use Rattle.ist_core.specs.Rebuilding.{IsReplaced}
-use Rattle.ist_core.specs.References.{Empty, InnerAt, LeafAt, RebuildAt, Ref, ref_of, unset_word}
+use Rattle.ist_core.specs.References.{InnerAt, RebuildAt, Ref, ref_of, unset_word}
 use Rattle.ist_core.specs.Slots.{SlotHolds, in_row, past_change}
 use Rattle.ist_core.specs.Snapshots.{Snapshot, bases_of}
 use Rattle.ist_core.specs.StartLayout.{start}
@@ -28,7 +28,6 @@ use Rattle.ist_core.proofs.KeepingLemmas.{leaves_kept}
 use Rattle.ist_core.proofs.LayoutLemmas.{length-parts}
 use Rattle.ist_core.proofs.LeafLemmas.{reached}
 use Rattle.ist_core.proofs.NamingStepLemmas.{changed_at-fixed}
-use Rattle.laws_links.proofs.ChangeLemmas.{said_something}
 use Rattle.laws_links.proofs.ComesLemmas.{rebuild_comes}
 use Rattle.laws_links.proofs.FormedLemmas.{rooted_is_finished}
 use Rattle.laws_links.proofs.InductionLemmas.{changes_by}
@@ -40,6 +39,7 @@ use Rattle.laws_links.proofs.NewTreeLemmas.{ArePartly, IsPartly, ideal_kept, in_
 use Rattle.laws_links.proofs.RebuiltLemmas.{finish_unreplaced, read_unreplaced, unreplaced_before}
 use Rattle.ist_core.specs.Installing as kinds
 use Rattle.ist_core.proofs.FateLemmas.{grow_after}
+use Rattle.ist_core.proofs.YesLemmas.{said_something}
 
 -- a new root, in the table of its condition
 root_partly : (ps : Pieces) (word k : ℕ) (leaves : List PlacedLeaf) (target : ℕ) (rows : List ℕ)
@@ -212,26 +212,11 @@ module _ (pairs : List Pair) (words : ℕ) (opens : CanOpen pairs words) where
       at (kinds.a_put f) = absurd (room f.from)
         where
           room : HasRoomFor (state_of pairs words log) can.change.key can.change.from → ⊥
-          room (nothing k) = clash (sym k ∙ from)
-            where
-              clash : Some Empty ≡ Some (RebuildAt rebuild) → ⊥
-              clash q = cc
-          room (same_key leaf k l) = clash (sym k ∙ from)
-            where
-              clash : Some (LeafAt leaf) ≡ Some (RebuildAt rebuild) → ⊥
-              clash q = cc
-      at (kinds.a_pair f) = absurd (clash (sym f.from ∙ from))
-        where
-          clash : Some (LeafAt f.other) ≡ Some (RebuildAt rebuild) → ⊥
-          clash q = cc
-      at (kinds.a_remove f) = absurd (clash (sym f.from ∙ from))
-        where
-          clash : Some (LeafAt f.leaf) ≡ Some (RebuildAt rebuild) → ⊥
-          clash q = cc
-      at (kinds.a_start f) = absurd (clash (sym f.from ∙ from))
-        where
-          clash : Some (InnerAt f.target) ≡ Some (RebuildAt rebuild) → ⊥
-          clash q = cc
+          room (nothing k) = cc (sym k ∙ from)
+          room (same_key leaf k l) = cc (sym k ∙ from)
+      at (kinds.a_pair f) = absurd (cc (sym f.from ∙ from))
+      at (kinds.a_remove f) = absurd (cc (sym f.from ∙ from))
+      at (kinds.a_start f) = absurd (cc (sym f.from ∙ from))
       at (kinds.a_finish f) =
           let t = state_of pairs words log in
           let slot = subst (λ j. SlotHolds t f.row.parent j can.change.from) (sym f.index) (subst (λ n. SlotHolds t n can.change.index can.change.from) (sym f.parent) can.in_slot) in
@@ -252,11 +237,8 @@ module _ (pairs : List Pair) (words : ℕ) (opens : CanOpen pairs words) where
             ideal = it.1;
           } in
           subst (λ n. IsWholeRoot (Install caller base rows ∷ log) can.change n)
-          (one f.rebuild rebuild (sym f.from ∙ from))
+          (cc (sym f.from ∙ from))
           (whole_on log (Install caller base rows) h can.change f.rebuild unr now)
-        where
-          one : (a b : ℕ) → Some (RebuildAt a) ≡ Some (RebuildAt b) → a ≡ b
-          one a b q = cc
 
   -- an undecided finish puts in a whole root
   pub finish_is_whole : (log : Log) → EachEnabled (start pairs words) log

@@ -24,14 +24,11 @@ in_time m entries moments all =
       once = λ p q e f at bt same a b.
           (let begun : in_call e.owner moments ≡ Some b.begun =
           subst (λ n. in_call n moments ≡ Some b.begun) (sym same) b.in_it in
-          let low : a.begun.changes ≡ b.begun.changes =
-          ap (λ (x : Begun). x.changes) (one_begun a.begun b.begun (sym a.in_it ∙ begun)) in
+          let same_begun : a.begun ≡ b.begun = cc (sym a.in_it ∙ begun) in
+          let low : a.begun.changes ≡ b.begun.changes = ap (λ (x : Begun). x.changes) same_begun in
           one_of m entries moments all e.owner b.begun begun p q e f at bt refl (sym same)
           (omega (arith, low, a.from)) b.from);
     }
-  where
-    one_begun : (x y : Begun) → Some x ≡ Some y → x ≡ y
-    one_begun x y h = cc
 
 -- so they are linearizable, and lead to the map after the changes
 pub accounted_linearizes : (m : Map) (entries : List Entry) (moments : Moments)

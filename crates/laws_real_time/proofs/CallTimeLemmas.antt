@@ -14,7 +14,6 @@ use Rattle.laws_real_time.proofs.ChangeCountLemmas.{changes_at, changes_rise}
 use Rattle.laws_real_time.proofs.MomentLemmas.{begun_in, ended_in, ended_before, AreApartInTime, same_call, comes_first, comes_later, ended_apart}
 use Rattle.laws_real_time.proofs.WeaveLemmas.{IsSpot, owns, reads}
 use Rattle.laws_real_time.proofs.OwnerLemmas.{readings, IsByEnded, IsByBegun, OwnsChange, placed_of, IsReadingCall, reading_of}
-use Rattle.laws_histories.proofs.CallLemmas.{differ}
 
 -- the second did not return before the first began, and is another call
 abbrev pub IsBefore : TimedCall → TimedCall → Type 0
@@ -238,9 +237,7 @@ module _ (m : Map) (entries : List Entry) (moments : Moments)
         let g : x.begun.time ≡ b.call.begun.time =
         h.began ∙ ap (λ (z : TimedCall). z.began) b.is in
         let one = ended_one x b.call (reading_of m entries moments all x i).among b.among c g in
-        absurd (differ (is_change x.call)
-        (subst (λ (z : Ended). is_change z.call ≡ true) (sym one) b.change)
-        (reading_of m entries moments all x i).plain)))
+        absurd (cc (subst (λ (z : Ended). is_change z.call ≡ true) (sym one) b.change, (reading_of m entries moments all x i).plain))))
         (λ b.
         (let c : o.entry.owner ≡ x.caller =
         ap (λ (z : TimedCall). z.caller) (sym b.is) ∙ sym h.caller in

@@ -72,10 +72,7 @@ module _ (number : ℕ) where
       → Pairwise (λ a b. a.position < b.position) calls → Each (IsAtIndex entries offset) calls
       → length calls ≤ length (entries_by number entries)
   calls_fit entries offset [] rise all = omega arith
-  calls_fit [] offset (call ∷ calls) rise all = absurd (none (all.0.index) all.0.entry)
-    where
-      none : (index : ℕ) → slice_get [] index ≡ Some (entry_by number call) → ⊥
-      none index e = cc
+  calls_fit [] offset (call ∷ calls) rise all = absurd (cc (all.0.entry))
   calls_fit (entry ∷ entries) offset (call ∷ calls) rise all =
       at all.0.index refl (calls_fit entries (offset + 1) calls rise.1)
       (calls_fit entries (offset + 1) (call ∷ calls) rise)
@@ -113,10 +110,7 @@ module _ (number : ℕ) where
   -- an entry of the owner is one
   pub has_one : (entries : List Entry) (i : ℕ) (e : Entry) → slice_get entries i ≡ Some e
       → e.owner ≡ number → 1 ≤ length (entries_by number entries)
-  has_one [] i e h o = absurd (none h)
-    where
-      none : slice_get [] i ≡ Some e → ⊥
-      none k = cc
+  has_one [] i e h o = absurd (cc)
   has_one (entry ∷ entries) zero e h o =
       ⊎_elim (λ t. omega (arith, t.1))
       (λ t. absurd (t.0 (ap (λ (x : Entry). x.owner) (same_Some entry e h) ∙ o)))
@@ -129,10 +123,7 @@ module _ (number : ℕ) where
   pub only_one : (entries : List Entry) → length (entries_by number entries) ≤ 1
       → (i j : ℕ) (e f : Entry) → slice_get entries i ≡ Some e → slice_get entries j ≡ Some f
       → e.owner ≡ number → f.owner ≡ number → i ≡ j
-  only_one [] few i j e f h k o q = absurd (none h)
-    where
-      none : slice_get [] i ≡ Some e → ⊥
-      none l = cc
+  only_one [] few i j e f h k o q = absurd (cc)
   only_one (entry ∷ entries) few zero zero e f h k o q = refl
   only_one (entry ∷ entries) few zero (suc j) e f h k o q =
       ⊎_elim (λ t. (let some = has_one entries j f k q in absurd (omega (arith, t.1, some, few))))
@@ -154,10 +145,7 @@ module _ (number : ℕ) where
       → IsFound calls (offset + i)
   entry_found entries offset [] rise all few i e h o =
       let some = has_one entries i e h o in absurd (omega arith)
-  entry_found [] offset (call ∷ calls) rise all few i e h o = absurd (none h)
-    where
-      none : slice_get [] i ≡ Some e → ⊥
-      none k = cc
+  entry_found [] offset (call ∷ calls) rise all few i e h o = absurd (cc)
   entry_found (entry ∷ entries) offset (call ∷ calls) rise all few i e h o =
       at all.0.index i refl h
       (entry_found entries (offset + 1) calls rise.1)

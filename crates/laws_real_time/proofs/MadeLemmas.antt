@@ -22,14 +22,8 @@ use Rattle.std.proofs.lemmas.Bool.Decides.{leb_tells}
 
 -- what is at a place is an element
 among_get : (xs : List Entry) (j : ℕ) (x : Entry) → slice_get xs j ≡ Some x → Among x xs
-among_get [] j x h = absurd (none h)
-  where
-    none : slice_get [] j ≡ Some x → ⊥
-    none k = cc
-among_get (y ∷ xs) zero x h = inl (one y x h)
-  where
-    one : (a b : Entry) → Some a ≡ Some b → b ≡ a
-    one a b k = cc
+among_get [] j x h = absurd (cc)
+among_get (y ∷ xs) zero x h = inl (cc)
 among_get (y ∷ xs) (suc j) x h = inr (among_get xs j x h)
 
 module _ (m : Map) (entries : List Entry) (moments : Moments)
@@ -216,13 +210,11 @@ module _ (m : Map) (entries : List Entry) (moments : Moments)
       nil_of [] h = refl
       nil_of (x ∷ xs) h = absurd (omega arith)
   since_of begun _ i is (one_since {begun = b} entry e command) =
+      let same : b ≡ begun = cc in
       one entry
       (append_cancel_left (changes_by number (calls_returned number moments))
       (entries_by number (since begun)) (entry ∷ []) (sym (cut begun i) ∙ e))
-      (subst (λ (x : Begun). x.command ≡ Some entry.command) (same b begun is) command)
-    where
-      same : (x y : Begun) → Some x ≡ Some y → x ≡ y
-      same x y h = cc
+      (subst (λ (x : Begun). x.command ≡ Some entry.command) same command)
 
   -- few changes since
   few_since : (begun : Begun) → HasSince begun → length (entries_by number (since begun)) ≤ 1

@@ -1,7 +1,6 @@
 -- When calls begin and return: times, and the numbers of changes then. Serves linearizability.
 use Rattle.std.proofs.Common.{◌≡◌, ◌≢◌, ◌⊎◌, ℕ, ◌<◌, ◌==◌, true, false, List, [], ◌∷◌, length, Option, Some, None, refl, sym, ap, ◌∙◌, subst, inl, inr, ⊎_elim, arith}
 use Rattle.std.proofs.lemmas.Bool.Decides.{eqb_tells}
-use Rattle.ist_core.specs.declared.calls.Call.{Call}
 use Rattle.ist_core.specs.declared.commands.Command.{Command}
 use Rattle.ist_core.specs.Elements.{Among}
 use Rattle.ist_core.proofs.ElementLemmas.{among-append}
@@ -188,10 +187,7 @@ ended_before (moment ∷ moments) x begun h i =
     here (begun_now command mine is time changes long) j =
         let it =
         ends_at (in_call moment.caller moments) (length moments) moment moment.deed x j in
-        absurd (clash x.call (sym is ∙ it.deed_is))
-      where
-        clash : (call : Call) → Begins command ≡ Returns call → ⊥
-        clash call e = cc
+        absurd (cc (sym is ∙ it.deed_is))
     here (begun_before other k) j =
         let it =
         ends_at (in_call moment.caller moments) (length moments) moment moment.deed x j in

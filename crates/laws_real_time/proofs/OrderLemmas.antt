@@ -16,7 +16,7 @@ use Rattle.laws_real_time.proofs.ChangeCountLemmas.{changes_rise}
 use Rattle.laws_real_time.proofs.MomentLemmas.{begun_in, ended_in, ended_before, AreApartInTime, same_call, comes_first, comes_later, ended_apart, ended_in_order}
 use Rattle.laws_real_time.proofs.WeaveLemmas.{weave, IsSpot, owns, reads, woven_at, weave_pairs, owner_at, reading_among}
 use Rattle.laws_real_time.proofs.ReplyLemmas.{LeavesMap, reading_leaves, weave_replied, weave_leads}
-use Rattle.laws_real_time.proofs.OwnerLemmas.{readings, IsByEnded, IsByBegun, OwnsChange, placed_of, same_entry, HasOwners, the_owners, reading_of}
+use Rattle.laws_real_time.proofs.OwnerLemmas.{readings, IsByEnded, IsByBegun, OwnsChange, placed_of, HasOwners, the_owners, reading_of}
 use Rattle.laws_real_time.proofs.CallTimeLemmas.{IsBefore, apart, both_read, read_first, to_past}
 use Rattle.laws_histories.proofs.ItemLemmas.{among_map}
 
@@ -102,7 +102,7 @@ module _ (m : Map) (entries : List Entry) (moments : Moments)
           (λ b. absurd (none b)) o.by
         where
           same : o.entry ≡ entry_by x.caller x.call
-          same = same_entry m entries moments all x.call.position o.entry (entry_by x.caller x.call) o.at made
+          same = cc (o.at)
 
           -- both are the change at one position
           one : (b : IsByEnded m entries moments all x.call.position t) → x ≡ b.call
@@ -116,9 +116,8 @@ module _ (m : Map) (entries : List Entry) (moments : Moments)
 
               owners : x.caller ≡ b.call.caller
               owners =
-                  ap (λ (e : Entry). e.owner)
-                  (same_entry m entries moments all x.call.position (entry_by x.caller x.call)
-                  (entry_by b.call.caller b.call.call) made others)
+                  let same : entry_by x.caller x.call ≡ entry_by b.call.caller b.call.call = cc (made, others) in
+                  ap (λ (e : Entry). e.owner) same
 
               near : AreApartInTime x b.call → x ≡ b.call
               near (same_call e) = e

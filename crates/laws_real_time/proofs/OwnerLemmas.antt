@@ -52,11 +52,6 @@ module _ (m : Map) (entries : List Entry) (moments : Moments)
   pub placed_of : (x : Ended) → Among x (ended moments) → IsInTime m entries x
   placed_of x i = each-among (IsInTime m entries) x (ended moments) all.placed i
 
-  -- equal entries
-  pub same_entry : (position : ℕ) (e f : Entry) → slice_get entries position ≡ Some e
-      → slice_get entries position ≡ Some f → e ≡ f
-  same_entry position e f p q = cc
-
   -- each change has its call
   owner_of : (position : ℕ) (entry : Entry) → slice_get entries position ≡ Some entry
       → (t : TimedCall) × OwnsChange position t × (t.command ≡ entry.command) × (t.reply ≡ entry.reply)
@@ -73,8 +68,7 @@ module _ (m : Map) (entries : List Entry) (moments : Moments)
           let x = o.call in
           let made = (placed_of x o.among).made o.change in
           let same : entry ≡ entry_by x.caller x.call =
-          same_entry position entry (entry_by x.caller x.call) at
-          (subst (λ p. slice_get entries p ≡ Some (entry_by x.caller x.call)) o.position_is made) in
+          cc (subst (λ p. slice_get entries p ≡ Some (entry_by x.caller x.call)) o.position_is made) in
           let command : x.call.command ≡ entry.command = ap (λ (e : Entry). e.command) (sym same) in
           let reply : x.call.reply ≡ entry.reply = ap (λ (e : Entry). e.reply) (sym same) in (
             timed x,

@@ -1,6 +1,6 @@
 -- The changes of a caller come only from its own events, and what is decided of them. Serves the
 -- clauses on Install and Count.
-use Rattle.std.proofs.Common.{List, Option, Some, ap, subst, sym, ℕ, ⊎_elim, ◌∙◌, ◌≡◌, ◌≢◌}
+use Rattle.std.proofs.Common.{List, Some, ap, subst, sym, ℕ, ⊎_elim, ◌∙◌, ◌≡◌, ◌≢◌}
 use Rattle.std.proofs.lemmas.Bool.Decides.{eqb_tells}
 use Rattle.ist_core.specs.declared.events.Event.{Event}
 use Rattle.ist_core.specs.declared.events.Who.TheVariants.{Caller}
@@ -11,7 +11,7 @@ use Rattle.ist_core.specs.Growing.{ChangeGrows}
 use Rattle.ist_core.specs.Installing.{IsUnrefused}
 use Rattle.ist_core.specs.Lawful.{EachEnabled, state_of}
 use Rattle.ist_core.specs.Logs.{Log}
-use Rattle.ist_core.specs.Pieces.{Change, Piece}
+use Rattle.ist_core.specs.Pieces.{Change}
 use Rattle.ist_core.specs.Snapshots.{Snapshot}
 use Rattle.ist_core.specs.StartLayout.{start}
 use Rattle.ist_core.specs.Statuses.{undecided}
@@ -64,11 +64,8 @@ module _ (pairs : List Pair) (words : ℕ) (caller : ℕ) where
         old = it.0;
         published = it.1;
         grew = subst (λ y. ChangeGrows it.0 y)
-            (one ((state_of pairs words log).pieces base) there.0 x there.1 e) there.2;
+            (cc (there.1)) there.2;
       }
-    where
-      one : (o : Option Piece) (a b : ChangeRow) → o ≡ Some (Change a) → o ≡ Some (Change b) → a ≡ b
-      one o a b f k = cc
 
   -- no change of the caller on the node was decided no, if none was so before and none is meanwhile
   pub unrefused_later : {earlier log : Log} → Later (Caller caller) earlier log

@@ -27,11 +27,9 @@ use Rattle.laws_stability.proofs.WordLemmas.{slot_word}
 pub finds : (t u : Snapshot) (event : Event) (a : Touch) → touch_of t event ≡ Some a
     → FindsItsWord t u event
     → IsShown u a.place a.found
-finds t u event a is f = subst (λ x. IsShown u x.place x.found)
-    (one f.touch a (sym f.is ∙ is)) f.found
-  where
-    one : (x y : Touch) → Some x ≡ Some y → x ≡ y
-    one x y e = cc
+finds t u event a is f =
+    let same : f.touch ≡ a = cc (sym f.is ∙ is) in
+    subst (λ x. IsShown u x.place x.found) same f.found
 
 -- if there is a row at the node, the place of its slot depends on the degree
 pub place_of_row : (t : Snapshot) (node i : ℕ) (r : InnerRow) → t.pieces anchor ≡ None

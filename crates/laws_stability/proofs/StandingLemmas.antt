@@ -24,9 +24,6 @@ use Rattle.laws_stability.specs.OpenRows.{StandsAtRow, by_change, by_rebuild, it
 no_change : (row base : ℕ) → InnerAt row ≢ ChangeAt base
 no_change row base e = cc
 
-is_set : (row : ℕ) → InnerAt row ≢ Unset
-is_set row e = cc
-
 -- what a word that reads as the row stands for
 stands_for : (t : Snapshot) (node i word row : ℕ) (ref : Option Ref) → ref_of word ≡ ref
     → SlotNames t.pieces node i ref
@@ -61,7 +58,7 @@ module _ (pairs : List Pair) (words : ℕ) (opens : CanOpen pairs words) where
       named : Mentions (state_of pairs words log) node i (InnerAt row)
       named =
           mentions_stay pairs words opens earlier log g h node i (InnerAt row) (no_change row)
-          (is_set row)
+          (λ e. cc)
           (slot_mentions (state_of pairs words earlier) node i old (InnerAt row) stood was_it)
 
       at : (child : ℕ) → child ≡ row → Linked (state_of pairs words log) child

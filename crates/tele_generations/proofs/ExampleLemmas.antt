@@ -1,5 +1,5 @@
 -- A turn of one lane on a small log. Serves `examples`.
-use Rattle.std.proofs.Common.{◌≡◌, ℕ, zero, suc, true, false, [], ◌∷◌, slice_get, Some, None, refl, subst, sym, inl, inr, arith, All}
+use Rattle.std.proofs.Common.{◌≡◌, zero, suc, false, [], ◌∷◌, slice_get, Some, None, refl, subst, sym, inl, inr, arith, All}
 use Rattle.std.specs.List.Sorted.{IsStrictlyIncreasing}
 use Rattle.std.proofs.lemmas.List.Sorted.{IsPermutation-refl}
 use Rattle.ist_core.specs.declared.calls.Call.{Call}
@@ -39,11 +39,8 @@ call_stands =
         (sym e) refl
     at call (inr i) = absurd i
 
-    clash : true ≡ false → ⊥
-    clash e = cc
-
     plainly : (call : Call) → Among call (the_call ∷ []) → is_change call ≡ false → ⊥
-    plainly call (inl e) plain = clash (subst (λ c. is_change c ≡ false) e plain)
+    plainly call (inl e) plain = cc (subst (λ c. is_change c ≡ false) e plain)
     plainly call (inr i) plain = absurd i
 
 -- the lane ran on the table
@@ -77,9 +74,6 @@ pub put_under_way : IsUnderWay (map_of []) (line_one ∷ line_two ∷ []) (answe
 put_under_way =
     lanes_turn [] 15 put_resolved 1 (line_one ∷ line_two ∷ []) (one_run ∷ []) put_ran
     (answer_one ∷ [])
-    record { same = IsPermutation-refl (answer_one ∷ []); rising = alone 1 }
+    record { same = IsPermutation-refl (answer_one ∷ []); rising = λ k h. absurd (omega arith) }
     (line_two ∷ [])
-    record { same = IsPermutation-refl (line_two ∷ []); rising = alone 2 }
-  where
-    alone : (n : ℕ) → IsStrictlyIncreasing (n ∷ [])
-    alone n k h = absurd (omega arith)
+    record { same = IsPermutation-refl (line_two ∷ []); rising = λ k h. absurd (omega arith) }

@@ -1,15 +1,8 @@
 use Rattle.std.proofs.Common.{◌≡◌, ◌∙◌, ◌∷◌, ◌++◌, [], ℕ, List, map, sym, ap, subst}
 use Rattle.std.proofs.lemmas.Result.{on_ok_weaker}
-use Rattle.ist_core.specs.declared.events.Event.TheVariants.{Reserve}
 use Rattle.ist_core.specs.Snapshots.{sizes_held}
 use Rattle.check_fairness.specs.Knowing.{KeepsSizes}
 use Rattle.check_builds.proofs.reserving.remember_sizes.Goals as goal
-
-same_caller : {a b c x y z : ℕ} → Reserve a b c ≡ Reserve x y z → a ≡ x
-same_caller e = cc
-
-same_size : {a b c x y z : ℕ} → Reserve a b c ≡ Reserve x y z → c ≡ z
-same_size e = cc
 
 pub returns-in_ok-push-in-Reserve-clause-kept : goal.returns-in_ok-push-in-Reserve-clause-kept
 returns-in_ok-push-in-Reserve-clause-kept c =
@@ -22,8 +15,8 @@ returns-in_ok-push-in-Reserve-clause-kept c =
     (c.in_ok-sizes-in-Reserve.ensures.value
     ∙ ap (map (λ x. x.size)) (mirrors.held.callers c.in-Reserve.caller)) in
     subst (λ n. KeepsSizes c.keep_readings.new.building caller (sizes_held t caller ++ n ∷ []))
-    (same_size is)
+    (cc)
     (subst (λ by. KeepsSizes c.keep_readings.new.building by (sizes_held t by
-    ++ c.in-Reserve.size ∷ [])) (same_caller is)
+    ++ c.in-Reserve.size ∷ [])) (cc)
     (subst (KeepsSizes c.keep_readings.new.building c.in-Reserve.caller) sizes (kept lists.kept))))
     c.keep_readings.ensures.kept

@@ -1,5 +1,5 @@
 use Rattle.std.proofs.Common.{◌∙◌, sym, arith}
-use Rattle.check_fairness.proofs.AnswerLemmas.{clash, iff_trans, never}
+use Rattle.check_fairness.proofs.AnswerLemmas.{iff_trans, never}
 use Rattle.check_events.proofs.CountLemmas.{counted_lacks, no_change_counts, count_of_last}
 use Rattle.check_events.proofs.counting.can_count.Goals as goal
 
@@ -32,6 +32,6 @@ returns-in-Some-get c = record {
       iff_trans (c.was_on_chain.ensures.exact first log k w)
       (count_of_last first log c.args.caller c.args.node c.args.past.now.updates u
       c.args.replica.now c.in-Some.last.now c.in-Some-get.row.now h c.in-Some.ensures.value
-      (clash (sym c.contains.ensures) c.if-contains.false) c.in-Some-get.ensures.value
+      (λ y. cc (y, c.contains.ensures, c.if-contains.false)) c.in-Some-get.ensures.value
       (omega (arith, h.callers)));
 }

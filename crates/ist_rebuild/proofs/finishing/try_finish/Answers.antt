@@ -5,7 +5,7 @@ use Rattle.ist_rebuild.specs.Going.{ServesRebuild}
 use Rattle.ist_rebuild.specs.Needs.{wanting}
 use Rattle.ist_rebuild.proofs.RefusalLemmas.{passed_more}
 use Rattle.ist_rebuild.proofs.SiteLemmas.{parent_node, plan_on, plan_went}
-use Rattle.ist_rebuild.proofs.TryLemmas.{none_of, tried_all, tried_few, tried_further, tried_helped, tried_none, tried_ready}
+use Rattle.ist_rebuild.proofs.TryLemmas.{tried_all, tried_few, tried_further, tried_helped, tried_none, tried_ready}
 use Rattle.ist_rebuild.proofs.finishing.try_finish.Goals as goal
 
 -- the parent is a node
@@ -26,10 +26,10 @@ returns-then-not-is_open c =
     record {
       helped = tried_helped c.args.who.now _ c.requires.ready.0 c.is_open.ensures.seen _ e.helped;
       few = tried_none c.args.who.now _ c.requires.ready.0 c.is_open.ensures.seen _ e.helped _ e.none;
-      held = λ is. absurd (cc (none_of _ is));
+      held = λ is. absurd (cc);
       replaced = search rules;
       left = search rules;
-      further = λ is. absurd (cc (none_of _ is));
+      further = λ is. absurd (cc);
       full = tt;
     }
 
@@ -72,11 +72,11 @@ returns c =
     record {
       helped = all.0;
       few = all.1;
-      held = λ is. let again = e.again (none_of _ is) in ap (λ o. wanting o change_words)
+      held = λ is. let again = e.again (cc) in ap (λ o. wanting o change_words)
           (e.held ∙ t.held again.0 again.1 ∙ c.in_ok-change.ensures.prepared.row);
       replaced = search rules;
       left = search rules;
       further = λ is. tried_further c.args.who.now _ c.requires.ready.0 c.is_open.ensures.seen c.prepare.new.who
-          c.prepare.ensures.helped _ _ t.helped e.helped (e.further (none_of _ is));
+          c.prepare.ensures.helped _ _ t.helped e.helped (e.further (cc));
       full = tt;
     }
