@@ -48,6 +48,14 @@ finds 'a statement in one module, and another one in two' 0 '' \
     'module _ (n : ℕ) where\n  pub one : n ≤ n\n  one = refl\n\nmodule _ (n m : ℕ) where\n  pub two : n ≤ n\n  two = refl' '' "$both"
 finds 'a statement in two modules alike' 1 two \
     'module _ (n : ℕ) where\n  pub one : n ≤ n\n  one = refl\n\nmodule _ (k : ℕ) where\n  pub two : k ≤ k\n  two = refl' '' "$both"
+local='\n  where\n    at : (m : ℕ) → m ≤ m\n    at m = le_refl m'
+finds 'a lemma in a where that another file states' 1 at "$one" "pub two : (n : ℕ) → n ≤ n + 2\ntwo n = at n$local" \
+    "$use_low\nuse Rattle.high.proofs.OtherLemmas.{two as second}\ngo = (one, second)"
+finds 'two lemmas alike, each in a where' 1 at "pub one : (n : ℕ) → n ≤ n + 1\none n = at n$local\n\npub two : (n : ℕ) → n ≤ n + 2\ntwo n = at n$local" \
+    '' "$both"
+local='\n  where\n    at : n ≤ n\n    at = le_refl n'
+finds 'two lemmas in a where that name a variable of what they serve' 0 '' \
+    "pub one : (n : ℕ) → n ≤ n + 1\none n = at$local\n\npub two : (n : ℕ) → n ≤ n + 2\ntwo n = at$local" '' "$both"
 finds 'two definitions of one type' 0 '' 'pub one : ℕ → ℕ\none n = n\n\npub two : ℕ → ℕ\ntwo n = 2' '' "$both"
 printf '#[tactic(auto, using(crate::proofs::OneLemmas::one))]\nfn go() {}\n' >"$all/crates/low/src/lib.rt"
 finds 'a lemma that a tactic uses' 0 '' "$one" '' 'go = refl'

@@ -7,6 +7,7 @@ The lemmas are those of the files crates/*/proofs/*Lemmas.antt.
 
 - Two lemmas say the same if their statements, with the modules that they are in, differ only in the names of variables and in whether these
   are in braces. A name that the file itself defines is compared with its definition. What gives data, such as a number or a row, says nothing.
+  So too a lemma in a `where`, if it names no variable of the lemma that it serves.
 - A lemma is needed if the proof of a function names it (any other file of proofs/, `using` in src/), or a lemma that is needed.
 
 Each fault is a line. The last line is 'N passed, M failed', where each lemma is a case, and the status is 0 if none failed.
@@ -22,9 +23,10 @@ from sources import BINDERS, USE, imports_of
 TOKEN = re.compile(r"[^\s(){},;\[\].]+(?:\.[^\s(){},;\[\].]+)*")
 HEAD = re.compile(r"( *)((?:abbrev |unfoldable |pub )*)(?:(record|data|ruleset) )?(?!where\b)([^\s:(){},\[\]]+)(?= [(:={]| where|$)")
 BLOCK = re.compile(r" *(?:module _|mutual)\b")
+LOCAL = re.compile(r"( +)([^\s:(){},\[\]=|]+) : ")
 HANDED_ON = re.compile(r"(?m)^ *pub use (Rattle\.[\w.]+)\.\{([^}]*)\}")
 BY_RUST = re.compile(r"\b(\w+)::proofs::([\w:]+)::([^\s:,)]+)")
-DATA = re.compile(r"(?:(?:List|Option) )?[\w.]+|\((?:List|Option) [\w.]+\)|Type 0|[ℕℤ]")
+DATA = re.compile(r"(?:(?:List|Option) )?[\w.]+|\((?:List|Option) [\w.]+\)|(?:List|Option) \([^()]*\)|Type 0|[ℕℤ]")
 
 
 @dataclass(eq=False)
@@ -66,6 +68,31 @@ class File:
 
 def depth(line):
     return len(line) - len(line.lstrip())
+
+
+def left(line):
+    """Returns what stands before the `=` of a lemma's equation."""
+    level = 0
+    for at, it in enumerate(line):
+        level += (it in "({") - (it in ")}")
+        if level == 0 and line[at : at + 2].strip() == "=" and line[at - 1 : at] == " ":
+            return "" if "let" in line[:at].split() else line[:at]
+    return ""
+
+
+def locals_of(item):
+    """Finds the lemmas in an item's `where` that name no variable of what is around them."""
+    outer = variables_of(f"{item.around} {item.text()}") | {*TOKEN.findall(" ".join(left(it) for it in item.lines))}
+    for at, line in enumerate(item.lines):
+        head = LOCAL.match(line)
+        if not head or not any(it.strip() == "where" for it in item.lines[:at]):
+            continue
+        end = next((i for i, it in enumerate(item.lines[at + 1 :], at + 1) if depth(it) <= len(head[1])), len(item.lines))
+        lines = [it.removeprefix(head[1]) for it in item.lines[at:end]]
+        found = Lemma(item.file, head[2], "", item.at + at, "", lines, line)
+        free = {it.partition(".")[0] for it in TOKEN.findall(found.statement())} - variables_of(found.statement())
+        if not (free & outer) - {*item.file.own} - {*item.file.imports}:
+            yield found
 
 
 def items_of(file):
@@ -142,6 +169,7 @@ class Lemmas:
             self.files[module_of(path.relative_to(top))] = File(path.relative_to(top), path.read_text())
         self.sources = sorted(top.glob("crates/*/src/**/*.rt"))
         self.all = [it for file in self.files.values() if is_of_lemmas(file) for it in file.items]
+        self.locals = [it for item in self.all for it in locals_of(item)]
 
     def named(self, module, name):
         """Returns the item that a module has under a name, also one that it hands on."""
@@ -183,7 +211,7 @@ class Lemmas:
     def same(self):
         """Returns the lemmas whose statement another one has before them, each with the other."""
         first, found = {}, {}
-        for it in self.all:
+        for it in [*self.all, *self.locals]:
             if it.statement():
                 other = first.setdefault(key(it), it)
                 if other is not it:
@@ -210,7 +238,7 @@ def main():
         if it in unneeded:
             print(f"{it} isn't needed")
     failed = len(unneeded | {*same})
-    print(f"{len(found.all) - failed} passed, {failed} failed")
+    print(f"{len(found.all) + len(found.locals) - failed} passed, {failed} failed")
     return 1 if failed else 0
 
 
