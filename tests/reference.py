@@ -15,7 +15,7 @@ from pathlib import Path
 
 from cases import TOP, check, end, holds
 
-DEFINED = re.compile(r"(?m)^(?: *(?:abbrev pub|unfoldable pub|pub record|pub data)|pub(?! (?:mod|use|record|data))) ([A-Za-z_][\w-]*)")
+DEFINED = re.compile(r"(?m)^(?: *(?:abbrev pub|unfoldable pub|pub record|pub data)|pub(?! (?:mod|use|record|data))) (?!use )([A-Za-z_][\w-]*)")
 
 
 def texts_of(section):

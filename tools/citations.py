@@ -29,7 +29,7 @@ CITING = ("clause", "law", "decision", "stays enabled", "comes", "made by")
 # some names in a file, which may be named without its folders and its ending
 LEMMA = re.compile(r"((?:`[^`\s]+`(?:, | and )?)+) in `(?:[^`]*/)?(\w+)(?:\.(antt|rt))?`")
 # what a file of definitions defines, and what a file of lemmas defines with a capital
-DEFINED = re.compile(r"(?m)^(?:abbrev pub|unfoldable pub|pub record|pub data|pub(?! (?:mod|use|record|data))) ([A-Za-z_][\w-]*)")
+DEFINED = re.compile(r"(?m)^(?:abbrev pub|unfoldable pub|pub record|pub data|pub(?! (?:mod|use|record|data))) (?!use )([A-Za-z_][\w-]*)")
 RECORD = re.compile(r"(?m)^ *(?:abbrev pub|abbrev|pub record|record|pub data|data) ([A-Z][\w-]*)")
 EDITS = re.compile(r"`(\w+)`, edits? ((?:`\w+`(?:, | and )?)+)")
 CLAUSE = re.compile(r"^\s*(?:ensures|requires) (\w+) \{")

@@ -8,7 +8,7 @@ from dataclasses import dataclass, field
 from pathlib import Path
 
 WORD = re.compile(r"[A-Za-z_][\w']*(?:-\w+)*(?:\.[A-Za-z_][\w']*(?:-\w+)*)*")
-HEAD = re.compile(r"( *)(?:(?:abbrev|unfoldable) pub|pub (?:record|data)|pub(?! (?:mod|use|record|data))) ([A-Za-z_][\w-]*)")
+HEAD = re.compile(r"( *)(?:(?:abbrev|unfoldable) pub|pub (?:record|data)|pub(?! (?:mod|use|record|data))) (?!use )([A-Za-z_][\w-]*)")
 USE = re.compile(r"( *)(?:ghost )?use (Rattle\.[\w.]+|(?:mathlib|lib|Prim)[\w.]*)(?: as (\w+)|\.\{([^}]*)\});?", re.S)
 RUST_USE = re.compile(r"(?m)^(?:pub )?use ([^;{]*)(?:\{([^;]*)\})?;")
 ITEM = re.compile(

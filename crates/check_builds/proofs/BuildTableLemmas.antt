@@ -1,22 +1,82 @@
 -- What the table of builds says after a build and after a loss. Serves `remembering.rt`.
-use Rattle.std.proofs.Common.{◌≡◌, ◌≢◌, ◌↔◌, ◌∙◌, ◌+◌, ◌≤◌, ◌⊎◌, ℕ, Bool, true, false, eqb, cond, List, ◌∷◌, Option, Some, None, true≢false, refl, sym, ap, subst, inl, inr, ⊎_elim, arith}
-use Rattle.std.proofs.lemmas.Bool.Decides.{eqb_tells}
+use Rattle.std.proofs.Common.{◌≡◌, ◌∙◌, ℕ, List, [], ◌∷◌, Bool, true, false, cond, Option, Some, refl, sym, ap, true≢false, ◌≢◌, ◌↔◌, ◌+◌, ◌≤◌, ◌⊎◌, eqb, None, subst, inl, inr, ⊎_elim, arith}
+use Rattle.std.proofs.lemmas.Map.Lookups.{exact_bytes}
+use Rattle.std.proofs.lemmas.Map.Text.{is_eq-slice_cmp}
+use Rattle.std.proofs.lemmas.Slice.Eq.{bytes_eq-Decides}
+use Rattle.std.specs.BTreeMap.{is_at, insert_entry, BTreeMap}
 use Rattle.std.specs.Cmp.Lexicographic.{slice_cmp}
+use Rattle.std.specs.Map.{lookup}
+use Rattle.std.specs.Ordering.{nat_cmp, is_eq, match_ordering}
+use Rattle.std.specs.declared.cmp.Ordering.{Ordering}
+use Rattle.std.specs.declared.cmp.Ordering.TheVariants.{Less, Equal, Greater}
+use Rattle.std.proofs.lemmas.Bool.Decides.{eqb_tells}
 use Rattle.std.specs.Global.{Vec}
-use Rattle.std.specs.Ordering.{nat_cmp}
-use Rattle.std.specs.BTreeMap as tree
-use Rattle.std.specs.BTreeMap.{BTreeMap}
 use Rattle.ist_core.specs.declared.lists.Row.{Row}
 use Rattle.ist_core.specs.declared.events.Event.{Event}
 use Rattle.ist_core.specs.declared.events.Event.TheVariants.{Enter, Reserve, Install, Okay, Decide, Resolve, Count, Mark, Pass, Finish, Root, Draw, Place, Lose}
-use Rattle.ist_core.specs.Snapshots.{sizes_of}
-use Rattle.ist_core.specs.Logs.{Log}
-use Rattle.ist_core.specs.Building.{IsBeaten}
+use Rattle.ist_core.specs.declared.pairs.Pair.{Pair}
+use Rattle.ist_core.specs.LogTerms.{sizes_of, Log, Lawful, state_of}
+use Rattle.ist_core.specs.TreeTerms.{IsBeaten, PlacedLeaf}
 use Rattle.check_events.specs.declared.pasts.BuildTable.{BuildTable}
-use Rattle.check_events.specs.Remembering.{CameAfter, KnowsBuilds, last_with, seen_builds}
+use Rattle.check_events.specs.Remembering.{CameAfter, KnowsBuilds, last_with, seen_builds, KnowsLeaves}
 use Rattle.check_fairness.proofs.AnswerLemmas.{iff_trans}
-use Rattle.check_builds.proofs.SizesFoundLemmas.{are_sizes, sizes_are, sizes_same}
 use Rattle.check_builds.proofs.TableLemmas.{updated_here, updated_other}
+use Rattle.ist_core.specs.WordTerms.{start}
+use Rattle.ist_core.proofs.AllLogLemmas.{leaves_kept, finished_grows}
+use Rattle.ist_core.proofs.AllEventLemmas.{grow_step, sound, sound_start}
+use Rattle.std.specs.BTreeMap as tree
+
+-- ---- what is found by sizes in a map once one is put in. Serves the table of builds.
+
+-- the two are the same sizes
+abbrev pub are_sizes : List ℕ → List ℕ → Bool
+are_sizes xs ys = is_eq (slice_cmp nat_cmp xs ys)
+
+-- lists of sizes that the test takes for the same are the same
+pub sizes_same : (xs ys : List ℕ) → are_sizes xs ys ≡ true → xs ≡ ys
+sizes_same xs ys e = (bytes_eq-Decides xs ys).0 (sym (is_eq-slice_cmp xs ys) ∙ e)
+
+-- the test takes the same lists of sizes for the same
+pub sizes_are : (xs ys : List ℕ) → xs ≡ ys → are_sizes xs ys ≡ true
+sizes_are xs ys e = is_eq-slice_cmp xs ys ∙ (bytes_eq-Decides xs ys).1 e
+
+module _ {X : Type 0} (one other : X) (rest : X) where
+  cond_twice : (b : Bool) → cond b one rest ≡ cond b one (cond b other rest)
+  cond_twice true = refl
+  cond_twice false = refl
+
+  cond_swap : (a b : Bool) → ¬ ((a ≡ true) × (b ≡ true))
+      → cond a other (cond b one rest) ≡ cond b one (cond a other rest)
+  cond_swap true true n = absurd (n (refl, refl))
+  cond_swap true false n = refl
+  cond_swap false b n = refl
+
+module _ {K X : Type 0} (items : K → List ℕ) (xs : List ℕ) where
+  -- the value that a look-up by these sizes finds among the entries
+  abbrev pub there : List (K × X) → Option X
+  there es = lookup (is_at (λ v. slice_cmp nat_cmp xs (items v))) es
+
+  -- the new value is found by the sizes at which it was put in, and others find what they found
+  pub found_after : (es : List (K × X)) (k : K) (v : X)
+      → there (insert_entry (λ x y. slice_cmp nat_cmp (items x) (items y)) es k v)
+      ≡ cond (are_sizes xs (items k)) (Some v) (there es)
+  found_after [] k v = refl
+  found_after (e ∷ es) k v = at (slice_cmp nat_cmp (items k) (items e.0)) refl (found_after es k v)
+    where
+      at : (o : Ordering) → slice_cmp nat_cmp (items k) (items e.0) ≡ o
+          → there (insert_entry (λ x y. slice_cmp nat_cmp (items x) (items y)) es k v)
+          ≡ cond (are_sizes xs (items k)) (Some v) (there es)
+          → there (match_ordering o ((k, v) ∷ e ∷ es) ((e.0, v) ∷ es)
+          (e ∷ insert_entry (λ x y. slice_cmp nat_cmp (items x) (items y)) es k v))
+          ≡ cond (are_sizes xs (items k)) (Some v) (there (e ∷ es))
+      at Less p again = refl
+      at Equal p again = let same = exact_bytes (items k) (items e.0) p in
+          cond_twice (Some v) (Some e.1) (there es) (are_sizes xs (items e.0))
+          ∙ ap (λ ys. cond (are_sizes xs ys) (Some v) (there (e ∷ es))) (sym same)
+      at Greater p again = ap (λ z. cond (are_sizes xs (items e.0)) (Some e.1) z) again
+          ∙ cond_swap (Some v) (Some e.1) (there es) (are_sizes xs (items e.0))
+          (are_sizes xs (items k)) (λ both. true≢false (sym (sizes_are (items k) (items e.0)
+          (sym (sizes_same xs (items k) both.1) ∙ sizes_same xs (items e.0) both.0)) ∙ ap is_eq p))
 
 -- a count doesn't come after one that is at least as large
 not_after : (found : Option ℕ) (seen : ℕ) → ((at : ℕ) → found ≡ Some at → at ≤ seen)
@@ -42,10 +102,7 @@ module _ (old : BuildTable) (log : Log) (caller count : ℕ) (since : BTreeMap �
           → seen_builds (tree.get nat_cmp since c) ≤ count
       at (inl k) =
           let here = ap (λ x. seen_builds (tree.get nat_cmp since x)) k.1 ∙ seen_here in omega arith
-      at (inr k) =
-          let same = seen_other c k.1 in
-          let before = known.seen c in
-          omega arith
+      at (inr k) = let same = seen_other c k.1 in let before = known.seen c in omega arith
 
   -- after a build
   module _ (rebuild word : ℕ) (rows : List Row) (last : BTreeMap (Vec ℕ) ℕ)
@@ -108,12 +165,11 @@ module _ (old : BuildTable) (log : Log) (caller count : ℕ) (since : BTreeMap �
 
     -- the table is right after the loss
     pub loss_known : KnowsBuilds left (Lose caller bases ∷ log)
-    loss_known =
-        record {
-          beaten = λ c xs. beaten c xs (eqb_tells c caller);
-          came = known.came;
-          seen = λ c. let most_seen = seen_most c in omega arith;
-        }
+    loss_known = record {
+      beaten = λ c xs. beaten c xs (eqb_tells c caller);
+      came = known.came;
+      seen = λ c. let most_seen = seen_most c in omega arith;
+    }
       where
         beaten : (c : ℕ) (xs : List ℕ) → ◌⊎◌ ((eqb c caller ≡ true) × (c ≡ caller))
             ((eqb c caller ≡ false) × (c ≢ caller))
@@ -135,12 +191,11 @@ module _ (old : BuildTable) (log : Log) (caller count : ℕ) (since : BTreeMap �
 -- the same is known after another log by which the same callers are beaten
 pub as_well : (builds : BuildTable) (log other : Log) → KnowsBuilds builds log
     → ((c : ℕ) (xs : List ℕ) → IsBeaten c xs log ↔ IsBeaten c xs other) → KnowsBuilds builds other
-as_well builds log other k same =
-    record {
-      beaten = λ c xs. iff_trans (k.beaten c xs) (same c xs);
-      came = k.came;
-      seen = k.seen;
-    }
+as_well builds log other k same = record {
+  beaten = λ c xs. iff_trans (k.beaten c xs) (same c xs);
+  came = k.came;
+  seen = k.seen;
+}
 
 -- a Place is as a Root
 pub place_known : (builds : BuildTable) (log : Log) (c o i w : ℕ) (r : List Row)
@@ -163,3 +218,21 @@ builds_kept builds log event ro pl lo k = as_well builds _ _ k (kept event ro pl
     kept (Place c o i w r) ro pl lo n xs = absurd (pl c o i w r refl)
     kept (Lose c b) ro pl lo n xs = absurd (lo c b refl)
     kept _ ro pl lo n xs = ((λ b. b), (λ b. b))
+
+-- ---- leaves that are kept are the leaves of a finished row, after each event. Serves `placing.rt`.
+
+-- they still are after one more event
+pub kept_on : (pairs : List Pair) (words : ℕ) (log : Log) (event : Event)
+    → Lawful pairs words (event ∷ log) → (kept : BTreeMap ℕ (Vec PlacedLeaf))
+    → KnowsLeaves kept (state_of pairs words log)
+    → KnowsLeaves kept (state_of pairs words (event ∷ log))
+kept_on pairs words log event law kept known node leaves is = let it = known node leaves is in
+    let g = grow_step (start pairs words) log event law.enabled.1
+    (sound (start pairs words) log (sound_start pairs words) law.enabled.0) in
+    record {
+      keys = it.keys;
+      finished = finished_grows (state_of pairs words log) (state_of pairs words (event ∷ log)) node
+          it.keys g it.finished;
+      reached = leaves_kept pairs words law.opens log event law.enabled node leaves.items
+          (it.keys, it.finished) it.reached;
+    }

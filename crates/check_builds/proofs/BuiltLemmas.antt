@@ -4,12 +4,10 @@ use Rattle.std.proofs.Common.{◌≡◌, ◌∙◌, ◌≤◌, ◌+◌, ℕ, zer
 use Rattle.std.proofs.lemmas.List.{nil_from_length}
 use Rattle.ist_core.specs.declared.lists.Row.{Row}
 use Rattle.ist_core.specs.declared.states.InnerRow.{InnerRow}
-use Rattle.ist_core.specs.References.{Ref, Empty, LeafAt, InnerAt, ref_of}
-use Rattle.ist_core.specs.Parts.{parts}
-use Rattle.ist_core.specs.Pieces.{Inner, inner_of}
-use Rattle.ist_core.specs.Leaves.{PlacedLeaf}
-use Rattle.ist_core.proofs.OptionLemmas.{same_value}
-use Rattle.check_fairness.proofs.AfterLemmas.{following, split_first}
+use Rattle.ist_core.specs.WordTerms.{Ref, Empty, LeafAt, InnerAt, ref_of, parts, Inner, inner_of}
+use Rattle.ist_core.specs.TreeTerms.{PlacedLeaf}
+use Rattle.ist_core.proofs.AllWordLemmas.{same_value}
+use Rattle.check_fairness.proofs.AnswerLemmas.{following, split_first}
 use Rattle.check_builds.specs.Built.{IsTopRow, BuildsRef, builds_none, builds_one, builds_more, BuildsAll, BuildsAt, CountsRows, HasTopSlots}
 
 -- ---- what a subtree is by the number of its leaves
@@ -31,8 +29,7 @@ one_inverted : (ref : Ref) (leaves : List PlacedLeaf) (above : ℕ) (rows : List
     (leaf : PlacedLeaf)
     → BuildsRef ref leaves above rows → leaves ≡ leaf ∷ [] → (ref ≡ LeafAt leaf.base) × (rows ≡ [])
 one_inverted _ _ _ _ leaf builds_none e = absurd (cc)
-one_inverted _ _ _ _ leaf (builds_one {leaf = other} same) e =
-    let first : other ≡ leaf = cc in
+one_inverted _ _ _ _ leaf (builds_one {leaf = other} same) e = let first : other ≡ leaf = cc in
     (ap LeafAt (sym same ∙ ap (λ x. x.base) first), refl)
 one_inverted _ leaves _ _ leaf (builds_more r top below) e = let two = top.two in let one = ap
     length e in absurd (omega arith)
@@ -51,17 +48,15 @@ many_inverted : (ref : Ref) (leaves : List PlacedLeaf) (above : ℕ) (rows : Lis
     → BuildsRef ref leaves above rows → 2 ≤ length leaves → IsMany ref leaves above rows
 many_inverted _ _ _ _ builds_none two = absurd (omega arith)
 many_inverted _ _ _ _ (builds_one same) two = absurd (omega arith)
-many_inverted _ _ _ _ (builds_more {row = row} {rows = rows} r top below) two =
-    record {
-      row = row;
-      rest = rows;
-      top = r;
-      ref_is = refl;
-      rows_are = refl;
-      is_top = top;
-      below =
-          below;
-    }
+many_inverted _ _ _ _ (builds_more {row = row} {rows = rows} r top below) two = record {
+  row = row;
+  rest = rows;
+  top = r;
+  ref_is = refl;
+  rows_are = refl;
+  is_top = top;
+  below = below;
+}
 
 -- ---- no leaf, or one
 
@@ -148,8 +143,7 @@ module _ (word : ℕ) (leaves : List PlacedLeaf) (above : ℕ) (rows : List Row)
 
       -- if the parts aren't built, there is no subtree
       pub counts_no_parts : CountsRows (λ rs. BuildsAll slots (parts leaves) base rs) (following rows)
-          None
-          → CountsRows BuildsHere rows None
+          None → CountsRows BuildsHere rows None
       counts_no_parts none used rest is b =
           let it = many_inverted b.ref leaves above used b.builds two in
           let first = first_is used rest is b it in
@@ -170,16 +164,13 @@ module _ (word : ℕ) (leaves : List PlacedLeaf) (above : ℕ) (rows : List Row)
               (sym top.slots_are) (subst (λ n. BuildsAll slots (parts leaves) n
               (take k (following rows))) (sym here) some.0)));
         },
-        λ used rest is b.
-            let it = many_inverted b.ref leaves above used b.builds two in
+        λ used rest is b. let it = many_inverted b.ref leaves above used b.builds two in
             let first = first_is used rest is b it in
             let same = some.1 it.rest rest first.2 (below_is it.row it.top it.rest first.0 first.1
             it.is_top it.below) in
-            let one = ap length it.rows_are in
-            omega arith,
+            let one = ap length it.rows_are in omega arith,
       )
         where
           taken : take (k + 1) rows ≡ row ∷ take k (following rows)
-          taken =
-              ap (take (k + 1)) (split_first rows row long at)
+          taken = ap (take (k + 1)) (split_first rows row long at)
               ∙ ap (λ n. take n (row ∷ following rows)) (let e : k + 1 ≡ suc k = omega arith in e)

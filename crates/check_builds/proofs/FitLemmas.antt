@@ -2,17 +2,11 @@
 use Rattle.std.proofs.Common.{◌≡◌, ◌↔◌, ◌∙◌, ◌<◌, ℕ, List, [], ◌∷◌, Option, Some, true, refl, sym, ap, subst, arith}
 use Rattle.ist_core.specs.declared.lists.Row.{Row}
 use Rattle.ist_core.specs.declared.states.RebuildRow.{RebuildRow}
-use Rattle.ist_core.specs.References.{Ref, InnerAt, unset_word}
-use Rattle.ist_core.specs.Statuses.{finished_word}
-use Rattle.ist_core.specs.Elements.{Each}
-use Rattle.ist_core.specs.Pieces.{Pieces, Inner, Rebuild, with_inners}
-use Rattle.ist_core.specs.Snapshots.{Snapshot, bases_of}
-use Rattle.ist_core.specs.Leaves.{PlacedLeaf, HasLeaves}
-use Rattle.ist_core.specs.Rebuilding.{IsStarted, IsFinishedWith}
-use Rattle.ist_core.specs.Building.{IsRoot, root_whole, root_top, CanRoot}
-use Rattle.ist_core.proofs.LeafLemmas.{same_leaves}
-use Rattle.ist_core.proofs.OptionLemmas.{same_rebuild, same_inner}
-use Rattle.ist_core.proofs.UnderLemmas.{each_mapped}
+use Rattle.ist_core.specs.WordTerms.{Ref, InnerAt, unset_word, finished_word, Pieces, Inner, Rebuild, with_inners}
+use Rattle.ist_core.specs.LogTerms.{Each, Snapshot, bases_of}
+use Rattle.ist_core.specs.TreeTerms.{PlacedLeaf, HasLeaves, IsStarted, IsFinishedWith, IsRoot, root_whole, root_top, CanRoot}
+use Rattle.ist_core.proofs.AllPlaceLemmas.{same_leaves, each_mapped}
+use Rattle.ist_core.proofs.AllWordLemmas.{same_rebuild, same_inner}
 use Rattle.check_builds.specs.HeldRows.{HeldAreFree}
 use Rattle.check_builds.specs.Reading.{Gathers}
 use Rattle.check_builds.specs.Publishing.{MayPublish, HasRootOf}
@@ -27,8 +21,7 @@ module _ (qs : Pieces) (word k : ℕ) (leaves : List PlacedLeaf) (target : ℕ) 
   root_by_rows (root_whole ref few e ideal) = whole few record {
     ref = ref;
     names = e;
-    builds =
-        ideal_builds qs ref leaves target (bases_of rows) ideal rows refl stand;
+    builds = ideal_builds qs ref leaves target (bases_of rows) ideal rows refl stand;
   }
   root_by_rows (root_top base row many e top unset one) = alone rows one stand
     where
@@ -36,27 +29,25 @@ module _ (qs : Pieces) (word k : ℕ) (leaves : List PlacedLeaf) (target : ℕ) 
           leaves target rs
       alone [] one stands = absurd (cc)
       alone (x ∷ y ∷ rs) one stands = absurd (cc)
-      alone (x ∷ []) one stands =
-          let here : x.base ≡ base = cc in
-          top_alone many record {
-            row = x;
-            rows_are = refl;
-            names = e ∙ ap (λ b. Some (InnerAt b)) (sym here);
-            top = record {
-              top = row;
-              is_top = record {
-                read = sym stands.0 ∙ subst (λ b. qs b ≡ Some (Inner row)) (sym here) top.published;
-                two = top.two;
-                higher = subst (λ b. target < b) (sym here) top.higher;
-                status = top.status;
-                count = top.count;
-                degree = top.degree;
-                size = top.size;
-                keys = top.keys;
-              };
-              slots_are = unset;
-            };
-          }
+      alone (x ∷ []) one stands = let here : x.base ≡ base = cc in top_alone many record {
+        row = x;
+        rows_are = refl;
+        names = e ∙ ap (λ b. Some (InnerAt b)) (sym here);
+        top = record {
+          top = row;
+          is_top = record {
+            read = sym stands.0 ∙ subst (λ b. qs b ≡ Some (Inner row)) (sym here) top.published;
+            two = top.two;
+            higher = subst (λ b. target < b) (sym here) top.higher;
+            status = top.status;
+            count = top.count;
+            degree = top.degree;
+            size = top.size;
+            keys = top.keys;
+          };
+          slots_are = unset;
+        };
+      }
 
   root_by_bases : Each (LeafStands qs) leaves → IsRootOf word k leaves target rows
       → IsRoot qs word k leaves target (bases_of rows)
@@ -64,8 +55,7 @@ module _ (qs : Pieces) (word k : ℕ) (leaves : List PlacedLeaf) (target : ℕ) 
       target rows b.builds stand there)
   root_by_bases there (top_alone many t) =
       let stands = subst (λ rs. Each (StandsAsSaid qs) rs) t.rows_are stand in
-      let top = t.top.is_top in
-      root_top t.row.base t.top.top many t.names
+      let top = t.top.is_top in root_top t.row.base t.top.top many t.names
       record {
         published = stands.0 ∙ top.read;
         two = top.two;
@@ -113,16 +103,14 @@ module _ (t : Snapshot) (caller : ℕ) (rows : List Row) (publish : MayPublish t
       once = publish.once;
       held = publish.held;
     }),
-    (λ c.
-        let same = same_rebuild (t.pieces rebuild) c.row row c.published published in
+    (λ c. let same = same_rebuild (t.pieces rebuild) c.row row c.published published in
         let target : c.row.target ≡ row.target = ap (λ r. r.target) same in
         let inner = same_inner (t.pieces row.target) (subst (λ n. IsFinishedWith t n c.k) target
         c.finished).row finished.row (subst (λ n. IsFinishedWith t n c.k) target
         c.finished).published finished.published in
         let words : finished_word c.k ≡ finished_word k = sym (subst (λ n. IsFinishedWith t n c.k)
         target c.finished).status ∙ ap (λ r. r.status) inner ∙ finished.status in
-        let keys : c.k ≡ k = omega arith in
-        record {
+        let keys : c.k ≡ k = omega arith in record {
           leaves = c.leaves;
           reached = subst (λ n. HasLeaves t.pieces (Some (InnerAt n)) c.leaves) target c.reached;
           root = subst (λ m. IsRootOf word m c.leaves row.target rows) keys
@@ -163,8 +151,7 @@ module _ (t : Snapshot) (word k target : ℕ) (rows : List Row) where
     (λ r. record {
       leaves = g.0;
       reached = g.2;
-      root = subst (λ ls. IsRootOf word k ls target rows)
-          g.1 r;
+      root = subst (λ ls. IsRootOf word k ls target rows) g.1 r;
     }),
     (λ h. subst (λ ls. IsRootOf word k ls target rows) (same_leaves t.pieces (Some (InnerAt target))
         h.leaves g.0 h.reached g.2 ∙ sym g.1) h.root),

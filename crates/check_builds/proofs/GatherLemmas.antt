@@ -5,22 +5,19 @@ use Rattle.std.specs.Ordering.{nat_cmp}
 use Rattle.std.specs.BTreeMap as tree
 use Rattle.ist_core.specs.declared.states.LeafRow.{LeafRow}
 use Rattle.ist_core.specs.declared.states.InnerRow.{InnerRow}
-use Rattle.ist_core.specs.References.{Ref, Empty, LeafAt, InnerAt}
-use Rattle.ist_core.specs.Pieces.{Pieces, Piece, Leaf, Inner, Change, Rebuild, as_leaf}
-use Rattle.ist_core.specs.Snapshots.{Snapshot}
-use Rattle.ist_core.specs.Slots.{logical}
-use Rattle.ist_core.specs.Leaves.{PlacedLeaf, HasLeaves, SlotsHaveLeaves, none_here, leaf_here, row_here, no_slot, one_slot}
-use Rattle.ist_core.proofs.LeafLemmas.{reached, slots_reached, same_leaves}
+use Rattle.ist_core.specs.WordTerms.{Ref, Empty, LeafAt, InnerAt, Pieces, Piece, Leaf, Inner, Change, Rebuild, as_leaf, logical}
+use Rattle.ist_core.specs.LogTerms.{Snapshot}
+use Rattle.ist_core.specs.TreeTerms.{PlacedLeaf, HasLeaves, SlotsHaveLeaves, none_here, leaf_here, row_here, no_slot, one_slot}
+use Rattle.ist_core.proofs.AllPlaceLemmas.{reached, slots_reached, same_leaves}
 use Rattle.check_events.specs.declared.replicas.Replica.{Replica}
 use Rattle.check_events.specs.Mirroring.{Mirrors}
-use Rattle.check_fairness.proofs.AfterLemmas.{following}
+use Rattle.check_fairness.proofs.AnswerLemmas.{following}
 use Rattle.check_builds.specs.Reading.{Gathers, LeavesLeft, GathersOn, PutsSlots}
 
 -- words are the first and those after it
 pub first_word : (xs : List ℕ) → 1 ≤ length xs → xs ≡ get_or xs 0 0 ∷ following xs
 first_word [] h = absurd (omega arith)
-first_word (x ∷ xs) h =
-    let l : length (x ∷ xs) - 1 ≡ length xs = omega arith in
+first_word (x ∷ xs) h = let l : length (x ∷ xs) - 1 ≡ length xs = omega arith in
     ap (λ ys. x ∷ ys) (sym (ap (λ k. take k xs) l ∙ take_all (length xs) xs (omega arith)))
 
 as_leaf-some : (o : Option Piece) (r : LeafRow) → as_leaf o ≡ Some r → o ≡ Some (Leaf r)
@@ -54,21 +51,18 @@ module _ (ps : Pieces) where
   first_found : (word : ℕ) (words : List ℕ) (here : List PlacedLeaf)
       → HasLeaves ps (logical ps word) here
       → LeavesLeft ps (SlotsHaveLeaves ps (word ∷ words)) here words
-  first_found word words here has =
-      record {
-        all = λ rest h. one_slot has h;
-        no_other = λ leaves h.
-            let it = slots_reached ps (word ∷ words) leaves h in
-            let same = same_leaves ps (logical ps word) it.0 here it.2 has in
-            (it.1, it.4 ∙ ap (λ zs. zs ++ it.1) same, it.3);
-      }
+  first_found word words here has = record {
+    all = λ rest h. one_slot has h;
+    no_other = λ leaves h. let it = slots_reached ps (word ∷ words) leaves h in
+        let same = same_leaves ps (logical ps word) it.0 here it.2 has in
+        (it.1, it.4 ∙ ap (λ zs. zs ++ it.1) same, it.3);
+  }
 
   -- slots of which the first has no list of leaves have none
   pub first_lacks : (word : ℕ) (words : List ℕ)
       → ((ls : List PlacedLeaf) → ¬ (HasLeaves ps (logical ps word) ls))
       → (ls : List PlacedLeaf) → ¬ (SlotsHaveLeaves ps (word ∷ words) ls)
-  first_lacks word words none ls h =
-      let it = slots_reached ps (word ∷ words) ls h in none it.0 it.2
+  first_lacks word words none ls h = let it = slots_reached ps (word ∷ words) ls h in none it.0 it.2
 
   -- what was gathered of the first slot, of which this is the reading
   pub first_gathered : (word : ℕ) (words : List ℕ) (ref : Option Ref) (old new : List PlacedLeaf)
@@ -85,8 +79,7 @@ module _ (ps : Pieces) where
   -- a slot that reads as nothing has no leaf
   pub first_empty : (word : ℕ) (words : List ℕ) (old : List PlacedLeaf)
       → logical ps word ≡ Some Empty → GathersOn ps (word ∷ words) old true words old
-  first_empty word words old read =
-      first_gathered word words (Some Empty) old old true read
+  first_empty word words old read = first_gathered word words (Some Empty) old old true read
       ([], sym (append-nil old), none_here)
 
   -- ---- rows
@@ -94,14 +87,12 @@ module _ (ps : Pieces) where
   -- the leaves of an inner row are the leaves of its slots
   pub row_left : (base : ℕ) (r : InnerRow) → ps base ≡ Some (Inner r)
       → LeavesLeft ps (λ ls. HasLeaves ps (Some (InnerAt base)) ls) [] r.slots
-  row_left base r e =
-      record {
-        all = λ rest h. row_here r e h;
-        no_other = λ leaves has.
-            let it = reached ps (Some (InnerAt base)) leaves has in
-            let same : it.0 ≡ r = cc (it.1) in
-            (leaves, refl, subst (λ x. SlotsHaveLeaves ps x.slots leaves) same it.2);
-      }
+  row_left base r e = record {
+    all = λ rest h. row_here r e h;
+    no_other = λ leaves has. let it = reached ps (Some (InnerAt base)) leaves has in
+        let same : it.0 ≡ r = cc (it.1) in
+        (leaves, refl, subst (λ x. SlotsHaveLeaves ps x.slots leaves) same it.2);
+  }
 
   slots_joined : (xs ys : List ℕ) (here rest : List PlacedLeaf) → SlotsHaveLeaves ps xs here
       → SlotsHaveLeaves ps ys rest → SlotsHaveLeaves ps (xs ++ ys) (here ++ rest)
@@ -114,8 +105,7 @@ module _ (ps : Pieces) where
       → (here rest : List PlacedLeaf) × (ls ≡ here ++ rest) × SlotsHaveLeaves ps xs here
       × SlotsHaveLeaves ps ys rest
   slots_split [] ys ls h = ([], ls, refl, no_slot, h)
-  slots_split (x ∷ xs) ys ls h =
-      let it = slots_reached ps (x ∷ xs ++ ys) ls h in
+  slots_split (x ∷ xs) ys ls h = let it = slots_reached ps (x ∷ xs ++ ys) ls h in
       let more = slots_split xs ys it.1 it.3 in (
         it.0 ++ more.0,
         more.1,
@@ -128,23 +118,20 @@ module _ (ps : Pieces) where
   slots_before : (word base : ℕ) (words : List ℕ) (r : InnerRow) → ps base ≡ Some (Inner r)
       → logical ps word ≡ Some (InnerAt base)
       → LeavesLeft ps (SlotsHaveLeaves ps (word ∷ words)) [] (r.slots ++ words)
-  slots_before word base words r e read =
-      record {
-        all = λ rest h.
-            let it = slots_split r.slots words rest h in
-            let has = subst (λ o. HasLeaves ps o it.0) (sym read) (row_here r e it.3) in
-            subst (λ ls. SlotsHaveLeaves ps (word ∷ words) ls) (sym it.2) (one_slot has it.4);
-        no_other = λ leaves h.
-            let it = slots_reached ps (word ∷ words) leaves h in
-            let has = subst (λ o. HasLeaves ps o it.0) read it.2 in
-            let own = (row_left base r e).no_other it.0 has in
-            let here = subst (λ ls. SlotsHaveLeaves ps r.slots ls) (sym own.1) own.2 in (
-              leaves,
-              refl,
-              subst (λ ls. SlotsHaveLeaves ps (r.slots ++ words) ls) (sym it.4)
-                  (slots_joined r.slots words it.0 it.1 here it.3),
-            );
-      }
+  slots_before word base words r e read = record {
+    all = λ rest h. let it = slots_split r.slots words rest h in
+        let has = subst (λ o. HasLeaves ps o it.0) (sym read) (row_here r e it.3) in
+        subst (λ ls. SlotsHaveLeaves ps (word ∷ words) ls) (sym it.2) (one_slot has it.4);
+    no_other = λ leaves h. let it = slots_reached ps (word ∷ words) leaves h in
+        let has = subst (λ o. HasLeaves ps o it.0) read it.2 in
+        let own = (row_left base r e).no_other it.0 has in
+        let here = subst (λ ls. SlotsHaveLeaves ps r.slots ls) (sym own.1) own.2 in (
+          leaves,
+          refl,
+          subst (λ ls. SlotsHaveLeaves ps (r.slots ++ words) ls) (sym it.4)
+              (slots_joined r.slots words it.0 it.1 here it.3),
+        );
+  }
 
   -- a row is gathered if its slots were appended to those that wait
   pub row_gathered : (word base : ℕ) (waiting new : List ℕ) (out : List PlacedLeaf) (found : Bool)
@@ -159,8 +146,7 @@ module _ (ps : Pieces) where
         subst (λ ws. LeavesLeft ps (SlotsHaveLeaves ps (word ∷ reverse waiting)) [] ws) (sym turned)
             (slots_before word base (reverse waiting) puts.0 puts.1 read),
       )
-  row_gathered word base waiting new out false read none =
-      first_lacks word (reverse waiting)
+  row_gathered word base waiting new out false read none = first_lacks word (reverse waiting)
       (λ ls has. no_row_gathers base none ls (subst (λ o. HasLeaves ps o ls) read has))
 
   -- ---- a search, step by step
@@ -179,9 +165,7 @@ module _ (ps : Pieces) where
     b.1 ∙ ap (λ zs. zs ++ b.0) a.1 ∙ append_assoc old a.0 b.0,
     record {
       all = λ rest h. subst P (sym (append_assoc a.0 b.0 rest)) (a.2.all (b.0 ++ rest) (b.2.all rest h));
-      no_other = λ leaves p.
-          let it = a.2.no_other leaves p in
-          let on = b.2.no_other it.0 it.2 in
+      no_other = λ leaves p. let it = a.2.no_other leaves p in let on = b.2.no_other it.0 it.2 in
           (on.0, it.1 ∙ ap (λ zs. a.0 ++ zs) on.1 ∙ sym (append_assoc a.0 b.0 on.0), on.2);
     },
   )
@@ -223,6 +207,5 @@ next_waits waiting rest word e = ap reverse e ∙ reverse-append rest (word ∷ 
 -- if no word waits, none is next
 pub nothing_waits : (waiting rest : List ℕ) (n : ℕ) → waiting ≡ rest ++ [] → rest ≡ take (n - 1) waiting
     → n ≡ 0 → reverse waiting ≡ []
-nothing_waits waiting rest n is taken none =
-    let zero_first : n - 1 ≡ 0 = omega arith in
+nothing_waits waiting rest n is taken none = let zero_first : n - 1 ≡ 0 = omega arith in
     ap reverse (is ∙ append-nil rest ∙ taken ∙ ap (λ k. take k waiting) zero_first)

@@ -3,14 +3,12 @@ use Rattle.std.proofs.Common.{◌≡◌, ◌↔◌, ◌∙◌, ◌+◌, ◌<◌,
 use Rattle.std.proofs.lemmas.List.{take_more}
 use Rattle.std.specs.Global.{Vec}
 use Rattle.std.specs.Option.{option_map}
-use Rattle.ist_core.specs.RowLayout.{pair_words}
-use Rattle.ist_core.specs.Elements.{Among, Distinct}
-use Rattle.ist_core.specs.Snapshots.{Snapshot, HoldsRow}
-use Rattle.ist_core.specs.Logs.{Log}
-use Rattle.ist_core.specs.Building.{HoldsSizes, IsBeaten, LosesPair, LosesBuild, CanLose}
+use Rattle.ist_core.specs.WordTerms.{pair_words}
+use Rattle.ist_core.specs.LogTerms.{Among, Distinct, Snapshot, HoldsRow, Log}
+use Rattle.ist_core.specs.TreeTerms.{HoldsSizes, IsBeaten, LosesPair, LosesBuild, CanLose}
 use Rattle.check_builds.specs.Losing.{HasRowAbove, IsTooLate}
 use Rattle.check_fairness.specs.Searching.{AreBuilding}
-use Rattle.check_fairness.proofs.AfterLemmas.{following, first_after}
+use Rattle.check_fairness.proofs.AnswerLemmas.{following, first_after}
 
 -- ---- distinct bases
 
@@ -46,20 +44,17 @@ module _ (t : Snapshot) (caller : ℕ) where
       record { first = []; size = size; sizes_are = refl; held = tt; last = h.0 }
   sizes_cut [] base (size ∷ other ∷ sizes) h = absurd h.1
   sizes_cut (b ∷ bases) base [] h = absurd h
-  sizes_cut (b ∷ bases) base (s ∷ sizes) h =
-      let it = sizes_cut bases base sizes h.1 in
-      record {
-        first = s ∷ it.first;
-        size = it.size;
-        sizes_are = ap (λ xs. s ∷ xs) it.sizes_are;
-        held = (h.0, it.held);
-        last = it.last;
-      }
+  sizes_cut (b ∷ bases) base (s ∷ sizes) h = let it = sizes_cut bases base sizes h.1 in record {
+    first = s ∷ it.first;
+    size = it.size;
+    sizes_are = ap (λ xs. s ∷ xs) it.sizes_are;
+    held = (h.0, it.held);
+    last = it.last;
+  }
 
   -- sizes of rows and the size of one more are sizes of all
   pub sizes_joined : (bases sizes : List ℕ) (base size : ℕ) → HoldsSizes t caller bases sizes
-      → HoldsRow t caller base size
-      → HoldsSizes t caller (bases ++ base ∷ []) (sizes ++ size ∷ [])
+      → HoldsRow t caller base size → HoldsSizes t caller (bases ++ base ∷ []) (sizes ++ size ∷ [])
   sizes_joined [] [] base size h last = (last, tt)
   sizes_joined [] (s ∷ sizes) base size h last = absurd h
   sizes_joined (b ∷ bases) [] base size h last = absurd h
@@ -72,8 +67,7 @@ module _ (t : Snapshot) (caller : ℕ) where
   each_has_size [] i sizes n h = absurd (omega arith)
   each_has_size (b ∷ bases) i [] n h = absurd h
   each_has_size (b ∷ bases) zero (s ∷ sizes) n h = (s, h.0)
-  each_has_size (b ∷ bases) (suc i) (s ∷ sizes) n h =
-      each_has_size bases i sizes (omega arith) h.1
+  each_has_size (b ∷ bases) (suc i) (s ∷ sizes) n h = each_has_size bases i sizes (omega arith) h.1
 
   module _ (bases : List ℕ) (i : ℕ) (within : i < length bases) where
     -- if the caller doesn't hold the row at one of the bases, they have no sizes
@@ -88,8 +82,7 @@ module _ (t : Snapshot) (caller : ℕ) where
     -- if the next is held, its size is the last one
     pub one_more : (sizes : List ℕ) (size : ℕ) (found : Option ℕ) → found ≡ Some size
         → ((s : ℕ) → (found ≡ Some s) ↔ HoldsRow t caller (get_or bases i 0) s)
-        → ((xs : List ℕ) → (sizes ≡ xs) ↔ HoldsSizes t caller (take i bases) xs)
-        → (xs : List ℕ)
+        → ((xs : List ℕ) → (sizes ≡ xs) ↔ HoldsSizes t caller (take i bases) xs) → (xs : List ℕ)
         → (sizes ++ size ∷ [] ≡ xs) ↔ HoldsSizes t caller (take (i + 1) bases) xs
     one_more sizes size found is row before xs = (to, back)
       where
@@ -97,8 +90,7 @@ module _ (t : Snapshot) (caller : ℕ) where
         cut = take_more bases i 0 within
 
         to : sizes ++ size ∷ [] ≡ xs → HoldsSizes t caller (take (i + 1) bases) xs
-        to e =
-            subst (HoldsSizes t caller (take (i + 1) bases)) e
+        to e = subst (HoldsSizes t caller (take (i + 1) bases)) e
             (subst (λ bs. HoldsSizes t caller bs (sizes ++ size ∷ [])) (sym cut)
             (sizes_joined (take i bases) sizes (get_or bases i 0) size ((before sizes).0 refl)
             ((row size).0 is)))
@@ -108,8 +100,7 @@ module _ (t : Snapshot) (caller : ℕ) where
             let it = sizes_cut (take i bases) (get_or bases i 0) xs
             (subst (λ bs. HoldsSizes t caller bs xs) cut h) in
             let first : sizes ≡ it.first = (before it.first).1 it.held in
-            let e = (row it.size).1 it.last in
-            let last : size ≡ it.size = cc in
+            let e = (row it.size).1 it.last in let last : size ≡ it.size = cc in
             ap (λ ys. ys ++ size ∷ []) first ∙ ap (λ s. it.first ++ s ∷ []) last
             ∙ sym it.sizes_are
 
@@ -132,8 +123,7 @@ module _ (t : Snapshot) (caller : ℕ) (bases : List ℕ) (one : length bases �
       pair = get_or bases 0 0;
       bases_are = one_base bases one;
       held = held;
-      node =
-          a.node;
+      node = a.node;
       row = a.row;
       published = a.published;
       above = a.above;
@@ -141,8 +131,7 @@ module _ (t : Snapshot) (caller : ℕ) (bases : List ℕ) (one : length bases �
     (λ h. subst (HasRowAbove t) (same_pair h) record {
       node = h.node;
       row = h.row;
-      published =
-          h.published;
+      published = h.published;
       above = h.above;
     }),
   )

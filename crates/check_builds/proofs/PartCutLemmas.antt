@@ -1,14 +1,15 @@
 -- A list cut into parts, one part at a time, and the first keys of the parts. Serves `ideals.rt`.
-use Rattle.std.proofs.Common.{◌≡◌, ◌≢◌, ◌↔◌, ◌∙◌, ◌≤◌, ◌<◌, ◌-◌, ◌+◌, ℕ, zero, suc, min, ⊎_elim, List, [], ◌∷◌, length, take, drop, get_or, slice_get, IsTrue, Bool, refl, sym, ap, arith, length-drop}
-use Rattle.std.proofs.lemmas.List.{take_all, take_min}
+use Rattle.std.proofs.Common.{◌≡◌, ◌≢◌, ◌↔◌, ◌∙◌, ◌≤◌, ◌<◌, ◌-◌, ◌+◌, ℕ, zero, suc, min, ⊎_elim, List, [], ◌∷◌, length, take, drop, get_or, slice_get, IsTrue, Bool, refl, sym, ap, arith, length-drop, ◌++◌, Some, None, subst, append_assoc, length-append}
+use Rattle.std.proofs.lemmas.List.{take_all, take_min, nil_from_length}
 use Rattle.std.proofs.lemmas.Bool.{cases_lt}
 use Rattle.std.proofs.Math.ListN.{drop_of_length-le}
-use Rattle.ist_core.specs.Arithmetic.{part_len}
-use Rattle.ist_core.specs.Parts.{cut, first_keys}
-use Rattle.ist_core.specs.Leaves.{PlacedLeaf}
-use Rattle.check_fairness.proofs.AfterLemmas.{following}
-use Rattle.check_builds.specs.Built.{part_lens_from, key_of_leaf}
+use Rattle.ist_core.specs.WordTerms.{part_len, cut, first_keys, degree, part_lens, parts}
+use Rattle.ist_core.specs.TreeTerms.{PlacedLeaf}
+use Rattle.check_fairness.proofs.AnswerLemmas.{following}
+use Rattle.check_builds.specs.Built.{part_lens_from, key_of_leaf, BuildsAll, builds_end, builds_part, BuildsAt, CountsRows}
 use Rattle.check_builds.proofs.GatherLemmas.{first_word}
+use Rattle.ist_core.specs.declared.lists.Row.{Row}
+use Rattle.check_builds.proofs.BuiltLemmas.{both_taken}
 
 module _ {A : Type 0} where
   -- what is left of a list from a place on
@@ -22,8 +23,7 @@ module _ {A : Type 0} where
 
   -- a list without more elements than it has
   pub drop_min : (n : ℕ) (xs : List A) → drop (min n (length xs)) xs ≡ drop n xs
-  drop_min n xs =
-      ⊎_elim
+  drop_min n xs = ⊎_elim
       (λ (h : n < length xs). ap (λ k. drop k xs) (let e : min n (length xs) ≡ n = omega arith in
       e))
       (λ (h : length xs ≤ n). drop_of_length-le xs (omega arith) ∙ sym (drop_of_length-le xs h))
@@ -34,8 +34,7 @@ module _ {A : Type 0} where
       → cut (part_lens_from n j left) xs ≡ take end xs ∷ cut (part_lens_from n (j + 1) (left - 1))
       (from xs end)
   cut_first n j zero end xs some is = absurd (some refl)
-  cut_first n j (suc left) end xs some is =
-      let one : left ≡ suc left - 1 = omega arith in
+  cut_first n j (suc left) end xs some is = let one : left ≡ suc left - 1 = omega arith in
       let first : take (part_len n j) xs ≡ take end xs = sym (take_min (part_len n j) xs)
       ∙ ap (λ k. take k xs) (sym is) in
       let rest : drop (part_len n j) xs ≡ from xs end = sym (drop_min (part_len n j) xs)
@@ -69,16 +68,14 @@ module _ (n j left end : ℕ) (leaves : List PlacedLeaf) (some : left ≢ 0)
 
   -- an empty part has no first key
   pub keys_skip : end ≡ 0 → first_keys key_of_leaf (cut (part_lens_from n j left) leaves) ≡ rest_keys
-  keys_skip e =
-      ap (first_keys key_of_leaf) (cut_first n j left end leaves some is)
+  keys_skip e = ap (first_keys key_of_leaf) (cut_first n j left end leaves some is)
       ∙ ap (λ k. first_keys key_of_leaf (take k leaves ∷ cut (part_lens_from n (j + 1) (left - 1))
       (from leaves end))) e
 
   -- if there is a leaf, the first key is its key
   pub keys_first : (first : PlacedLeaf) → end ≢ 0 → first ≡ get_or leaves 0 first
       → first_keys key_of_leaf (cut (part_lens_from n j left) leaves) ≡ key_of_leaf first ∷ rest_keys
-  keys_first first ne at =
-      ap (first_keys key_of_leaf) (cut_first n j left end leaves some is)
+  keys_first first ne at = ap (first_keys key_of_leaf) (cut_first n j left end leaves some is)
       ∙ head end leaves ne (omega arith) at (cut (part_lens_from n (j + 1) (left - 1)) (from leaves end))
     where
       head : (k : ℕ) (xs : List PlacedLeaf) → k ≢ 0 → k ≤ length xs → first ≡ get_or xs 0 first
@@ -109,10 +106,129 @@ none_begins (x ∷ xs) k ks h e = omega arith
 
 -- keys with this first one
 pub begins_so : (keys : List ℕ) (k : ℕ) (ks : List ℕ) (b : Bool) → 1 ≤ length keys → get_or keys 0 0
-    ≡ k
-    → (IsTrue b ↔ (following keys ≡ ks)) → IsTrue b ↔ (keys ≡ k ∷ ks)
+    ≡ k → (IsTrue b ↔ (following keys ≡ ks)) → IsTrue b ↔ (keys ≡ k ∷ ks)
 begins_so keys k ks b n e i = (
   (λ y. first_word keys n ∙ ap (λ x. x ∷ following keys) e ∙ ap (λ xs. k ∷ xs) (i.0 y)),
   (λ same. i.1 (let whole : get_or keys 0 0 ∷ following keys ≡ k ∷ ks = sym (first_word keys n)
       ∙ same in cc)),
 )
+
+-- ---- which rows are the rows of the parts of an ideal subtree, one part after another. Serves
+-- `ideals.rt`.
+
+-- parts of some leaves, whole
+pub all_parts : (leaves : List PlacedLeaf)
+    → cut (part_lens_from (length leaves) 0 (degree (length leaves))) leaves ≡ parts leaves
+unfolding part_lens
+all_parts leaves = refl
+
+record IsBuiltPart (word : ℕ) (words : List ℕ) (part : List PlacedLeaf) (others : List (List PlacedLeaf))
+    (above : ℕ) (rows : List Row) : Type 0 where
+  here : List Row
+  rest : List Row
+  rows_are : rows ≡ here ++ rest
+  first : BuildsAt word part above here
+  more : BuildsAll words others above rest
+
+-- what subtrees over parts are, by the first slot and the first part
+abbrev AllInverted : List ℕ → List (List PlacedLeaf) → ℕ → List Row → Type 0
+AllInverted [] [] above rows = rows ≡ []
+AllInverted (word ∷ words) (part ∷ others) above rows = IsBuiltPart word words part others above rows
+AllInverted _ _ above rows = ⊥
+
+all_inverted : (words : List ℕ) (ps : List (List PlacedLeaf)) (above : ℕ) (rows : List Row)
+    → BuildsAll words ps above rows → AllInverted words ps above rows
+all_inverted _ _ _ _ builds_end = refl
+all_inverted _ _ _ _ (builds_part {here = here} {rest = rest} ref e first more) = record {
+  here = here;
+  rest = rest;
+  rows_are = refl;
+  first = record
+      { ref = ref; names = e; builds = first };
+  more = more;
+}
+
+module _ (n j left : ℕ) (slots : List ℕ) (leaves : List PlacedLeaf) (above : ℕ) (rows : List Row)
+  where
+    abbrev AllBuild : List Row → Type 0
+    AllBuild rs = BuildsAll slots (cut (part_lens_from n j left) leaves) above rs
+
+    -- if no slot and no part is left, none of the rows is needed
+    pub parts_end : length slots < 1 → left ≡ 0 → CountsRows AllBuild rows (Some 0)
+    parts_end none e = let no_slot = nil_from_length slots (omega arith) in
+        let no_part = cut_last n j left leaves e in (
+          subst (λ ws. BuildsAll ws (cut (part_lens_from n j left) leaves) above []) (sym no_slot)
+              (subst (λ ps. BuildsAll [] ps above []) (sym no_part) builds_end),
+          λ used rest is b. ap length (all_inverted [] [] above used
+              (subst (λ ws. BuildsAll ws [] above used) no_slot
+              (subst (λ ps. BuildsAll slots ps above used) no_part b))),
+        )
+
+    module _ (end : ℕ) (long : 1 ≤ length slots) (some : left ≢ 0) (end_is : end ≡ min (part_len n j)
+        (length leaves)) where
+      -- the rows are the rows of the parts after the first
+      abbrev pub MoreBuild : List Row → Type 0
+      MoreBuild rs = BuildsAll (following slots) (cut (part_lens_from n (j + 1) (left - 1)) (from leaves end))
+          above rs
+
+      inverted : (used : List Row) → AllBuild used
+          → IsBuiltPart (get_or slots 0 0) (following slots) (take end leaves)
+          (cut (part_lens_from n (j + 1) (left - 1)) (from leaves end)) above used
+      inverted used b = all_inverted (get_or slots 0 0 ∷ following slots)
+          (take end leaves ∷ cut (part_lens_from n (j + 1) (left - 1)) (from leaves end)) above used
+          (subst (λ ws. BuildsAll ws (take end leaves ∷ cut (part_lens_from n (j + 1) (left - 1))
+          (from leaves end)) above used) (first_word slots long)
+          (subst (λ ps. BuildsAll slots ps above used) (cut_first n j left end leaves some end_is) b))
+
+      -- if the first part isn't built, the parts aren't
+      pub parts_no_first : CountsRows (λ rs. BuildsAt (get_or slots 0 0) (take end leaves) above rs)
+          rows None → CountsRows AllBuild rows None
+      parts_no_first none used rest is b = let it = inverted used b in
+          none it.here (it.rest ++ rest) (is ∙ ap (λ xs. xs ++ rest) it.rows_are ∙ append_assoc
+          it.here it.rest rest) it.first
+
+      module _ (k : ℕ) (within : k ≤ length rows)
+          (first : CountsRows (λ rs. BuildsAt (get_or slots 0 0) (take end leaves) above rs) rows
+          (Some k)) where
+        -- the rows after the rows of the first part
+        split : (used rest : List Row) → rows ≡ used ++ rest
+            → (it : IsBuiltPart (get_or slots 0 0) (following slots) (take end leaves)
+            (cut (part_lens_from n (j + 1) (left - 1)) (from leaves end)) above used)
+            → (length it.here ≡ k) × (from rows k ≡ it.rest ++ rest)
+        split used rest is it =
+            let whole : rows ≡ it.here ++ (it.rest ++ rest) = is ∙ ap (λ xs. xs ++ rest) it.rows_are
+            ∙ append_assoc it.here it.rest rest in
+            let same = first.1 it.here (it.rest ++ rest) whole it.first in
+            (same, from-drop rows k ∙ ap (drop k) whole ∙ dropped it.here (it.rest ++ rest) k same)
+          where
+            dropped : (xs ys : List Row) (m : ℕ) → length xs ≡ m → drop m (xs ++ ys) ≡ ys
+            dropped [] ys zero e = refl
+            dropped [] ys (suc m) e = absurd (omega arith)
+            dropped (x ∷ xs) ys zero e = absurd (omega arith)
+            dropped (x ∷ xs) ys (suc m) e = dropped xs ys m (omega arith)
+
+        -- if the parts after the first aren't built, the parts aren't
+        pub parts_no_more : CountsRows MoreBuild (from rows k) None → CountsRows AllBuild rows None
+        parts_no_more none used rest is b = let it = inverted used b in
+            none it.rest rest (split used rest is it).1 it.more
+
+        -- the parts use the rows of the first part and those of the others
+        pub parts_more : (m : ℕ) → CountsRows MoreBuild (from rows k) (Some m) → CountsRows AllBuild
+            rows (Some (k + m))
+        parts_more m some_more = (
+          subst (λ rs. AllBuild rs) (sym (taken rows k m within))
+              (subst (λ ws. BuildsAll ws (cut (part_lens_from n j left) leaves) above
+              (take k rows ++ take m (from rows k))) (sym (first_word slots long))
+              (subst (λ ps. BuildsAll (get_or slots 0 0 ∷ following slots) ps above
+              (take k rows ++ take m (from rows k)))
+              (sym (cut_first n j left end leaves some end_is))
+              (builds_part first.0.ref first.0.names first.0.builds some_more.0))),
+          λ used rest is b. let it = inverted used b in let parts = split used rest is it in
+              let more = some_more.1 it.rest rest parts.1 it.more in let same = parts.0 in
+              let both = ap length it.rows_are ∙ length-append it.here it.rest in omega arith,
+        )
+          where
+            taken : (xs : List Row) (a b : ℕ) → a ≤ length xs → take (a + b) xs ≡ take a xs ++ take b
+                (from xs a)
+            taken xs a b h = both_taken xs a b ∙ ap (λ ys. take a xs ++ take b ys)
+                (sym (from-drop xs a))

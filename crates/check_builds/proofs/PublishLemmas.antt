@@ -1,19 +1,12 @@
 -- The rows of a Root or a Place, published, are those that the words say. Serves `building.rt`.
 use Rattle.std.proofs.Common.{◌≡◌, ◌∙◌, ◌<◌, ℕ, List, [], ◌∷◌, ◌++◌, length, Option, Some, None, refl, sym, ap, subst, inl, inr}
 use Rattle.ist_core.specs.declared.lists.Row.{Row}
-use Rattle.ist_core.specs.Arithmetic.{part_lens}
-use Rattle.ist_core.specs.References.{Ref, InnerAt}
-use Rattle.ist_core.specs.Elements.{Among, Each, Distinct}
-use Rattle.ist_core.specs.Parts.{parts}
-use Rattle.ist_core.specs.Pieces.{Pieces, Piece, Leaf, Inner, inner_of, with_row, with_inners}
-use Rattle.ist_core.specs.Snapshots.{Snapshot, bases_of, HoldsRow, HoldsRows}
-use Rattle.ist_core.specs.Slots.{logical}
-use Rattle.ist_core.specs.Leaves.{PlacedLeaf, HasLeaves, SlotsHaveLeaves, none_here, leaf_here, row_here, no_slot, one_slot}
-use Rattle.ist_core.specs.Ideals.{IsIdeal, AreIdeal, of_none, of_one, of_more, no_part, one_part}
-use Rattle.ist_core.proofs.ElementLemmas.{each_append, each-append, each-among}
-use Rattle.ist_core.proofs.RowLemmas.{with_row-same, with_row-other, with_inners-other}
-use Rattle.ist_core.proofs.RisingLemmas.{each_of_cut}
-use Rattle.ist_core.proofs.PublishingLemmas.{row_among}
+use Rattle.ist_core.specs.WordTerms.{part_lens, Ref, InnerAt, parts, Pieces, Piece, Leaf, Inner, inner_of, with_row, with_inners, logical, IsIdeal, AreIdeal, of_none, of_one, of_more, no_part, one_part}
+use Rattle.ist_core.specs.LogTerms.{Among, Each, Distinct, Snapshot, bases_of, HoldsRow, HoldsRows}
+use Rattle.ist_core.specs.TreeTerms.{PlacedLeaf, HasLeaves, SlotsHaveLeaves, none_here, leaf_here, row_here, no_slot, one_slot}
+use Rattle.ist_core.proofs.AllWordLemmas.{each_append, each-append, each-among, with_row-same, with_row-other, with_inners-other}
+use Rattle.ist_core.proofs.AllPlaceLemmas.{each_of_cut}
+use Rattle.ist_core.proofs.AllEventLemmas.{row_among}
 use Rattle.check_builds.specs.HeldRows.{HeldAreFree}
 use Rattle.check_builds.specs.Built.{key_of_leaf, BuildsRef, builds_none, builds_one, builds_more, BuildsAll, builds_end, builds_part}
 
@@ -29,10 +22,8 @@ LeafStands ps leaf = ps leaf.base ≡ Some (Leaf leaf.row)
 
 -- no row is published where one is held
 pub held_is_free : (t : Snapshot) (caller : ℕ) (rows : List Row) → HoldsRows t caller rows
-    → HeldAreFree t
-    → (base : ℕ) → Among base (bases_of rows) → t.pieces base ≡ None
-held_is_free t caller rows held free base i =
-    let it = row_among base rows i in
+    → HeldAreFree t → (base : ℕ) → Among base (bases_of rows) → t.pieces base ≡ None
+held_is_free t caller rows held free base i = let it = row_among base rows i in
     subst (λ b. t.pieces b ≡ None) it.2
     (free record { caller = caller; base = it.0.base; size = length it.0.words }
     (each-among (λ x. HoldsRow t caller x.base (length x.words)) it.0 rows held it.1))
@@ -55,8 +46,7 @@ pub rows_stand : (ps : Pieces) (rows : List Row) → Distinct (bases_of rows)
 rows_stand ps [] once free = tt
 rows_stand ps (row ∷ rows) once free = (
   here (inner_of row.words) refl,
-  there rows
-      (rows_stand ps rows once.1 (λ base i. free base (inr i))) (λ base i. i),
+  there rows (rows_stand ps rows once.1 (λ base i. free base (inr i))) (λ base i. i),
 )
   where
     here : (o : Option Piece) → inner_of row.words ≡ o → with_row (with_inners ps rows) row.base
@@ -107,8 +97,7 @@ split_bases : (xs ys : List ℕ) (rows : List Row) → xs ++ ys ≡ bases_of row
     → (a : List Row) × (b : List Row) × (rows ≡ a ++ b) × (xs ≡ bases_of a) × (ys ≡ bases_of b)
 split_bases [] ys rows e = ([], rows, refl, refl, e)
 split_bases (x ∷ xs) ys [] e = absurd (cc)
-split_bases (x ∷ xs) ys (row ∷ rows) e =
-    let tail : xs ++ ys ≡ bases_of rows = cc in
+split_bases (x ∷ xs) ys (row ∷ rows) e = let tail : xs ++ ys ≡ bases_of rows = cc in
     let head : x ≡ row.base = cc in
     let it = split_bases xs ys rows tail in (
       row ∷ it.0,
@@ -145,8 +134,7 @@ module _ (qs : Pieces) where
 
     all_ideal : (words : List ℕ) (ps : List (List PlacedLeaf)) (above : ℕ) (rows : List Row)
         → BuildsAll words ps above rows → Each (StandsAsSaid qs) rows
-        → Each (λ part. Each (LeafStands qs) part) ps
-        → AreIdeal qs words ps above (bases_of rows)
+        → Each (λ part. Each (LeafStands qs) part) ps → AreIdeal qs words ps above (bases_of rows)
     all_ideal _ _ _ _ builds_end stand there = no_part
     all_ideal _ _ above _ (builds_part {word = word} {words = words} {part = part} {following = following}
         {here = here} {rest = rest} ref e first more) stand there =
@@ -160,8 +148,7 @@ module _ (qs : Pieces) where
     -- an ideal subtree of published rows is built by them
     pub ideal_builds : (ref : Ref) (leaves : List PlacedLeaf) (above : ℕ) (bases : List ℕ)
         → IsIdeal qs ref leaves above bases → (rows : List Row) → bases ≡ bases_of rows
-        → Each (StandsAsSaid qs) rows
-        → BuildsRef ref leaves above rows
+        → Each (StandsAsSaid qs) rows → BuildsRef ref leaves above rows
     ideal_builds _ _ above _ of_none [] e stand = builds_none
     ideal_builds _ _ above _ of_none (row ∷ rows) e stand = absurd (cc)
     ideal_builds _ _ above _ (of_one same f) [] e stand = builds_one same
@@ -169,8 +156,7 @@ module _ (qs : Pieces) where
     ideal_builds _ leaves above _ (of_more r top below) [] e stand = absurd (cc)
     ideal_builds _ leaves above _ (of_more {base = base} {rows = bases} r top below) (row ∷ rows) e
         stand =
-        let here : base ≡ row.base = cc in
-        let tail : bases ≡ bases_of rows = cc in
+        let here : base ≡ row.base = cc in let tail : bases ≡ bases_of rows = cc in
         subst (λ b. BuildsRef (InnerAt b) leaves above (row ∷ rows)) (sym here)
         (builds_more r
         record {
@@ -188,8 +174,7 @@ module _ (qs : Pieces) where
 
     all_builds : (words : List ℕ) (ps : List (List PlacedLeaf)) (above : ℕ) (bases : List ℕ)
         → AreIdeal qs words ps above bases → (rows : List Row) → bases ≡ bases_of rows
-        → Each (StandsAsSaid qs) rows
-        → BuildsAll words ps above rows
+        → Each (StandsAsSaid qs) rows → BuildsAll words ps above rows
     all_builds _ _ above _ no_part [] e stand = builds_end
     all_builds _ _ above _ no_part (row ∷ rows) e stand = absurd (cc)
     all_builds _ _ above _ (one_part {word = word} {words = words} {here = here} {rest = rest}

@@ -9,7 +9,7 @@ use Rattle.std.specs.BTreeSet.{BTreeSet}
 use Rattle.std.specs.List.{list_any}
 use Rattle.ist_core.specs.declared.events.Event.{Event}
 use Rattle.ist_core.specs.declared.events.Event.TheVariants.{Enter, Reserve, Install, Okay, Decide, Resolve, Count, Mark, Pass, Finish, Root, Draw, Place, Lose}
-use Rattle.ist_core.specs.Logs.{Log, Happened, Draws, Passes}
+use Rattle.ist_core.specs.LogTerms.{Log, Happened, Draws, Passes}
 use Rattle.check_fairness.specs.Answers.{FindsGreatest, Holds}
 use Rattle.check_events.specs.Remembering.{pair_key, KnowsDraws, KnowsPasses}
 use Rattle.check_builds.specs.Passed.{PassesAreOne}
@@ -65,8 +65,7 @@ module _ (m n : BTreeMap ℕ ℕ) (log : Log) (caller rebuild part most : ℕ) (
           ≡ false) × (pair_key c o ≢ pair_key caller rebuild))
           → FindsGreatest (λ x. Happened (Draws c o x) (Draw caller rebuild part ∷ log))
           (tree.get nat_cmp n (pair_key c o))
-      at (inl k) =
-          let same = pair_once c o caller rebuild fits_too small k.1 in
+      at (inl k) = let same = pair_once c o caller rebuild fits_too small k.1 in
           subst (λ a. FindsGreatest (λ x. Happened (Draws a o x) (Draw caller rebuild part ∷ log))
           (tree.get nat_cmp n (pair_key a o))) (sym same.0)
           (subst (λ b. FindsGreatest (λ x. Happened (Draws caller b x)
@@ -96,8 +95,7 @@ pub most_later : (log : Log) (caller rebuild part before : ℕ) → FindsGreates
     (λ x. Happened (Draws caller rebuild x) log) (Some before)
     → FindsGreatest (λ x. Happened (Draws caller rebuild x) (Draw caller rebuild part ∷ log))
     (Some (max before part))
-most_later log caller rebuild part before h =
-    ⊎_elim
+most_later log caller rebuild part before h = ⊎_elim
     (λ k. let low = k.1 in let is : part ≡ max before part = omega arith in (
       inl (refl, refl, is),
       λ x d. ⊎_elim (λ now. let same = now.2 in omega arith)
@@ -143,8 +141,7 @@ no_pass _ other node index word happens = happens
 
 -- after another event the map of passes stays right
 pub passes_kept : (m : BTreeMap ℕ ℕ) (log : Log) (event : Event)
-    → ((c n i w : ℕ) → event ≢ Pass c n i w)
-    → KnowsPasses m log → KnowsPasses m (event ∷ log)
+    → ((c n i w : ℕ) → event ≢ Pass c n i w) → KnowsPasses m log → KnowsPasses m (event ∷ log)
 passes_kept m log event other known node i word fits fits_too =
     let it = known node i word fits fits_too in (
       (λ e. inr (it.0 e)),
@@ -173,8 +170,7 @@ module _ (m n : BTreeMap ℕ ℕ) (log : Log) (caller node index word : ℕ) (kn
 
       other : pair_key a i ≢ pair_key node index → (tree.get nat_cmp n (pair_key a i) ≡ Some w)
           ↔ Happened (Passes a i w) (Pass caller node index word ∷ log)
-      other ne =
-          let same = updated_other m n (pair_key node index) word u (pair_key a i) ne in
+      other ne = let same = updated_other m n (pair_key node index) word u (pair_key a i) ne in
           let it = known a i w fits fits_too in (
             (λ e. inr (it.0 (sym same ∙ e))),
             (λ d. same ∙ it.1 (⊎_elim (λ z. absurd

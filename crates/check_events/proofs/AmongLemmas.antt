@@ -3,7 +3,7 @@
 use Rattle.std.proofs.Common.{◌≡◌, ◌↔◌, ◌==◌, ◌||◌, Bool, true, false, ℕ, IsTrue, List, [], ◌∷◌, refl, ap, inl, inr, arith}
 use Rattle.std.proofs.lemmas.Bool.Decides.{nat_tests}
 use Rattle.std.specs.List.{list_any}
-use Rattle.ist_core.specs.Elements.{Among}
+use Rattle.ist_core.specs.LogTerms.{Among}
 
 -- a search finds a number exactly if it is among the others
 module _ (x : ℕ) where

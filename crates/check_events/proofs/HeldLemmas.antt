@@ -8,9 +8,8 @@ use Rattle.std.specs.declared.cmp.Ordering.{Ordering}
 use Rattle.std.specs.declared.cmp.Ordering.TheVariants.{Less, Equal, Greater}
 use Rattle.std.specs.Ordering.{MatchOrdering, is_eq, nat_cmp, match_ordering}
 use Rattle.ist_core.specs.declared.lists.HeldRow.{HeldRow}
-use Rattle.ist_core.specs.Elements.{Among, Each}
-use Rattle.ist_core.specs.Snapshots.{without}
-use Rattle.ist_core.proofs.ElementLemmas.{each-among, each_append}
+use Rattle.ist_core.specs.LogTerms.{Among, Each, without}
+use Rattle.ist_core.proofs.AllWordLemmas.{each-among, each_append}
 use Rattle.check_events.specs.Holding.{by_base, BasesRise}
 
 -- a look-up at a number finds it, or passes it by
@@ -46,16 +45,13 @@ found_at (h ∷ hs) row r i = at (found_at hs row r.1) (tells row.base h.base) i
 
     at : (Among row hs → lookup (is_at (nat_cmp row.base)) (by_base hs) ≡ Some row)
         → ((is_at (nat_cmp row.base) h.base ≡ true) × (row.base ≡ h.base))
-        ⊎ ((is_at (nat_cmp row.base) h.base ≡ false) × (row.base ≢ h.base))
-        → Among row (h ∷ hs)
+        ⊎ ((is_at (nat_cmp row.base) h.base ≡ false) × (row.base ≢ h.base)) → Among row (h ∷ hs)
         → lookup (is_at (nat_cmp row.base)) (by_base (h ∷ hs)) ≡ Some row
     at again (inl k) (inl e) =
         ap (λ b. if b then Some h else lookup (is_at (nat_cmp row.base)) rest) k.0
         ∙ ap (λ x. Some x) (sym e)
-    at again (inl k) (inr i) =
-        let low = each-among (λ g. h.base < g.base) row hs r.0 i in
-        let same = k.1 in
-        absurd (omega arith)
+    at again (inl k) (inr i) = let low = each-among (λ g. h.base < g.base) row hs r.0 i in
+        let same = k.1 in absurd (omega arith)
     at again (inr k) (inl e) = absurd (k.1 (ap (λ x. x.base) e))
     at again (inr k) (inr i) =
         ap (λ b. if b then Some h else lookup (is_at (nat_cmp row.base)) rest) k.0
@@ -72,12 +68,10 @@ held_at (h ∷ hs) b row e = at (held_at hs b row) (tells b h.base)
 
     at : (lookup (is_at (nat_cmp b)) (by_base hs) ≡ Some row → Among row hs × (row.base ≡ b))
         → ((is_at (nat_cmp b) h.base ≡ true) × (b ≡ h.base))
-        ⊎ ((is_at (nat_cmp b) h.base ≡ false) × (b ≢ h.base))
-        → Among row (h ∷ hs) × (row.base ≡ b)
+        ⊎ ((is_at (nat_cmp b) h.base ≡ false) × (b ≢ h.base)) → Among row (h ∷ hs) × (row.base ≡ b)
     at again (inl k) =
         let both = sym (ap (λ z. if z then Some h else lookup (is_at (nat_cmp b)) rest) k.0) ∙ e in
-        let same : h ≡ row = cc in
-        (inl (sym same), ap (λ x. x.base) (sym same) ∙ sym k.1)
+        let same : h ≡ row = cc in (inl (sym same), ap (λ x. x.base) (sym same) ∙ sym k.1)
     at again (inr k) =
         let more = again
         (sym (ap (λ z. if z then Some h else lookup (is_at (nat_cmp b)) rest) k.0) ∙ e) in
@@ -90,8 +84,7 @@ none_found held row r none i = cc (sym none ∙ found_at held row r i)
 
 -- if a row is found at its base, it is held exactly if it is that row
 pub one_found : (held : List HeldRow) (row found : HeldRow) → BasesRise held
-    → lookup (is_at (nat_cmp row.base)) (by_base held) ≡ Some found
-    → (row ≡ found) ↔ Among row held
+    → lookup (is_at (nat_cmp row.base)) (by_base held) ≡ Some found → (row ≡ found) ↔ Among row held
 one_found held row found r e = (
   (λ same. subst (λ h. Among h held) (sym same) (held_at held row.base found e).0),
   (λ i. one (sym (found_at held row r i) ∙ e)),
@@ -146,12 +139,10 @@ module _ {A : Type 0} where
     where
       at : filter p (filter q xs) ≡ filter q (filter p xs) → (a b : Bool) → p x ≡ a → q x ≡ b
           → filter p (filter q (x ∷ xs)) ≡ filter q (filter p (x ∷ xs))
-      at again true true e f =
-          ap (filter p) (kept_yes q x xs f) ∙ kept_yes p x (filter q xs) e
+      at again true true e f = ap (filter p) (kept_yes q x xs f) ∙ kept_yes p x (filter q xs) e
           ∙ ap (λ ys. x ∷ ys) again
           ∙ sym (ap (filter q) (kept_yes p x xs e) ∙ kept_yes q x (filter p xs) f)
-      at again true false e f =
-          ap (filter p) (kept_no q x xs f) ∙ again
+      at again true false e f = ap (filter p) (kept_no q x xs f) ∙ again
           ∙ sym (ap (filter q) (kept_yes p x xs e) ∙ kept_no q x (filter p xs) f)
       at again false true e f =
           ap (filter p) (kept_yes q x xs f) ∙ kept_no p x (filter q xs) e ∙ again

@@ -2,15 +2,11 @@
 use Rattle.std.proofs.Common.{◌≡◌, ◌↔◌, ◌∙◌, ◌<◌, ◌≤◌, ℕ, List, [], ◌∷◌, length, get_or, Option, Some, sym, ap, subst, inl, inr}
 use Rattle.ist_core.specs.declared.states.ChangeRow.{ChangeRow}
 use Rattle.ist_core.specs.declared.lists.Row.{Row}
-use Rattle.ist_core.specs.Pieces.{Change, words_of, change_of, row_at}
-use Rattle.ist_core.specs.Snapshots.{Snapshot, HoldsRows}
-use Rattle.ist_core.specs.Logs.{Log, state}
-use Rattle.ist_core.specs.Slots.{SlotHolds}
-use Rattle.ist_core.specs.Links.{WasLinked}
-use Rattle.ist_core.specs.Statuses.{undecided}
-use Rattle.ist_core.specs.Installing.{IsUnrefused, ComesByKey, PutsLeaf, PutsPair, Removes, Starts, Finishes, FitsKind, a_put, a_pair, a_remove, a_start, a_finish, CanInstall}
+use Rattle.ist_core.specs.WordTerms.{Change, words_of, change_of, row_at, SlotHolds, undecided}
+use Rattle.ist_core.specs.LogTerms.{Snapshot, HoldsRows, Log, state}
+use Rattle.ist_core.specs.TreeTerms.{WasLinked, IsUnrefused, ComesByKey, PutsLeaf, PutsPair, Removes, Starts, Finishes, FitsKind, a_put, a_pair, a_remove, a_start, a_finish, CanInstall}
 use Rattle.check_events.specs.InstallRows.{MayStand, FitsByKey}
-use Rattle.check_fairness.proofs.AfterLemmas.{following, split_first}
+use Rattle.check_fairness.proofs.AnswerLemmas.{following, split_first}
 
 -- words that are read as a change are its words
 change_words_are : (ws : List ℕ) (c : ChangeRow) → change_of ws ≡ Some c → ws ≡ words_of (Change c)
@@ -47,23 +43,20 @@ pub reads_change : (words slice : List ℕ) (o : Option ChangeRow) (x : ChangeRo
 reads_change words slice o x same read is = ap change_of (sym same) ∙ sym read ∙ is
 
 module _ (first : Snapshot) (log : Log) (caller base : ℕ) (rows : List Row) (row : Row)
-    (change : ChangeRow)
-    (n : 1 ≤ length rows) (e : row ≡ get_or rows 0 row) (at : row.base ≡ base)
+    (change : ChangeRow) (n : 1 ≤ length rows) (e : row ≡ get_or rows 0 row) (at : row.base ≡ base)
     (reads : change_of row.words ≡ Some change) where
   whole : rows ≡ row ∷ following rows
   whole = split_first rows row n e
 
   same_change : (h : CanInstall first log caller base rows) → h.change ≡ change
-  same_change h =
-      let one = head_same (sym whole ∙ h.rows_are) in
+  same_change h = let one = head_same (sym whole ∙ h.rows_are) in
       sym (cc (sym reads ∙ ap (λ r. change_of r.words) one))
 
   same_fresh : (h : CanInstall first log caller base rows) → h.fresh ≡ following rows
   same_fresh h = sym (cc (sym whole ∙ h.rows_are))
 
   rows_named : rows ≡ row_at base (Change change) ∷ following rows
-  rows_named =
-      let words = change_words_are row.words change reads in
+  rows_named = let words = change_words_are row.words change reads in
       whole ∙ ap (λ r. r ∷ following rows) (λ i. record { base = at i; words = words i })
 
   -- what remains to be checked is the condition of the kind
@@ -91,14 +84,13 @@ module _ (first : Snapshot) (log : Log) (caller base : ℕ) (rows : List Row) (r
 
   -- a change that may be installed meets what is required of any kind
   pub install_stands : CanInstall first log caller base rows → MayStand first log caller change
-  install_stands h =
-      subst (MayStand first log caller) (same_change h) record {
-        owned = h.owned;
-        unset = h.unset;
-        in_slot = h.in_slot;
-        linked = h.linked;
-        unrefused = h.unrefused;
-      }
+  install_stands h = subst (MayStand first log caller) (same_change h) record {
+    owned = h.owned;
+    unset = h.unset;
+    in_slot = h.in_slot;
+    linked = h.linked;
+    unrefused = h.unrefused;
+  }
 
 -- a change of its caller that is undecided and in its slot, at a node that was linked, may stand
 -- exactly if no change of its caller on this node was refused

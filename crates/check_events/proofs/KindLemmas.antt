@@ -2,13 +2,9 @@
 use Rattle.std.proofs.Common.{◌≡◌, ◌↔◌, ◌∙◌, ◌≢◌, ℕ, IsTrue, nat_eq, List, [], ◌∷◌, Option, Some, sym, subst, eq-eqb}
 use Rattle.ist_core.specs.declared.states.ChangeRow.{ChangeRow}
 use Rattle.ist_core.specs.declared.lists.Row.{Row}
-use Rattle.ist_core.specs.References.{Ref, Empty, LeafAt, InnerAt, ref_of}
-use Rattle.ist_core.specs.Pieces.{row_at}
-use Rattle.ist_core.specs.Snapshots.{Snapshot}
-use Rattle.ist_core.specs.Logs.{Log, state}
-use Rattle.ist_core.specs.Slots.{IsChildFor}
-use Rattle.ist_core.specs.Links.{WasLedTo}
-use Rattle.ist_core.specs.Installing.{IsLeafOf, HasRoomFor, nothing, same_key, ComesByKey, PutsLeaf, PutsPair, Removes, new_leaf}
+use Rattle.ist_core.specs.WordTerms.{Ref, Empty, LeafAt, InnerAt, ref_of, row_at, IsChildFor}
+use Rattle.ist_core.specs.LogTerms.{Snapshot, Log, state}
+use Rattle.ist_core.specs.TreeTerms.{WasLedTo, IsLeafOf, HasRoomFor, nothing, same_key, ComesByKey, PutsLeaf, PutsPair, Removes, new_leaf}
 use Rattle.check_events.specs.Kinds.{NamesLeafOf, PairsWith}
 use Rattle.check_fairness.proofs.AnswerLemmas.{is_equal}
 
@@ -29,11 +25,9 @@ module _ (t : Snapshot) (word leaf : ℕ) (e : ref_of word ≡ Some (LeafAt leaf
     (λ y. record {
       leaf = leaf;
       names = e;
-      stands = subst (λ k. IsLeafOf t leaf k)
-          (is_equal found key y) stands;
+      stands = subst (λ k. IsLeafOf t leaf k) (is_equal found key y) stands;
     }),
-    (λ h.
-        let same = one_leaf (ref_of word) h.leaf leaf h.names e in
+    (λ h. let same = one_leaf (ref_of word) h.leaf leaf h.names e in
         let is : found ≡ key = sym (one key (subst (λ l. IsLeafOf t l key) same h.stands)) in
         eq-eqb found key is),
   )
@@ -72,8 +66,7 @@ module _ (first : Snapshot) (log : Log) (change : ChangeRow) (fresh : List Row)
       leaf = n.leaf;
       from = n.names;
       stands = n.stands;
-      to =
-          to;
+      to = to;
       value = value;
       fresh_are = none;
     }),
@@ -82,8 +75,7 @@ module _ (first : Snapshot) (log : Log) (change : ChangeRow) (fresh : List Row)
 
   -- a change that puts in a leaf is a put exactly if its fresh row is the new leaf
   pub puts_leaf_is : (leaf : ℕ) → change.kind ≡ 1 → HasRoomFor (state first log) change.key
-      change.from
-      → ref_of change.to ≡ Some (LeafAt leaf)
+      change.from → ref_of change.to ≡ Some (LeafAt leaf)
       → (fresh ≡ row_at leaf (new_leaf change) ∷ []) ↔ PutsLeaf first log change fresh
   puts_leaf_is leaf kind room to = (
     (λ are. record {
@@ -105,8 +97,7 @@ module _ (first : Snapshot) (log : Log) (change : ChangeRow) (fresh : List Row)
 
   -- a pair row is over the one leaf that its slot names
   pub puts_pair_is : (other other_key : ℕ) → change.kind ≡ 1 → ref_of change.from
-      ≡ Some (LeafAt other)
-      → IsLeafOf (state first log) other other_key
+      ≡ Some (LeafAt other) → IsLeafOf (state first log) other other_key
       → ((k : ℕ) → IsLeafOf (state first log) other k → k ≡ other_key) → other_key ≢ change.key
       → PairsWith change fresh other other_key ↔ PutsPair first log change fresh
   puts_pair_is other other_key kind from stands one differs = (

@@ -9,9 +9,8 @@ use Rattle.std.specs.List.{list_any}
 use Rattle.std.specs.Map.{lookup, remove_entry, values_of}
 use Rattle.std.specs.Ordering.{nat_cmp}
 use Rattle.ist_core.specs.declared.lists.HeldRow.{HeldRow}
-use Rattle.ist_core.specs.Elements.{Among, Each}
-use Rattle.ist_core.specs.Snapshots.{without}
-use Rattle.ist_core.proofs.ElementLemmas.{each-among, among-filter, each_of}
+use Rattle.ist_core.specs.LogTerms.{Among, Each, without}
+use Rattle.ist_core.proofs.AllWordLemmas.{each-among, among-filter, each_of}
 use Rattle.check_events.specs.declared.held.HeldTable.{HeldTable}
 use Rattle.check_events.specs.Holding.{by_base, listed_rows, of_caller, BasesRise, TableHolds}
 use Rattle.check_events.proofs.HeldLemmas.{tells, found_at, kept_yes, kept_no, kept_swap}
@@ -64,8 +63,7 @@ module _ (b : ℕ) where
           let same = k.1 in absurd (omega arith)) in
           ap (λ z. if z then by_base hs else (h.base, h) ∷ out b (by_base hs)) k.0
           ∙ sym (ap by_base (kept_no stays h hs (same_goes h k.1) ∙ all_stay hs apart))
-      at again (inr k) =
-          ap (λ z. if z then by_base hs else (h.base, h) ∷ out b (by_base hs)) k.0
+      at again (inr k) = ap (λ z. if z then by_base hs else (h.base, h) ∷ out b (by_base hs)) k.0
           ∙ ap (λ es. (h.base, h) ∷ es) again
           ∙ sym (ap by_base (kept_yes stays h hs (other_stays h k.1)))
 
@@ -81,8 +79,7 @@ module _ (b : ℕ) where
   pub others_stay : (held : List HeldRow) (row : HeldRow) → BasesRise held
       → lookup (is_at (nat_cmp b)) (by_base held) ≡ Some row → (caller : ℕ) → caller ≢ row.caller
       → of_caller caller (without (b ∷ []) held) ≡ of_caller caller held
-  others_stay held row r found caller ne =
-      kept_swap (λ h. h.caller == caller) stays held
+  others_stay held row r found caller ne = kept_swap (λ h. h.caller == caller) stays held
       ∙ all_stay (of_caller caller held) (each_of _ (of_caller caller held)
       (λ h i s. absurd (other h (among-filter (λ x. x.caller == caller) h held i) s)))
     where
@@ -120,20 +117,17 @@ listed_last held row old new known here others caller = at (eqb_tells row.caller
     at : ((eqb row.caller caller ≡ true) × (row.caller ≡ caller))
         ⊎ ((eqb row.caller caller ≡ false) × (row.caller ≢ caller))
         → listed_rows new caller ≡ of_caller caller (held ++ row ∷ [])
-    at (inl k) =
-        subst (λ c. listed_rows new c ≡ listed_rows old c ++ row ∷ []) k.1 here
+    at (inl k) = subst (λ c. listed_rows new c ≡ listed_rows old c ++ row ∷ []) k.1 here
         ∙ ap (λ xs. xs ++ row ∷ []) (known caller)
         ∙ sym (both ∙ ap (λ xs. of_caller caller held ++ xs)
         (kept_yes (λ h. h.caller == caller) row [] k.0))
-    at (inr k) =
-        others caller (λ e. k.1 (sym e)) ∙ known caller
+    at (inr k) = others caller (λ e. k.1 (sym e)) ∙ known caller
         ∙ sym (both ∙ ap (λ xs. of_caller caller held ++ xs)
         (kept_no (λ h. h.caller == caller) row [] k.0) ∙ append-nil (of_caller caller held))
 
 -- the callers' rows without the row at a base
 pub listed_without : (b : ℕ) (held : List HeldRow) (row : HeldRow) → BasesRise held
-    → lookup (is_at (nat_cmp b)) (by_base held) ≡ Some row
-    → (old new : BTreeMap ℕ (Vec HeldRow))
+    → lookup (is_at (nat_cmp b)) (by_base held) ≡ Some row → (old new : BTreeMap ℕ (Vec HeldRow))
     → ((caller : ℕ) → listed_rows old caller ≡ of_caller caller held)
     → listed_rows new row.caller ≡ without (b ∷ []) (listed_rows old row.caller)
     → ((caller : ℕ) → caller ≢ row.caller → listed_rows new caller ≡ listed_rows old caller)
@@ -146,8 +140,7 @@ listed_without b held row r found old new known here others caller = at (eqb_tel
     at (inl k) =
         subst (λ c. listed_rows new c ≡ without (b ∷ []) (listed_rows old c)) (sym k.1) here
         ∙ ap (without (b ∷ [])) (known caller) ∙ sym (callers_rest b held caller)
-    at (inr k) =
-        others caller k.1 ∙ known caller ∙ sym (others_stay b held row r found caller k.1)
+    at (inr k) = others caller k.1 ∙ known caller ∙ sym (others_stay b held row r found caller k.1)
 
 -- ---- without several
 

@@ -1,11 +1,8 @@
-pub mod MirrorLemmas
 pub mod DecisionLemmas
 pub mod MarkLemmas
 pub mod WayUpLemmas
-pub mod ClimbLemmas
 pub mod CountLemmas
 pub mod KindLemmas
-pub mod RebuildKindLemmas
 pub mod RowLemmas
 pub mod HeldLemmas
 pub mod LetGoLemmas

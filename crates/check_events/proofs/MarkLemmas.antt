@@ -6,14 +6,10 @@ use Rattle.std.specs.BTreeMap as tree
 use Rattle.std.specs.BTreeMap.{BTreeMap}
 use Rattle.ist_core.specs.declared.states.InnerRow.{InnerRow}
 use Rattle.ist_core.specs.declared.states.RebuildRow.{RebuildRow}
-use Rattle.ist_core.specs.Pieces.{Inner, Rebuild}
-use Rattle.ist_core.specs.References.{Ref, Empty, LeafAt, InnerAt, RebuildAt, ref_of}
-use Rattle.ist_core.specs.Statuses.{finished_word}
-use Rattle.ist_core.specs.Snapshots.{Snapshot}
-use Rattle.ist_core.specs.Logs.{Log}
-use Rattle.ist_core.specs.Rebuilding.{IsFinishedWith}
-use Rattle.ist_core.specs.Marking.{IsCalled, CanMark, CountsFor, no_key, one_key, of_child, of_target, ArePassed, past_end, one_passed}
-use Rattle.ist_core.proofs.OptionLemmas.{same_rebuild, same_inner}
+use Rattle.ist_core.specs.WordTerms.{Inner, Rebuild, Ref, Empty, LeafAt, InnerAt, RebuildAt, ref_of, finished_word}
+use Rattle.ist_core.specs.LogTerms.{Snapshot, Log}
+use Rattle.ist_core.specs.TreeTerms.{IsFinishedWith, IsCalled, CanMark, CountsFor, no_key, one_key, of_child, of_target, ArePassed, past_end, one_passed}
+use Rattle.ist_core.proofs.AllWordLemmas.{same_rebuild, same_inner}
 use Rattle.check_events.specs.Passing.{PassCounts, TargetFinishedWith}
 use Rattle.check_events.specs.Remembering.{KnowsPasses, pair_key}
 use Rattle.ist_layout.specs.declared.references.Ref as layout
@@ -40,16 +36,14 @@ finished_is t node k r e = (
 
 -- a rebuild's target is the one that its row says
 pub target_is : (t : Snapshot) (rebuild k : ℕ) (r : RebuildRow) → t.pieces rebuild
-    ≡ Some (Rebuild r)
-    → IsFinishedWith t r.target k ↔ TargetFinishedWith t rebuild k
+    ≡ Some (Rebuild r) → IsFinishedWith t r.target k ↔ TargetFinishedWith t rebuild k
 target_is t rebuild k r e = (
   (λ f. record {
     target = r.target;
     of = record { row = r; published = e; target_is = refl };
     finished = f;
   }),
-  (λ h.
-      let same : h.of.row ≡ r = same_rebuild (t.pieces rebuild) h.of.row r h.of.published e in
+  (λ h. let same : h.of.row ≡ r = same_rebuild (t.pieces rebuild) h.of.row r h.of.published e in
       subst (λ n. IsFinishedWith t n k) (sym h.of.target_is ∙ ap (λ x. x.target) same) h.finished),
 )
 
@@ -103,8 +97,7 @@ counts_inner t ref child k e = (
 
 -- a rebuild counts for the keys with which its target is finished
 pub counts_rebuild : (t : Snapshot) (ref : Option Ref) (rebuild k : ℕ) → ref
-    ≡ Some (RebuildAt rebuild)
-    → TargetFinishedWith t rebuild k ↔ CountsFor t ref k
+    ≡ Some (RebuildAt rebuild) → TargetFinishedWith t rebuild k ↔ CountsFor t ref k
 counts_rebuild t ref rebuild k e =
     ((λ h. subst (λ x. CountsFor t x k) (sym e) (of_target h.of h.finished)), (λ c. out ref k e c))
   where
@@ -113,8 +106,7 @@ counts_rebuild t ref rebuild k e =
     out _ _ i no_key = cc
     out _ _ i one_key = cc
     out _ _ i (of_child f) = cc
-    out _ k i (of_target {rebuild = o} {target = n} h f) =
-        let same : o ≡ rebuild = cc in
+    out _ k i (of_target {rebuild = o} {target = n} h f) = let same : o ≡ rebuild = cc in
         subst (λ x. TargetFinishedWith t x k) same record { target = n; of = h; finished = f }
 
 module _ (t : Snapshot) (ref : Option Ref) where
@@ -151,16 +143,13 @@ pub pass_counts : (t : Snapshot) (log : Log) (passed : BTreeMap ℕ ℕ) (node i
     → CountsFor t (ref_of word) k ↔ PassCounts t log node i k
 pass_counts t log passed node i word k h n m e = (
   (λ c. record { word = word; passed = (h node i word n m).0 e; counts = c }),
-  (λ p.
-      let there = (h node i p.word n m).1 p.passed in
-      let same : p.word ≡ word = cc in
+  (λ p. let there = (h node i p.word n m).1 p.passed in let same : p.word ≡ word = cc in
       subst (λ w. CountsFor t (ref_of w) k) same p.counts),
 )
 
 -- a slot that the map doesn't have was not passed
 pub none_passed : (t : Snapshot) (log : Log) (passed : BTreeMap ℕ ℕ) (node i k : ℕ) → KnowsPasses
-    passed log
-    → node < 2 ^ 64 → i < 2 ^ 64 → tree.get nat_cmp passed (pair_key node i) ≡ None
+    passed log → node < 2 ^ 64 → i < 2 ^ 64 → tree.get nat_cmp passed (pair_key node i) ≡ None
     → ¬ (PassCounts t log node i k)
 none_passed t log passed node i k h n m e p = let there = (h node i p.word n m).1 p.passed in cc
 
@@ -191,8 +180,7 @@ module _ (t : Snapshot) (log : Log) (node i : ℕ) where
   -- slots count for k keys exactly if the others count for what the first leaves
   pub passed_first : (slots : List ℕ) (here k : ℕ) → 1 ≤ length slots → PassCounts t log node i here
       → ((y : ℕ) → PassCounts t log node i y → y ≡ here) → here ≤ k
-      → ArePassed t log node (i + 1) (after_first slots) (k - here) ↔ ArePassed t log node i slots
-      k
+      → ArePassed t log node (i + 1) (after_first slots) (k - here) ↔ ArePassed t log node i slots k
   passed_first [] here k n p one fits = absurd (omega arith)
   passed_first (x ∷ xs) here k n p one fits =
       let front : after_first (x ∷ xs) ≡ xs = let e : length (x ∷ xs) - 1 ≡ length xs = omega arith
@@ -201,9 +189,7 @@ module _ (t : Snapshot) (log : Log) (node i : ℕ) where
         (λ m. subst (λ j. ArePassed t log node i (x ∷ xs) j) sum
             (one_passed p.word p.passed p.counts
             (subst (λ ys. ArePassed t log node (i + 1) ys (k - here)) front m))),
-        (λ a.
-            let s = passed_apart x xs k a in
-            let same : s.0 ≡ here = one s.0 s.2 in
+        (λ a. let s = passed_apart x xs k a in let same : s.0 ≡ here = one s.0 s.2 in
             let left : s.1 ≡ k - here = let all : s.0 + s.1 ≡ k = s.4 in omega arith in
             subst (λ ys. ArePassed t log node (i + 1) ys (k - here)) (sym front)
             (subst (λ j. ArePassed t log node (i + 1) xs j) left s.3)),
@@ -214,11 +200,8 @@ module _ (t : Snapshot) (log : Log) (node i : ℕ) where
       → ((y : ℕ) → PassCounts t log node i y → y ≡ here) → k < here
       → ¬ (ArePassed t log node i slots k)
   passed_beyond [] here k n one far a = absurd (omega arith)
-  passed_beyond (x ∷ xs) here k n one far a =
-      let s = passed_apart x xs k a in
-      let same : s.0 ≡ here = one s.0 s.2 in
-      let all : s.0 + s.1 ≡ k = s.4 in
-      absurd (omega arith)
+  passed_beyond (x ∷ xs) here k n one far a = let s = passed_apart x xs k a in
+      let same : s.0 ≡ here = one s.0 s.2 in let all : s.0 + s.1 ≡ k = s.4 in absurd (omega arith)
 
   -- if the first slot counts for nothing, the slots don't count
   pub passed_without : (slots : List ℕ) (k : ℕ) → 1 ≤ length slots

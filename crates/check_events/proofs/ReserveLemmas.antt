@@ -1,8 +1,6 @@
 -- A row may be reserved if it is fair to hold it too. Serves `entering.rt`.
 use Rattle.std.proofs.Common.{◌≡◌, ◌↔◌, ◌+◌, ◌<◌, ◌≤◌, Bool, ℕ, IsTrue, List, [], ◌∷◌, ◌++◌, sym, subst}
-use Rattle.ist_core.specs.Snapshots.{Snapshot, sizes_held}
-use Rattle.ist_core.specs.Fairness.{IsFair}
-use Rattle.ist_core.specs.Enabled.{CanReserve}
+use Rattle.ist_core.specs.LogTerms.{Snapshot, sizes_held, IsFair, CanReserve}
 
 -- a row may be reserved exactly if the sizes with it are fair
 pub reserves : (t : Snapshot) (caller base size : ℕ) (xs : List ℕ) (fair : Bool)

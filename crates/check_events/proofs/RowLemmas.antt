@@ -2,11 +2,10 @@
 -- `pairs.rt`.
 use Rattle.std.proofs.Common.{◌≡◌, ◌↔◌, ◌∙◌, ◌≤◌, ℕ, List, [], ◌∷◌, length, get_or, sym, ap, subst, arith}
 use Rattle.ist_core.specs.declared.lists.Row.{Row}
-use Rattle.ist_core.specs.References.{LeafAt, word_of}
-use Rattle.ist_core.specs.Pieces.{row_at}
-use Rattle.ist_core.specs.Snapshots.{Snapshot, HoldsRow, HoldsRows}
-use Rattle.ist_core.specs.Installing.{pair_over}
-use Rattle.check_fairness.proofs.AfterLemmas.{following, split_first}
+use Rattle.ist_core.specs.WordTerms.{LeafAt, word_of, row_at}
+use Rattle.ist_core.specs.LogTerms.{Snapshot, HoldsRow, HoldsRows}
+use Rattle.ist_core.specs.TreeTerms.{pair_over}
+use Rattle.check_fairness.proofs.AnswerLemmas.{following, split_first}
 
 -- the first row and the others are held
 module _ (t : Snapshot) (caller : ℕ) (rows : List Row) (row : Row) (n : 1 ≤ length rows)
@@ -32,8 +31,7 @@ module _ (t : Snapshot) (caller : ℕ) (rows : List Row) (row : Row) (n : 1 ≤ 
 pub pair_over_is : (row : Row) (ws : List ℕ) (base key left right : ℕ) → ws ≡ row.words → length ws
     ≡ 7
     → row.base ≡ base → get_or ws 0 0 ≡ 0 → get_or ws 1 0 ≡ 0 → get_or ws 2 0 ≡ 2 → get_or ws 3 0
-    ≡ 2
-    → get_or ws 4 0 ≡ key → get_or ws 5 0 ≡ word_of (LeafAt left)
+    ≡ 2 → get_or ws 4 0 ≡ key → get_or ws 5 0 ≡ word_of (LeafAt left)
     → (get_or ws 6 0 ≡ word_of (LeafAt right)) ↔ (row ≡ row_at base (pair_over key left right))
 pair_over_is row [] base key left right is n at w0 w1 w2 w3 w4 w5 = absurd (omega arith)
 pair_over_is row (a ∷ []) base key left right is n at w0 w1 w2 w3 w4 w5 = absurd (omega arith)

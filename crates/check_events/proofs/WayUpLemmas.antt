@@ -4,17 +4,11 @@ use Rattle.std.proofs.Common.{◌≡◌, ◌↔◌, ◌∙◌, ◌≢◌, ◌⊎
 use Rattle.std.specs.Ordering.{nat_cmp}
 use Rattle.std.specs.BTreeMap as tree
 use Rattle.std.specs.BTreeMap.{BTreeMap}
-use Rattle.ist_core.specs.RowLayout.{anchor}
-use Rattle.ist_core.specs.Arithmetic.{child_count}
-use Rattle.ist_core.specs.Elements.{Among}
-use Rattle.ist_core.specs.Pieces.{Inner}
-use Rattle.ist_core.specs.Snapshots.{Snapshot}
-use Rattle.ist_core.specs.Logs.{Log, Ever, state}
-use Rattle.ist_core.specs.Slots.{SlotHolds, in_anchor, in_row, IsChildFor, of_anchor, of_row}
-use Rattle.ist_core.specs.Links.{IsChild, Linked, at_anchor, below, Chain, no_row, one_row, Leads, from_anchor, down, WasLinked, WasOnChain, WasLedTo}
-use Rattle.ist_core.proofs.ElementLemmas.{among-append, among_left, among_right}
-use Rattle.ist_core.proofs.OptionLemmas.{same_inner}
-use Rattle.ist_core.proofs.ChainLemmas.{leads_linked, chain_linked}
+use Rattle.ist_core.specs.WordTerms.{anchor, child_count, Inner, SlotHolds, in_anchor, in_row, IsChildFor, of_anchor, of_row}
+use Rattle.ist_core.specs.LogTerms.{Among, Snapshot, Log, Ever, state}
+use Rattle.ist_core.specs.TreeTerms.{IsChild, Linked, at_anchor, below, Chain, no_row, one_row, Leads, from_anchor, down, WasLinked, WasOnChain, WasLedTo}
+use Rattle.ist_core.proofs.AllWordLemmas.{among-append, among_left, among_right, same_inner}
+use Rattle.ist_core.proofs.AllLogLemmas.{leads_linked, chain_linked}
 use Rattle.check_events.specs.declared.pasts.Slot.{Slot}
 use Rattle.check_events.specs.Mirroring.{HasChildFor}
 use Rattle.check_events.specs.Remembering.{KnowsSlots}
@@ -35,8 +29,7 @@ ever_at first P (event ∷ log) (inr h) = let m = ever_at first P log h in (m.0,
 
 -- what holds at a moment held at some time
 pub at_ever : (first : Snapshot) (P : Snapshot → Type 0) (log : Log) (u : Snapshot) → IsMoment first
-    log u
-    → P u → Ever first P log
+    log u → P u → Ever first P log
 at_ever first P [] u e p = subst P (sym e) p
 at_ever first P (event ∷ log) u (inl e) p = inl (subst P (sym e) p)
 at_ever first P (event ∷ log) u (inr m) p = inr (at_ever first P log u m p)
@@ -87,8 +80,7 @@ module _ (first : Snapshot) (log : Log) (slots : BTreeMap ℕ Slot) (k : KnowsSl
     -- a node that was linked has a slot in the map, unless it is the anchor
     pub linked_in : (n : ℕ) → n ≢ anchor → WasLinked first log n
         → (slot : Slot) × (tree.get nat_cmp slots n ≡ Some slot)
-    linked_in n far h =
-        let w = ever_at first (λ t. Linked t n) log h in
+    linked_in n far h = let w = ever_at first (λ t. Linked t n) log h in
         ⊎_elim (λ e. absurd (far e)) (λ s. s) (linked_entry w.0 w.1 n w.2)
 
     -- a node with a slot in the map was linked
@@ -118,8 +110,7 @@ module _ (first : Snapshot) (log : Log) (slots : BTreeMap ℕ Slot) (k : KnowsSl
         of_row r e (j ∙ ap (λ x. child_count x.keys key) same ∙ ap (λ ks. child_count ks key) now.2)
 
     led_climbs : KeysStay first log → (u : Snapshot) → IsMoment first log u → (key n : ℕ)
-        → Leads u key n
-        → Climbs slots (state first log) key n
+        → Leads u key n → Climbs slots (state first log) key n
     led_climbs stay u m key _ from_anchor = at_top
     led_climbs stay u m key _ (down {node = p} {child = n} i l f c) =
         up record { node = p; index = i } (entry u m p i n (leads_linked u key p l) c)
@@ -127,8 +118,7 @@ module _ (first : Snapshot) (log : Log) (slots : BTreeMap ℕ Slot) (k : KnowsSl
 
     -- a linked node of whose way up each slot is for the key is led to by the key
     one_down : KeysStay first log → (u : Snapshot) → IsMoment first log u → (key p i n : ℕ)
-        → Linked u p
-        → IsChild u p i n → (Climbs slots (state first log) key p → Leads u key p)
+        → Linked u p → IsChild u p i n → (Climbs slots (state first log) key p → Leads u key p)
         → Climbs slots (state first log) key n → Leads u key n
     one_down stay u m key p i _ l c again at_top = from_anchor
     one_down stay u m key p i n l c again (up slot e f rest) =
@@ -139,8 +129,7 @@ module _ (first : Snapshot) (log : Log) (slots : BTreeMap ℕ Slot) (k : KnowsSl
 
     -- if the way up from a linked node is for a key, the key leads to the node
     pub linked_leads : KeysStay first log → (u : Snapshot) → IsMoment first log u → (key n : ℕ)
-        → Linked u n
-        → Climbs slots (state first log) key n → Leads u key n
+        → Linked u n → Climbs slots (state first log) key n → Leads u key n
     linked_leads stay u m key _ at_anchor h = from_anchor
     linked_leads stay u m key _ (below {node = p} {child = n} i l c) h = one_down stay u m key p i n l
         c (λ x. linked_leads stay u m key p l x) h
@@ -169,8 +158,7 @@ module _ (first : Snapshot) (log : Log) (slots : BTreeMap ℕ Slot) (k : KnowsSl
         → (x : ℕ) → Among x rows → ClimbsBy slots x n
     chain_comes u m _ _ no_row x a = absurd a
     chain_comes u m _ _ (one_row {node = p} {child = n} {rows = rs} i ch c) x a =
-        let there = entry u m p i n (chain_linked u p rs ch) c in
-        ⊎_elim
+        let there = entry u m p i n (chain_linked u p rs ch) c in ⊎_elim
         (λ (b : Among x rs). higher record { node = p; index = i } there
         (chain_comes u m p rs ch x b))
         (λ (b : Among x (n ∷ [])). ⊎_elim (λ e. subst (λ y. ClimbsBy slots y n) (sym e)
@@ -195,8 +183,7 @@ module _ (first : Snapshot) (log : Log) (slots : BTreeMap ℕ Slot) (k : KnowsSl
     linked_chain : (u : Snapshot) → IsMoment first log u → (n : ℕ) → Linked u n
         → (rows : List ℕ) × Chain u n rows × ((x : ℕ) → ClimbsBy slots x n → Among x rows)
     linked_chain u m _ at_anchor = ([], no_row, λ x h. none_on_anchor x anchor refl h)
-    linked_chain u m _ (below {node = p} {child = n} i l c) =
-        let r = linked_chain u m p l in
+    linked_chain u m _ (below {node = p} {child = n} i l c) = let r = linked_chain u m p l in
         (r.0 ++ n ∷ [], one_row i r.1 c, on_longer u m p i n l c r.0 r.2)
 
     -- a node whose way up passes a row has a slot in the map
@@ -214,8 +201,7 @@ module _ (first : Snapshot) (log : Log) (slots : BTreeMap ℕ Slot) (k : KnowsSl
     )
       where
         out : ClimbsBy slots x n → WasOnChain first log n x
-        out h =
-            let s = comes_entry x n h in
+        out h = let s = comes_entry x n h in
             let w = ever_at first (λ t. Linked t s.0.node × IsChild t s.0.node s.0.index n) log
             ((k.entries s.0.node s.0.index n).0 s.1) in
             let r = linked_chain w.0 w.1 n (below s.0.index w.2.0 w.2.1) in

@@ -11,8 +11,7 @@ two_added b c g = (
 
 -- three facts added one after another are added together
 pub three_added : {A B C D X Y Z G : Type 0} → (B ↔ (A ⊎ X)) → (C ↔ (B ⊎ Y)) → (D ↔ (C ⊎ Z))
-    → (G ↔ (X ⊎ (Y ⊎ Z)))
-    → D ↔ (A ⊎ G)
+    → (G ↔ (X ⊎ (Y ⊎ Z))) → D ↔ (A ⊎ G)
 three_added {A} {B} {C} {D} {X} {Y} {Z} {G} b c d g =
     let both : C ↔ (A ⊎ (X ⊎ Y)) = two_added {G = X ⊎ Y} b c ((λ h. h), (λ h. h)) in
     two_added both d (

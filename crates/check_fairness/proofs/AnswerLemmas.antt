@@ -1,11 +1,43 @@
 -- What a look-up returns, carried from one term for it to another.
-use Rattle.std.proofs.Common.{◌≡◌, ◌↔◌, ℕ, IsTrue, Bool, true, false, not, Option, Some, None, [], refl, sym, ap, true≢false, nat_eq, eq-eqb, arith}
+use Rattle.std.proofs.Common.{◌≡◌, ◌∙◌, ◌≤◌, ◌-◌, ℕ, zero, suc, List, [], ◌∷◌, length, take, drop, get_or, refl, sym, ap, inl, inr, arith, ◌↔◌, IsTrue, Bool, true, false, not, Option, Some, None, true≢false, nat_eq, eq-eqb, ◌≢◌, ◌+◌, ◌<◌, ◌⊎◌, ◌++◌, subst, ⊎_elim}
+use Rattle.std.proofs.lemmas.List.{take_all, take_more}
+use Rattle.ist_core.specs.LogTerms.{Among}
 use Rattle.std.proofs.lemmas.Bool.Decides.{nat_tests}
 use Rattle.std.specs.Ordering.{nat_cmp}
 use Rattle.std.specs.Map.{lookup}
-use Rattle.std.specs.BTreeMap as tree
 use Rattle.std.specs.BTreeMap.{BTreeMap, is_at}
 use Rattle.check_fairness.specs.Answers.{FindsOne}
+use Rattle.check_fairness.specs.declared.readings.SizeReading.{SizeReading}
+use Rattle.check_fairness.specs.declared.spares.Spare.{Spare}
+use Rattle.check_fairness.specs.Searching.{IsSpare, without_spare, Goes, all_read, leaves_out, goes_on, begins, is_full, TakesNext, BeginsOne, LeavesOut}
+use Rattle.check_fairness.specs.Readings.{rest_at, GoesFrom, SomeGoes, LeavesSame, IsLeftBefore}
+use Rattle.std.specs.BTreeMap as tree
+
+-- ---- some elements are the first one and those after it; the first ones are among them.
+
+module _ {A : Type 0} where
+  -- what follows the first of some elements
+  abbrev pub following : List A → List A
+  following xs = take (length xs - 1) (drop 1 xs)
+
+  -- some elements are the first and those after it
+  pub split_first : (xs : List A) (x : A) → 1 ≤ length xs → x ≡ get_or xs 0 x → xs ≡ x ∷ following xs
+  split_first [] x n e = absurd (omega arith)
+  split_first (y ∷ ys) x n e = let l : length (y ∷ ys) - 1 ≡ length ys = omega arith in
+      ap (λ z. z ∷ ys) (sym e) ∙ ap (λ zs. x ∷ zs)
+      (sym (ap (λ k. take k ys) l ∙ take_all (length ys) ys (omega arith)))
+
+  -- one of the first elements is one of the elements
+  pub among_first : (n : ℕ) (ys : List A) (y : A) → Among y (take n ys) → Among y ys
+  among_first zero ys y a = absurd a
+  among_first (suc n) [] y a = absurd a
+  among_first (suc n) (z ∷ ys) y (inl k) = inl k
+  among_first (suc n) (z ∷ ys) y (inr k) = inr (among_first n ys y k)
+
+-- some numbers are the first and those after it
+pub first_after : (xs : List ℕ) → 1 ≤ length xs → get_or xs 0 0 ∷ following xs ≡ xs
+first_after [] n = absurd (omega arith)
+first_after (y ∷ ys) n = sym (split_first (y ∷ ys) y n refl)
 
 -- nothing is found in a map without entries
 pub finds_none : {X : Type 0} (m : BTreeMap ℕ X) (x : ℕ) → m.entries ≡ [] → tree.get nat_cmp m x
@@ -51,3 +83,176 @@ is_equal x y e = grind (arith, nat_tests)
 -- the test for 0
 pub is_zero : (k : ℕ) → IsTrue (nat_eq k 0) ↔ (k ≡ 0)
 is_zero k = ((λ y. is_equal k 0 y), (λ e. eq-eqb k 0 e))
+
+-- ---- readings, one size further: what they leave goes on as they did. Serves `fairness.rt`.
+
+-- ---- one size further
+
+module _ (P : List ℕ → Type 0) (room : ℕ) (may : Spare) (rest : List ℕ) (x : ℕ) (xs : List ℕ) where
+  -- the first size is left out, or the list goes on with it, or it begins one
+  goes_apart : (free : Bool) → Goes P room may rest free (x ∷ xs)
+      → LeavesOut P room may rest free x xs ⊎ (TakesNext P room may rest x xs
+      ⊎ (IsTrue free × BeginsOne P room may x xs))
+  goes_apart free g = at rest free g
+    where
+      at : (rest : List ℕ) (free : Bool) → Goes P room may rest free (x ∷ xs)
+          → LeavesOut P room may rest free x xs ⊎ (TakesNext P room may rest x xs
+          ⊎ (IsTrue free × BeginsOne P room may x xs))
+      at rest free (leaves_out _ s g) = inl (s, g)
+      at _ free (goes_on {rest = r} _ g) = inr (inl record { rest = r; list_is = refl; goes = g })
+      at old _ (begins _ rest p g) = inr
+          (inr (refl, record { rest = rest; building = p; goes = g }))
+
+  by_on : (free : Bool) → TakesNext P room may rest x xs → Goes P room may rest free (x ∷ xs)
+  by_on free h = subst (λ r. Goes P room may r free (x ∷ xs)) (sym h.list_is) (goes_on x h.goes)
+
+  -- if another list may be begun
+  pub goes_free : (free : Bool) → free ≡ true → Goes P room may rest free (x ∷ xs)
+      ↔ (LeavesOut P room may rest free x xs ⊎ (TakesNext P room may rest x xs ⊎ BeginsOne P room
+      may x xs))
+  goes_free free e = (
+    (λ g. ⊎_elim inl (λ h. inr (⊎_elim inl (λ b. inr b.1) h)) (goes_apart free g)),
+    (λ k. ⊎_elim (λ l. leaves_out x l.0 l.1)
+        (λ h. ⊎_elim (by_on free) (λ b. subst (λ f. Goes P room may rest f (x ∷ xs)) (sym e)
+        (begins x b.rest b.building b.goes)) h) k),
+  )
+
+  -- if none may
+  pub goes_bound : (free : Bool) → free ≡ false → Goes P room may rest free (x ∷ xs)
+      ↔ (LeavesOut P room may rest free x xs ⊎ TakesNext P room may rest x xs)
+  goes_bound free e = (
+    (λ g. ⊎_elim inl (λ h. inr (⊎_elim (λ o. o) (λ b. absurd (true≢false (sym b.0 ∙ e))) h))
+        (goes_apart free g)),
+    (λ k. ⊎_elim (λ l. leaves_out x l.0 l.1) (by_on free) k),
+  )
+
+  -- nothing goes on with a size if nothing is left, or another size comes first
+  pub on_none : length rest < 1 → ¬ (TakesNext P room may rest x xs)
+  on_none n h = let same = ap length h.list_is in absurd (omega arith)
+
+  -- a list doesn't continue with a size other than its first
+  pub on_other : get_or rest 0 0 ≢ x → ¬ (TakesNext P room may rest x xs)
+  on_other ne h = ne (ap (λ ys. get_or ys 0 0) h.list_is)
+
+-- a list continues with its first size
+pub on_is : (P : List ℕ → Type 0) (room : ℕ) (may : Spare) (list : List ℕ) (x : ℕ) (xs : List ℕ)
+    (full : Bool) → 1 ≤ length list → get_or list 0 0 ≡ x → full ≡ is_full room (following list)
+    → Goes P room may (following list) full xs ↔ TakesNext P room may list x xs
+on_is P room may list x xs full n i e =
+    let split = sym (first_after list n) in (
+      (λ g. record {
+        rest = following list;
+        list_is = split ∙ ap (λ z. z ∷ following list) i;
+        goes = subst (λ f. Goes P room may (following list) f xs) e g;
+      }),
+      (λ h. let same = tail_same (sym h.list_is ∙ split) in
+          subst (λ f. Goes P room may (following list) f xs) (sym e)
+          (subst (λ r. Goes P room may r (is_full room r) xs) same h.goes)),
+    )
+  where
+    tail_same : {a b : ℕ} {ys zs : List ℕ} → a ∷ ys ≡ b ∷ zs → ys ≡ zs
+    tail_same e = cc
+
+-- a spare row is left out
+pub out_is : (P : List ℕ → Type 0) (room : ℕ) (may less : Spare) (rest : List ℕ) (free : Bool)
+    (x : ℕ) (xs : List ℕ) → IsSpare may x → less ≡ without_spare may x
+    → Goes P room less rest free xs ↔ LeavesOut P room may rest free x xs
+out_is P room may less rest free x xs s e = (
+  (λ g. (s, subst (λ m. Goes P room m rest free xs) e g)),
+  (λ h. subst (λ m. Goes P room m rest free xs) (sym e) h.1),
+)
+
+-- ---- readings
+
+module _ (lists : List (List ℕ)) (room : ℕ) (sizes : List ℕ) where
+  some_left : (rs qs : List SizeReading) → SomeGoes lists room rs sizes
+      → SomeGoes lists room (rs ++ qs) sizes
+  some_left [] qs h = absurd h
+  some_left (r ∷ rs) qs (inl g) = inl g
+  some_left (r ∷ rs) qs (inr g) = inr (some_left rs qs g)
+
+  some_right : (rs qs : List SizeReading) → SomeGoes lists room qs sizes
+      → SomeGoes lists room (rs ++ qs) sizes
+  some_right [] qs h = h
+  some_right (r ∷ rs) qs h = inr (some_right rs qs h)
+
+  some_apart : (rs qs : List SizeReading) → SomeGoes lists room (rs ++ qs) sizes
+      → SomeGoes lists room rs sizes ⊎ SomeGoes lists room qs sizes
+  some_apart [] qs h = inr h
+  some_apart (r ∷ rs) qs (inl g) = inl (inl g)
+  some_apart (r ∷ rs) qs (inr g) = ⊎_elim (λ k. inl (inr k)) (λ k. inr k) (some_apart rs qs g)
+
+  -- one reading more
+  pub some_pushed : (rs new : List SizeReading) (r : SizeReading) → new ≡ rs ++ r ∷ []
+      → SomeGoes lists room new sizes ↔ (SomeGoes lists room rs sizes ⊎ GoesFrom lists room r sizes)
+  some_pushed rs new r e =
+      subst (λ qs. SomeGoes lists room qs sizes ↔ (SomeGoes lists room rs sizes ⊎ GoesFrom lists
+      room r sizes)) (sym e) (
+        (λ h. ⊎_elim inl (λ k. ⊎_elim inr (λ n. absurd n) k) (some_apart rs (r ∷ []) h)),
+        (λ h. ⊎_elim (some_left rs (r ∷ [])) (λ g. some_right rs (r ∷ []) (inl g)) h),
+      )
+
+  -- the readings up to one more
+  pub some_more : (rs : List SizeReading) (i : ℕ) (default : SizeReading) → i < length rs
+      → SomeGoes lists room (take (i + 1) rs) sizes
+      ↔ (SomeGoes lists room (take i rs) sizes ⊎ GoesFrom lists room (get_or rs i default) sizes)
+  some_more rs i default h = some_pushed (take i rs) (take (i + 1) rs) (get_or rs i default)
+      (take_more rs i default h)
+
+  -- readings that leave the same go on in the same way
+  pub reached_goes : (rs : List SizeReading) (r : SizeReading) → IsLeftBefore lists rs r
+      → GoesFrom lists room r sizes → SomeGoes lists room rs sizes
+  reached_goes [] r h g = absurd h
+  reached_goes (q ∷ rs) r (inl s) g =
+      inl (
+      subst (λ m. Goes (λ l. Among l lists) room m (rest_at lists q.list q.at) q.free sizes)
+      (sym s.may)
+      (subst (λ ys. Goes (λ l. Among l lists) room r.may ys q.free sizes) (sym s.rest)
+      (subst (λ f. Goes (λ l. Among l lists) room r.may (rest_at lists r.list r.at) f sizes)
+      (sym s.free) g))
+      )
+  reached_goes (q ∷ rs) r (inr h) g = inr (reached_goes rs r h g)
+
+  -- a reading that leaves the same as another adds nothing
+  pub reached_added : (rs : List SizeReading) (r : SizeReading) → IsLeftBefore lists rs r
+      → SomeGoes lists room rs sizes ↔ (SomeGoes lists room rs sizes ⊎ GoesFrom lists room r sizes)
+  reached_added rs r h = (inl, (λ k. ⊎_elim (λ a. a) (reached_goes rs r h) k))
+
+-- at the end of the sizes each reading will do
+pub end_read : (lists : List (List ℕ)) (room : ℕ) (rs : List SizeReading) (rest : List ℕ) (empty : Bool)
+    → length rest < 1
+    → empty ≡ nat_eq (length rs) 0 → IsTrue (not empty) ↔ SomeGoes lists room rs rest
+end_read lists room rs (x ∷ rest) empty n e = absurd (omega arith)
+end_read lists room [] [] empty n e = (
+  (λ y. absurd (true≢false (sym y ∙ ap not e))),
+  (λ h. absurd h),
+)
+end_read lists room (r ∷ rs) [] empty n e =
+    let some : nat_eq (length (r ∷ rs)) 0 ≡ false = grind (arith, nat_tests) in
+    ((λ y. inl all_read), (λ h. ap not (e ∙ some)))
+
+-- ---- readings that leave the same
+
+module _ (lists : List (List ℕ)) (r : SizeReading) where
+  -- if the reading at some place leaves the same, one of the readings does
+  pub reached_at : (rs : List SizeReading) (i : ℕ) (default : SizeReading) → i < length rs
+      → LeavesSame lists (get_or rs i default) r → IsLeftBefore lists rs r
+  reached_at [] i default h s = absurd (omega arith)
+  reached_at (p ∷ rs) zero default h s = inl s
+  reached_at (p ∷ rs) (suc i) default h s = inr (reached_at rs i default (omega arith) s)
+
+  reached_apart : (rs : List SizeReading) (q : SizeReading) → IsLeftBefore lists (rs ++ q ∷ []) r
+      → IsLeftBefore lists rs r ⊎ LeavesSame lists q r
+  reached_apart [] q (inl s) = inr s
+  reached_apart [] q (inr n) = absurd n
+  reached_apart (p ∷ rs) q (inl s) = inl (inl s)
+  reached_apart (p ∷ rs) q (inr h) = ⊎_elim (λ k. inl (inr k)) inr (reached_apart rs q h)
+
+  -- if none of the first i readings leaves the same and the next doesn't, none of the first i + 1
+  -- does
+  pub reached_more : (rs : List SizeReading) (i : ℕ) (default : SizeReading) → i < length rs
+      → ¬ (IsLeftBefore lists (take i rs) r) → ¬ (LeavesSame lists (get_or rs i default) r)
+      → ¬ (IsLeftBefore lists (take (i + 1) rs) r)
+  reached_more rs i default h none other k =
+      ⊎_elim none other (reached_apart (take i rs) (get_or rs i default)
+      (subst (λ qs. IsLeftBefore lists qs r) (take_more rs i default h) k))

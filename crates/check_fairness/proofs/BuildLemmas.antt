@@ -7,15 +7,9 @@ use Rattle.std.proofs.lemmas.Bool.{cases_lt}
 use Rattle.std.proofs.lemmas.Bool.Decides.{nat_tests}
 use Rattle.std.proofs.lemmas.Grind.{flat_map-append}
 use Rattle.std.proofs.lemmas.List.FromFn.{map-range_with_len_more}
-use Rattle.ist_core.specs.Arithmetic.{degree, part_len, part_lens}
-use Rattle.ist_core.specs.RowLayout.{inner_words}
-use Rattle.ist_core.specs.Shapes.{shape, share_from}
-use Rattle.ist_core.specs.Elements.{Among}
-use Rattle.ist_core.specs.Fairness.{IsBuild, build_whole, build_top, build_part}
-use Rattle.ist_core.proofs.ElementLemmas.{among-append, among_left, among_right}
-use Rattle.ist_core.proofs.RootLemmas.{least_degree-le}
-use Rattle.ist_core.proofs.PartLemmas.{part_len-long, part_len-short}
-use Rattle.ist_core.proofs.ShapeLemmas.{shape_many}
+use Rattle.ist_core.specs.WordTerms.{degree, part_len, part_lens, inner_words, shape, share_from}
+use Rattle.ist_core.specs.LogTerms.{Among, IsBuild, build_whole, build_top, build_part}
+use Rattle.ist_core.proofs.AllWordLemmas.{among-append, among_left, among_right, least_degree-le, part_len-long, part_len-short, shape_many}
 use Rattle.check_fairness.specs.Answers.{Holds}
 use Rattle.check_fairness.specs.Builds.{lists_of, AddsList, AddsLists, BeginsWith, HasShapes}
 
@@ -33,8 +27,7 @@ first_shapes_more n j =
 
 -- the shape of one more part
 pub shape_step : (n j len : ℕ) (base mid new : List ℕ) → mid ≡ base ++ first_shapes n j
-    → new ≡ mid ++ shape len
-    → len ≡ part_len n j → new ≡ base ++ first_shapes n (j + 1)
+    → new ≡ mid ++ shape len → len ≡ part_len n j → new ≡ base ++ first_shapes n (j + 1)
 shape_step n j len base mid new e i l =
     i ∙ ap (λ xs. xs ++ shape len) e ∙ ap (λ k. (base ++ first_shapes n j) ++ shape k) l
     ∙ append_assoc base (first_shapes n j) (shape (part_len n j))
@@ -55,8 +48,7 @@ shape_whole n d j old pushed out h e i p o =
 -- a part is as long as the first one or as the last one
 part_first_or_last : (k j : ℕ) → j < degree k
     → (part_len k j ≡ part_len k 0) ⊎ (part_len k j ≡ part_len k (degree k - 1))
-part_first_or_last k j h =
-    ⊎_elim
+part_first_or_last k j h = ⊎_elim
     (λ (l : j < k % degree k). inl (part_len-long k j l ∙ sym (part_len-long k 0 (omega arith))))
     (λ (l : k % degree k ≤ j). inr (part_len-short k j l
     ∙ sym (part_len-short k (degree k - 1) (omega arith))))
@@ -72,11 +64,9 @@ listed_build k l h = small (nat_lt k 2) refl h
     large true i n (inl x) = subst (IsBuild k) (sym x) (build_whole n (grind (arith, nat_tests)))
     large true i n (inr x) = absurd x
     large false i n (inl x) = subst (IsBuild k) (sym x) (build_top (grind (arith, nat_tests)))
-    large false i n (inr (inl x)) =
-        let least = least_degree-le k in subst (IsBuild k) (sym x)
+    large false i n (inr (inl x)) = let least = least_degree-le k in subst (IsBuild k) (sym x)
         (build_part 0 (grind (arith, nat_tests)) (omega arith))
-    large false i n (inr (inr (inl x))) =
-        let least = least_degree-le k in subst (IsBuild k) (sym x)
+    large false i n (inr (inr (inl x))) = let least = least_degree-le k in subst (IsBuild k) (sym x)
         (build_part (degree k - 1) (grind (arith, nat_tests)) (omega arith))
     large false i n (inr (inr (inr x))) = absurd x
 
@@ -111,9 +101,7 @@ begins_same xs m h = (h, refl)
 
 begins_both : (old mid new : List (List ℕ)) → BeginsWith old mid → BeginsWith mid new
     → BeginsWith old new
-begins_both old mid new a b m h =
-    let first = a m h in
-    let next = b m first.0 in
+begins_both old mid new a b m h = let first = a m h in let next = b m first.0 in
     (next.0, next.1 ∙ first.1)
 
 begins_pushed : (xs new : List (List ℕ)) (n : List ℕ) → new ≡ xs ++ n ∷ [] → BeginsWith xs new
@@ -149,18 +137,14 @@ lists_few : (k : ℕ) → k < 2 → [] ≡ lists_of k
 lists_few k n = let a : nat_lt k 2 ≡ true = grind (arith, nat_tests) in rw a refl
 
 lists_small : (k : ℕ) → 2 ≤ k → k < share_from → shape k ∷ [] ≡ lists_of k
-lists_small k n m =
-    let a : nat_lt k 2 ≡ false = grind (arith, nat_tests) in
-    let b : nat_lt k share_from ≡ true = grind (arith, nat_tests) in
-    rw (a, b) refl
+lists_small k n m = let a : nat_lt k 2 ≡ false = grind (arith, nat_tests) in
+    let b : nat_lt k share_from ≡ true = grind (arith, nat_tests) in rw (a, b) refl
 
 lists_large : (k : ℕ) → 2 ≤ k → share_from ≤ k
     → (inner_words (degree k) ∷ []) ∷ shape (part_len k 0) ∷ shape (part_len k (degree k - 1)) ∷ []
     ≡ lists_of k
-lists_large k n m =
-    let a : nat_lt k 2 ≡ false = grind (arith, nat_tests) in
-    let b : nat_lt k share_from ≡ false = grind (arith, nat_tests) in
-    rw (a, b) refl
+lists_large k n m = let a : nat_lt k 2 ≡ false = grind (arith, nat_tests) in
+    let b : nat_lt k share_from ≡ false = grind (arith, nat_tests) in rw (a, b) refl
 
 -- of fewer than two keys there are none
 pub adds_none : (k : ℕ) → k < 2 → (lists : List (List ℕ)) → AddsLists lists lists k
@@ -187,28 +171,23 @@ pub adds_three : (k d first last : ℕ) (old mid next new : List (List ℕ)) →
     → d ≡ degree k → first ≡ part_len k 0 → last ≡ part_len k (d - 1)
     → AddsList old mid (inner_words d ∷ []) → AddsList mid next (shape first)
     → AddsList next new (shape last) → AddsLists old new k
-adds_three k d first last old mid next new n m e f g top one two =
-    record {
-      among = λ l.
-          subst (λ (xs : List (List ℕ)). Among l new ↔ (Among l old ⊎ Among l xs))
-          (same ∙ lists_large k n m) (
-            (λ h.
-                ⊎_elim
-                (λ x.
-                ⊎_elim (λ y. ⊎_elim inl (λ t. inr (inl t)) ((top.among l).0 y))
-                (λ s. inr (inr (inl s))) ((one.among l).0 x))
-                (λ s. inr (inr (inr (inl s)))) ((two.among l).0 h)),
-            (λ h. ⊎_elim (λ x. (two.among l).1 (inl ((one.among l).1 (inl ((top.among l).1 (inl x))))))
-                (listed l) h),
-          );
-      following = begins_both old next new (begins_both old mid next top.following one.following) two.following;
-    }
+adds_three k d first last old mid next new n m e f g top one two = record {
+  among = λ l. subst (λ (xs : List (List ℕ)). Among l new ↔ (Among l old ⊎ Among l xs))
+      (same ∙ lists_large k n m) (
+        (λ h. ⊎_elim
+            (λ x. ⊎_elim (λ y. ⊎_elim inl (λ t. inr (inl t)) ((top.among l).0 y))
+            (λ s. inr (inr (inl s))) ((one.among l).0 x))
+            (λ s. inr (inr (inr (inl s)))) ((two.among l).0 h)),
+        (λ h. ⊎_elim (λ x. (two.among l).1 (inl ((one.among l).1 (inl ((top.among l).1 (inl x))))))
+            (listed l) h),
+      );
+  following = begins_both old next new (begins_both old mid next top.following one.following) two.following;
+}
   where
     same : (inner_words d ∷ []) ∷ shape first ∷ shape last ∷ []
         ≡ (inner_words (degree k) ∷ []) ∷ shape (part_len k 0)
         ∷ shape (part_len k (degree k - 1)) ∷ []
-    same =
-        ap (λ x. (inner_words d ∷ []) ∷ shape x ∷ shape last ∷ []) f
+    same = ap (λ x. (inner_words d ∷ []) ∷ shape x ∷ shape last ∷ []) f
         ∙ ap (λ x. (inner_words d ∷ []) ∷ shape (part_len k 0) ∷ shape x ∷ []) g
         ∙ ap (λ x. (inner_words x ∷ []) ∷ shape (part_len k 0) ∷ shape (part_len k (x - 1)) ∷ []) e
 

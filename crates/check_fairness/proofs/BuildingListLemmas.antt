@@ -2,18 +2,16 @@
 use Rattle.std.proofs.Common.{◌≡◌, ◌≢◌, ◌↔◌, ◌∙◌, ◌+◌, ◌-◌, ◌<◌, ◌≤◌, ◌⊎◌, Bool, ℕ, zero, suc, List, [], ◌∷◌, ◌++◌, length, get_or, take, drop, sym, ap, subst, inl, inr, ⊎_elim, arith}
 use Rattle.std.specs.Prelude.{slice_index_or}
 use Rattle.std.proofs.lemmas.List.{take_more, take_all}
-use Rattle.ist_core.specs.Elements.{Among}
-use Rattle.ist_core.proofs.ElementLemmas.{among-append, among_left, among_right}
+use Rattle.ist_core.specs.LogTerms.{Among}
+use Rattle.ist_core.proofs.AllWordLemmas.{among-append, among_left, among_right}
 use Rattle.check_fairness.specs.declared.spares.Spare.{Spare}
 use Rattle.check_fairness.specs.Searching.{Goes, is_full, TakesNext, BeginsOne}
 use Rattle.check_fairness.specs.Readings.{rest_at, BeginsAmong}
-use Rattle.check_fairness.proofs.AfterLemmas.{following}
-use Rattle.check_fairness.proofs.ReadingLemmas.{on_none, on_other, on_is}
+use Rattle.check_fairness.proofs.AnswerLemmas.{following, on_none, on_other, on_is}
 
 -- after the first of what is left
 pub rest_after : (lists : List (List ℕ)) (i n : ℕ) (left : List ℕ) → left ≡ rest_at lists i n
-    → 1 ≤ length left
-    → following left ≡ rest_at lists i (n + 1)
+    → 1 ≤ length left → following left ≡ rest_at lists i (n + 1)
 rest_after lists i n left e some = ap following e ∙ at n (slice_index_or lists i [])
     (subst (λ ys. 1 ≤ length ys) e some)
   where
@@ -79,11 +77,9 @@ module _ (lists : List (List ℕ)) (room : ℕ) (may : Spare) (x : ℕ) (xs : Li
       → BeginsAmong lists (take (i + 1) lists) room may x xs
       ↔ (BeginsAmong lists (take i lists) room may x xs ⊎ TakesNext (λ l. Among l lists) room may
       (rest_at lists i 0) x xs)
-  begins_more i h =
-      let here = get_or lists i [] in
+  begins_more i h = let here = get_or lists i [] in
       let whole : take (i + 1) lists ≡ take i lists ++ here ∷ [] = take_more lists i [] h in (
-        (λ b.
-            ⊎_elim (λ a. inl record { rest = b.rest; listed = a; goes = b.goes })
+        (λ b. ⊎_elim (λ a. inl record { rest = b.rest; listed = a; goes = b.goes })
             (λ a. inr record {
               rest = b.rest;
               list_is = ⊎_elim (λ e. sym e) (λ n. absurd n) a;
@@ -91,8 +87,7 @@ module _ (lists : List (List ℕ)) (room : ℕ) (may : Spare) (x : ℕ) (xs : Li
             })
             (among-append (x ∷ b.rest) (take i lists) (here ∷ []) (subst (Among (x ∷ b.rest)) whole
             b.listed))),
-        (λ k.
-            ⊎_elim
+        (λ k. ⊎_elim
             (λ b. record {
               rest = b.rest;
               listed = subst (Among (x ∷ b.rest)) (sym whole)
@@ -103,8 +98,7 @@ module _ (lists : List (List ℕ)) (room : ℕ) (may : Spare) (x : ℕ) (xs : Li
               rest = g.rest;
               listed = subst (Among (x ∷ g.rest)) (sym whole)
                   (among_right (x ∷ g.rest) (take i lists) (here ∷ []) (inl (sym g.list_is)));
-              goes =
-                  g.goes;
+              goes = g.goes;
             })
             k),
       )

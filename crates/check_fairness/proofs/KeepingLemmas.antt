@@ -1,16 +1,18 @@
 -- What is kept of readings, and one size further. Serves `keeping.rt`.
-use Rattle.std.proofs.Common.{◌≡◌, ◌↔◌, ◌∙◌, ◌⊎◌, ◌+◌, ◌<◌, ◌≤◌, true, ℕ, zero, suc, List, [], ◌∷◌, ◌++◌, length, map, take, Vec, Global, refl, sym, ap, subst, inl, inr, ⊎_elim, append_assoc, arith, length-append}
+use Rattle.std.proofs.Common.{◌≡◌, ◌↔◌, ◌∙◌, ◌⊎◌, ◌+◌, ◌<◌, ◌≤◌, true, ℕ, zero, suc, List, [], ◌∷◌, ◌++◌, length, map, take, Vec, Global, refl, sym, ap, subst, inl, inr, ⊎_elim, append_assoc, arith, length-append, Bool, false, not, nat_eq, IsTrue, Some, None, append-nil, drop}
 use Rattle.std.specs.Prelude.{slice_index_or}
-use Rattle.std.proofs.lemmas.List.{length-take-le, take-append-le, take_all, take-map, length-map}
+use Rattle.std.proofs.lemmas.List.{length-take-le, take-append-le, take_all, take-map, length-map, take-append-drop}
 use Rattle.std.specs.BTreeMap.{BTreeMap}
-use Rattle.ist_core.specs.Elements.{Among}
+use Rattle.ist_core.specs.LogTerms.{Among}
 use Rattle.check_fairness.specs.declared.keeping.KeptReadings.{KeptReadings}
 use Rattle.check_fairness.specs.declared.readings.SizeReading.{SizeReading}
 use Rattle.check_fairness.specs.Searching.{Goes, all_spare}
 use Rattle.check_fairness.specs.Readings.{SomeGoes, AreReadings}
 use Rattle.check_fairness.specs.Builds.{BeginsWith}
-use Rattle.check_fairness.specs.Keeping.{any_room, left_at, IsKept, KnowsReadings}
-use Rattle.check_fairness.proofs.AnswerLemmas.{finds_none, iff_trans}
+use Rattle.check_fairness.specs.Keeping.{any_room, left_at, IsKept, KnowsReadings, CanBeRead, GoOnFrom, AreKeptIn}
+use Rattle.check_fairness.proofs.AnswerLemmas.{finds_none, iff_trans, never, end_read}
+use Rattle.std.specs.Ordering.{nat_cmp}
+use Rattle.std.specs.BTreeMap as tree
 
 -- ---- what was kept at a place
 
@@ -60,14 +62,12 @@ none_kept all lists empty caller kept e = absurd (cc (sym (finds_none all caller
 -- what was kept is right with more lists too
 kept_stays : (old new : List (List ℕ)) (kept : KeptReadings) → BeginsWith old new → IsKept old kept
     → IsKept new kept
-kept_stays old new kept front k =
-    let same = front kept.lists k.within in
-    record {
-      within = same.0;
-      long = k.long;
-      each = λ n h. subst (λ ls. AreReadings ls any_room (take n kept.sizes.items) (left_at kept n)) (sym same.1)
-          (k.each n h);
-    }
+kept_stays old new kept front k = let same = front kept.lists k.within in record {
+  within = same.0;
+  long = k.long;
+  each = λ n h. subst (λ ls. AreReadings ls any_room (take n kept.sizes.items) (left_at kept n)) (sym same.1)
+      (k.each n h);
+}
 
 -- what is kept stays right when lists are added at the end
 pub readings_stay : (all : BTreeMap ℕ KeptReadings) (old new : List (List ℕ)) → BeginsWith old new
@@ -108,8 +108,7 @@ module _ (lists : List (List ℕ)) where
       ∙ length-take-le n old.sizes.items fits in
       record {
         within = let w : old.lists ≤ length lists = k.within in omega arith;
-        long =
-            let more : length old.left.items ≡ length old.sizes.items + 1 = k.long in
+        long = let more : length old.left.items ≡ length old.sizes.items + 1 = k.long in
             let all : length new.left.items ≡ n + 1 = ap length left
             ∙ length-take-le (n + 1) old.left.items (omega arith) in
             omega arith;
@@ -136,21 +135,17 @@ module _ (lists : List (List ℕ)) where
       ↔ SomeGoes (take old.lists lists) any_room (left_at old (length old.sizes.items))
       (size ∷ more))
       → IsKept lists old → IsKept lists new
-  kept_more old new size next count sizes left r k =
-      record {
-        within = let w : old.lists ≤ length lists = k.within in omega arith;
-        long =
-            let more : length old.left.items ≡ length old.sizes.items + 1 = k.long in
-            let all : length new.left.items ≡ length old.left.items + 1 = ap length left
-            ∙ length-append old.left.items (next ∷ []) in
-            let longer : length new.sizes.items ≡ length old.sizes.items + 1 = many in
-            omega arith;
-        each = λ i h.
-            let longer : length new.sizes.items ≡ length old.sizes.items + 1 = many in
-            let fits : i ≤ length old.sizes.items + 1 = omega arith in
-            subst (λ o. AreReadings (take o lists) any_room (take i new.sizes.items) (left_at new i)) (sym count)
-            (⊎_elim (before i) last (up_to i len fits));
-      }
+  kept_more old new size next count sizes left r k = record {
+    within = let w : old.lists ≤ length lists = k.within in omega arith;
+    long = let more : length old.left.items ≡ length old.sizes.items + 1 = k.long in
+        let all : length new.left.items ≡ length old.left.items + 1 = ap length left
+        ∙ length-append old.left.items (next ∷ []) in
+        let longer : length new.sizes.items ≡ length old.sizes.items + 1 = many in omega arith;
+    each = λ i h. let longer : length new.sizes.items ≡ length old.sizes.items + 1 = many in
+        let fits : i ≤ length old.sizes.items + 1 = omega arith in
+        subst (λ o. AreReadings (take o lists) any_room (take i new.sizes.items) (left_at new i)) (sym count)
+        (⊎_elim (before i) last (up_to i len fits));
+  }
     where
       len : ℕ
       len = length old.sizes.items
@@ -173,8 +168,7 @@ module _ (lists : List (List ℕ)) where
           (subst (λ xs. AreReadings known any_room xs (left_at old i)) (sym whole) (k.each i h))
 
       last : {i : ℕ} → i ≡ len + 1 → AreReadings known any_room (take i new.sizes.items) (left_at new i)
-      last {i} e =
-          let longer : length new.sizes.items ≡ length old.sizes.items + 1 = many in
+      last {i} e = let longer : length new.sizes.items ≡ length old.sizes.items + 1 = many in
           let here : i ≡ length old.sizes.items + 1 = e in
           let whole : take i new.sizes.items ≡ old.sizes.items ++ size ∷ [] =
           take_all i new.sizes.items (omega arith) ∙ sizes in
@@ -186,3 +180,71 @@ module _ (lists : List (List ℕ)) where
           subst (AreReadings known any_room (take i new.sizes.items)) (sym same)
           (subst (λ xs. AreReadings known any_room xs next.items) (sym whole)
           (left_on known old.sizes.items size (left_at old len) next.items r all))
+
+-- ---- which sizes go on from what is kept, and when that is as much as all lists allow. Serves `keeping.rt`.
+
+-- there is a reading exactly if the sizes so far can be read
+pub some_left : (lists : List (List ℕ)) (before sizes : List ℕ) (left next : List SizeReading)
+    → ((more : List ℕ) → SomeGoes lists any_room next more
+    ↔ SomeGoes lists any_room left (sizes ++ more))
+    → AreReadings lists any_room before left
+    → SomeGoes lists any_room next [] ↔ CanBeRead lists (before ++ sizes)
+some_left lists before sizes left next r k =
+    subst (λ xs. SomeGoes lists any_room next [] ↔ CanBeRead lists (before ++ xs))
+    (append-nil sizes) (iff_trans (r []) (k (sizes ++ [])))
+
+-- ---- what goes on
+
+module _ (all : BTreeMap ℕ KeptReadings) (lists : List (List ℕ)) (caller : ℕ) (sizes : List ℕ) where
+  -- nothing goes on if nothing is kept for the caller
+  pub none_goes_on : tree.get nat_cmp all caller ≡ None → IsTrue false ↔ GoOnFrom all lists caller sizes
+  none_goes_on none = never (λ g. clash g.kept (sym none ∙ g.found))
+    where
+      clash : (kept : KeptReadings) → None ≡ Some kept → ⊥
+      clash kept h = cc
+
+  -- what is kept for the caller decides
+  pub kept_goes_on : (kept : KeptReadings) (b : Bool) → tree.get nat_cmp all caller ≡ Some kept
+      → (IsTrue b ↔ CanBeRead (take kept.lists lists) sizes)
+      → IsTrue b ↔ GoOnFrom all lists caller sizes
+  kept_goes_on kept b found i = (
+    (λ y. record { kept = kept; found = found; read = i.0 y }),
+    (λ g. let same : g.kept ≡ kept = cc (sym g.found ∙ found) in
+        i.1 (subst (λ (k : KeptReadings). CanBeRead (take k.lists lists) sizes) same g.read)),
+  )
+
+  -- the sizes after those that were kept are read on from what is left there
+  pub rest_goes_on : (kept : KeptReadings) (known : List (List ℕ)) (n : ℕ) (left next : List SizeReading)
+      (empty : Bool) → tree.get nat_cmp all caller ≡ Some kept → IsKept lists kept
+      → known ≡ take kept.lists lists → left ≡ left_at kept n → n ≤ length kept.sizes.items
+      → take n kept.sizes.items ≡ take n sizes → empty ≡ nat_eq (length next) 0
+      → ((more : List ℕ) → SomeGoes known any_room next more
+      ↔ SomeGoes known any_room left (drop n sizes ++ more))
+      → IsTrue (not empty) ↔ GoOnFrom all lists caller sizes
+  rest_goes_on kept known n left next empty found k few is within same e reads =
+      let here : AreReadings known any_room (take n sizes) left = rw (few, is, sym same) (k.each n within) in
+      let read : SomeGoes known any_room next [] ↔ CanBeRead known sizes =
+      rw (take-append-drop n sizes) at (some_left known (take n sizes) (drop n sizes) left next reads here) in
+      kept_goes_on kept (not empty) found
+      (rw few at (iff_trans (end_read known any_room next [] empty (omega arith) e) read))
+
+-- ---- what is enough
+
+module _ (lists : List (List ℕ)) where
+  -- if one goes on, the sizes can be read
+  pub kept_enough : (sizes : List ℕ) (kept : KeptReadings) (rs : List SizeReading) (empty : Bool)
+      → kept.sizes.items ≡ sizes → rs ≡ left_at kept (length sizes) → empty ≡ nat_eq (length rs) 0
+      → empty ≡ false → IsKept lists kept → AreKeptIn lists sizes kept
+  kept_enough sizes kept rs empty is left e not_empty k = let known = take kept.lists lists in
+      let long : length kept.sizes.items ≡ length sizes = ap length is in
+      let whole : take (length sizes) kept.sizes.items ++ [] ≡ sizes =
+      append-nil (take (length sizes) kept.sizes.items)
+      ∙ take_all (length sizes) kept.sizes.items (omega arith) ∙ is in
+      let some : SomeGoes known any_room rs [] =
+      (end_read known any_room rs [] empty (omega arith) e).0 (ap not not_empty) in
+      record {
+        sizes_are = is;
+        enough = λ _. subst (CanBeRead known) whole
+            ((k.each (length sizes) (omega arith) []).0
+            (subst (λ qs. SomeGoes known any_room qs []) left some));
+      }

@@ -1,12 +1,8 @@
 pub mod AnswerLemmas
-pub mod AfterLemmas
 pub mod SpareLemmas
-pub mod FairLemmas
 pub mod AddedLemmas
-pub mod ReadingLemmas
 pub mod BuildingListLemmas
 pub mod KeepingLemmas
-pub mod GoingOnLemmas
 pub mod RoomLemmas
 pub mod ListLemmas
 pub mod BuildLemmas

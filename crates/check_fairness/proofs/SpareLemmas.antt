@@ -1,18 +1,16 @@
 -- Which rows may still be held in addition to the builds. Serves `fairness.rt`.
 use Rattle.std.proofs.Common.{◌≡◌, ◌↔◌, ◌∙◌, ◌≢◌, ◌≤◌, ◌==◌, ◌&&◌, Bool, true, false, not, ℕ, IsTrue, List, [], ◌∷◌, length, get_or, refl, sym, ap, subst, inl, inr, ⊎_elim, arith}
 use Rattle.std.proofs.lemmas.Bool.Decides.{nat_tests}
-use Rattle.ist_core.specs.Elements.{Among, Each}
-use Rattle.ist_core.specs.Fairness.{spare_sizes}
+use Rattle.ist_core.specs.LogTerms.{Among, Each, spare_sizes}
 use Rattle.check_fairness.specs.declared.spares.Spare.{Spare}
 use Rattle.check_fairness.specs.Searching.{IsSpare, AreSpare, without_spare, all_spare}
-use Rattle.check_fairness.proofs.AfterLemmas.{following, first_after}
+use Rattle.check_fairness.proofs.AnswerLemmas.{following, first_after}
 
 -- a flag is cleared by the size of its own kind, and by no other
 cleared : (b : Bool) (x kind : ℕ) → IsTrue (b && not (x == kind)) → IsTrue b × (x ≢ kind)
 cleared true x kind e = (
   refl,
-  λ i. let k : (x == kind) ≡ true = grind (arith, nat_tests) in clash
-      (x == kind) k e,
+  λ i. let k : (x == kind) ≡ true = grind (arith, nat_tests) in clash (x == kind) k e,
 )
   where
     clash : (b : Bool) → b ≡ true → not b ≡ true → ⊥
@@ -51,10 +49,8 @@ module _ (may : Spare) (x y : ℕ) where
 pub each_before : (may : Spare) (x : ℕ) (ys : List ℕ) → Each (IsSpare (without_spare may x)) ys
     → Each (IsSpare may) ys × ¬ (Among x ys)
 each_before may x [] h = (tt, λ a. a)
-each_before may x (y ∷ ys) h =
-    let k = spare_before may x y h.0 in
-    let rest = each_before may x ys h.1 in
-    ((k.0, rest.0), λ a. ⊎_elim (λ e. k.1 (sym e)) rest.1 a)
+each_before may x (y ∷ ys) h = let k = spare_before may x y h.0 in
+    let rest = each_before may x ys h.1 in ((k.0, rest.0), λ a. ⊎_elim (λ e. k.1 (sym e)) rest.1 a)
 
 -- sizes that differ from x may still be held after x
 pub each_after : (may : Spare) (x : ℕ) (ys : List ℕ) → ¬ (Among x ys) → Each (IsSpare may) ys
@@ -62,8 +58,7 @@ pub each_after : (may : Spare) (x : ℕ) (ys : List ℕ) → ¬ (Among x ys) →
 each_after may x [] n h = tt
 each_after may x (y ∷ ys) n h = (
   spare_after may x y (λ e. n (inl (sym e))) h.0,
-  each_after may x ys
-      (λ a. n (inr a)) h.1,
+  each_after may x ys (λ a. n (inr a)) h.1,
 )
 
 -- sizes of rows that may be held are the size of a first one, and those of others that may be held
@@ -78,8 +73,7 @@ module _ (may : Spare) (xs : List ℕ) (some : 1 ≤ length xs) where
 
   -- if the first size is a spare row's, the sizes are spare exactly if the others are after it
   pub spare_first : (less : Spare) → IsSpare may (get_or xs 0 0)
-      → less ≡ without_spare may (get_or xs 0 0)
-      → AreSpare less (following xs) ↔ AreSpare may xs
+      → less ≡ without_spare may (get_or xs 0 0) → AreSpare less (following xs) ↔ AreSpare may xs
   spare_first less is e = (
     (λ h. subst (AreSpare may) (first_after xs some)
         (spare_apart.1 (is, subst (λ m. AreSpare m (following xs)) e h))),

@@ -6,10 +6,9 @@ use Rattle.std.proofs.lemmas.Grind.{common_steps}
 use Rattle.std.specs.Ordering.{nat_cmp}
 use Rattle.std.specs.BTreeMap.{is_at}
 use Rattle.std.specs.BTreeSet.{BTreeSet, contains}
-use Rattle.ist_core.specs.Shapes.{share_from}
-use Rattle.ist_core.specs.Snapshots.{Snapshot}
-use Rattle.ist_core.specs.Rebuilding.{IsFinishedWith}
-use Rattle.ist_core.specs.Fairness.{IsBuild, IsBuilding}
+use Rattle.ist_core.specs.WordTerms.{share_from}
+use Rattle.ist_core.specs.LogTerms.{Snapshot, IsBuild, IsBuilding}
+use Rattle.ist_core.specs.TreeTerms.{IsFinishedWith}
 use Rattle.check_fairness.specs.Answers.{Holds}
 use Rattle.check_fairness.specs.Targets.{HasFinishedTarget, GainsKeys}
 use Rattle.check_fairness.specs.Knowing.{KnowsLists}
@@ -28,8 +27,7 @@ held_after old new k q u = at (eqb_tells q k)
     at : ◌⊎◌ ((eqb q k ≡ true) × (q ≡ k)) ((eqb q k ≡ false) × (q ≢ k)) → Holds new q
         ↔ (Holds old q ⊎ (q ≡ k))
     at (inl e) = let same = e.1 in ((λ h. inr same), (λ h. grind (arith, common_steps, u)))
-    at (inr e) =
-        let other : contains nat_cmp new q ≡ contains nat_cmp old q = let ne = e.1 in grind
+    at (inr e) = let other : contains nat_cmp new q ≡ contains nat_cmp old q = let ne = e.1 in grind
         (arith, common_steps, u) in
         ((λ h. inl (sym other ∙ h)), (λ s. ⊎_elim (λ h. other ∙ h) (λ is. absurd (e.1 is)) s))
 
@@ -52,38 +50,34 @@ building_of t l b = (
 
 is_building : (t : Snapshot) (l : List ℕ) (k : ℕ) → HasFinishedTarget t k → IsBuild k l
     → IsBuilding t l
-is_building t l k h b =
-    record {
-      rebuild = h.targeted.rebuild;
-      row = h.targeted.of.row;
-      published = h.targeted.of.published;
-      started = h.targeted.started;
-      k = k;
-      finished = subst (λ n. IsFinishedWith t n k) (sym h.targeted.of.target_is) h.finished;
-      build = b;
-    }
+is_building t l k h b = record {
+  rebuild = h.targeted.rebuild;
+  row = h.targeted.of.row;
+  published = h.targeted.of.published;
+  started = h.targeted.started;
+  k = k;
+  finished = subst (λ n. IsFinishedWith t n k) (sym h.targeted.of.target_is) h.finished;
+  build = b;
+}
 
 module _ (t u : Snapshot) (P : ℕ → Type 0) (gains : GainsKeys t u P) where
   -- if all numbers that are gained were there already, the lists stay as they are
   pub lists_stay : (lists : BuildingLists) → ((k : ℕ) → P k → HasFinishedTarget t k)
       → KnowsLists lists t → KnowsLists lists u
-  lists_stay lists there known =
-      record {
-        keys = λ k. (
-          (λ h. (gains k).1 (inl ((known.keys k).0 h))),
-          (λ f. (known.keys k).1 (before k f)),
-        );
-        lists = λ l. (
-          (λ b.
-              let it = building_of u l b in
-              (known.lists l).0 (is_building t l it.0 (before it.0 it.1) it.2)),
-          (λ a.
-              let it = building_of t l ((known.lists l).1 a) in
-              is_building u l it.0 ((gains it.0).1 (inl it.1)) it.2),
-        );
-        shapes = known.shapes;
-        kept = known.kept;
-      }
+  lists_stay lists there known = record {
+    keys = λ k. (
+      (λ h. (gains k).1 (inl ((known.keys k).0 h))),
+      (λ f. (known.keys k).1 (before k f)),
+    );
+    lists = λ l. (
+      (λ b. let it = building_of u l b in
+          (known.lists l).0 (is_building t l it.0 (before it.0 it.1) it.2)),
+      (λ a. let it = building_of t l ((known.lists l).1 a) in
+          is_building u l it.0 ((gains it.0).1 (inl it.1)) it.2),
+    );
+    shapes = known.shapes;
+    kept = known.kept;
+  }
     where
       before : (k : ℕ) → HasFinishedTarget u k → HasFinishedTarget t k
       before k f = ⊎_elim (λ h. h) (λ new. there k new) ((gains k).0 f)
@@ -93,8 +87,7 @@ module _ (t u : Snapshot) (keys : ℕ) (gains : GainsKeys t u (λ k. k ≡ keys)
   -- if the number is there already, the lists stay right
   pub lists_known : (lists : BuildingLists) → Holds lists.counts keys → KnowsLists lists t
       → KnowsLists lists u
-  lists_known lists has known =
-      lists_stay t u (λ k. k ≡ keys) gains lists
+  lists_known lists has known = lists_stay t u (λ k. k ≡ keys) gains lists
       (λ k is. subst (HasFinishedTarget t) (sym is) ((known.keys keys).0 has)) known
 
   -- if the number and its lists are added, the lists are right
@@ -104,30 +97,24 @@ module _ (t u : Snapshot) (keys : ℕ) (gains : GainsKeys t u (λ k. k ≡ keys)
       → (AddsLists (map (λ v. v.items) old.lists.items) (map (λ v. v.items) new.lists.items) keys
       × HasShapes new.shapes (map (λ v. v.items) new.lists.items)))
       → new.kept ≡ old.kept → KnowsLists old t → KnowsLists new u
-  lists_more old new two held come same known =
-      let adds = (come known.shapes).0 in
-      record {
-        keys = λ k. (
-          (λ h. (gains k).1 (⊎_elim (λ o. inl ((known.keys k).0 o)) (λ is. inr is) ((held k).0 h))),
-          (λ f. (held k).1 (⊎_elim (λ o. inl ((known.keys k).1 o)) (λ is. inr is) ((gains k).0 f))),
-        );
-        lists = λ l. (
-          (λ b.
-              let it = building_of u l b in
-              (adds.among l).1
-              (⊎_elim (λ o. inl ((known.lists l).0 (is_building t l it.0 o it.2)))
-              (λ is. inr (build_listed keys l two (subst (λ k. IsBuild k l) is it.2)))
-              ((gains it.0).0 it.1))),
-          (λ a.
-              ⊎_elim
-              (λ o.
-              let it = building_of t l ((known.lists l).1 o) in
-              is_building u l it.0 ((gains it.0).1 (inl it.1)) it.2)
-              (λ x. is_building u l keys ((gains keys).1 (inr refl)) (listed_build keys l x))
-              ((adds.among l).0 a)),
-        );
-        shapes = (come known.shapes).1;
-        kept = subst (λ all. KnowsReadings all (map (λ v. v.items) new.lists.items)) (sym same)
-            (readings_stay old.kept (map (λ v. v.items) old.lists.items)
-            (map (λ v. v.items) new.lists.items) adds.following known.kept);
-      }
+  lists_more old new two held come same known = let adds = (come known.shapes).0 in record {
+    keys = λ k. (
+      (λ h. (gains k).1 (⊎_elim (λ o. inl ((known.keys k).0 o)) (λ is. inr is) ((held k).0 h))),
+      (λ f. (held k).1 (⊎_elim (λ o. inl ((known.keys k).1 o)) (λ is. inr is) ((gains k).0 f))),
+    );
+    lists = λ l. (
+      (λ b. let it = building_of u l b in (adds.among l).1
+          (⊎_elim (λ o. inl ((known.lists l).0 (is_building t l it.0 o it.2)))
+          (λ is. inr (build_listed keys l two (subst (λ k. IsBuild k l) is it.2)))
+          ((gains it.0).0 it.1))),
+      (λ a. ⊎_elim
+          (λ o. let it = building_of t l ((known.lists l).1 o) in
+          is_building u l it.0 ((gains it.0).1 (inl it.1)) it.2)
+          (λ x. is_building u l keys ((gains keys).1 (inr refl)) (listed_build keys l x))
+          ((adds.among l).0 a)),
+    );
+    shapes = (come known.shapes).1;
+    kept = subst (λ all. KnowsReadings all (map (λ v. v.items) new.lists.items)) (sym same)
+        (readings_stay old.kept (map (λ v. v.items) old.lists.items)
+        (map (λ v. v.items) new.lists.items) adds.following known.kept);
+  }

@@ -5,19 +5,12 @@ use Rattle.std.specs.BTreeSet.{BTreeSet}
 use Rattle.ist_core.specs.declared.pairs.Pair.{Pair}
 use Rattle.ist_core.specs.declared.events.Event.{Event}
 use Rattle.ist_core.specs.declared.events.Event.TheVariants.{Decide, Pass}
-use Rattle.ist_core.specs.References.{RebuildAt, ref_of}
-use Rattle.ist_core.specs.Pieces.{Inner, Change}
-use Rattle.ist_core.specs.Snapshots.{Snapshot}
-use Rattle.ist_core.specs.Logs.{Log, Happened, Passes}
-use Rattle.ist_core.specs.Growing.{AllGrow}
-use Rattle.ist_core.specs.Rebuilding.{IsStarted}
-use Rattle.ist_core.specs.Marking.{HasTarget, IsCalled, as_target, as_child, after_rebuild}
-use Rattle.ist_core.specs.StartLayout.{start}
-use Rattle.ist_core.specs.Lawful.{Lawful, EachEnabled, CanOpen, state_of}
-use Rattle.ist_core.proofs.GrowingLemmas.{rebuild_there}
-use Rattle.ist_core.proofs.NamingLemmas.{SlotNames, SideNames, IsRebuildFor, slot_grows}
-use Rattle.ist_core.proofs.OrderLemmas.{names}
-use Rattle.ist_core.proofs.OptionLemmas.{same_rebuild}
+use Rattle.ist_core.specs.WordTerms.{RebuildAt, ref_of, Inner, Change, start}
+use Rattle.ist_core.specs.LogTerms.{Snapshot, Log, Happened, Passes, Lawful, EachEnabled, CanOpen, state_of}
+use Rattle.ist_core.specs.TreeTerms.{AllGrow, IsStarted, HasTarget, IsCalled, as_target, as_child, after_rebuild}
+use Rattle.ist_core.proofs.AllLogLemmas.{rebuild_there}
+use Rattle.ist_core.proofs.AllPlaceLemmas.{SlotNames, SideNames, IsRebuildFor, slot_grows, names}
+use Rattle.ist_core.proofs.AllWordLemmas.{same_rebuild}
 use Rattle.check_fairness.specs.Answers.{Holds}
 use Rattle.check_events.specs.Remembering.{KnowsCalls}
 use Rattle.check_builds.proofs.TableLemmas.{no_pass}
@@ -30,8 +23,7 @@ use Rattle.check_state.proofs.StartedLemmas.{rows_grow, start_stays, started_bef
 module _ (t u : Snapshot) (grows : AllGrow t.pieces u.pieces) (rebuild node : ℕ) where
   -- a target of a rebuild stays one
   pub target_stays : HasTarget t rebuild node → HasTarget u rebuild node
-  target_stays it =
-      let on = rebuild_there t.pieces u.pieces grows rebuild it.row it.published in
+  target_stays it = let on = rebuild_there t.pieces u.pieces grows rebuild it.row it.published in
       record { row = on.0; published = on.1; target_is = on.2.target ∙ it.target_is }
 
   -- and it was one before, if the rebuild was published
@@ -39,8 +31,7 @@ module _ (t u : Snapshot) (grows : AllGrow t.pieces u.pieces) (rebuild node : �
       → HasTarget u rebuild node → HasTarget t rebuild node
   target_before here it =
       let on = rebuild_there t.pieces u.pieces grows rebuild here.row here.published in
-      let same = same_rebuild (u.pieces rebuild) it.row on.0 it.published on.1 in
-      record {
+      let same = same_rebuild (u.pieces rebuild) it.row on.0 it.published on.1 in record {
         row = here.row;
         published = here.published;
         target_is = sym on.2.target ∙ ap (λ r. r.target) (sym same) ∙ it.target_is;
@@ -61,8 +52,7 @@ module _ (pairs : List Pair) (words : ℕ) where
     -- the word that is passed now names what its slot may hold
     passed_now : (log : Log) (event : Event) → Ran (event ∷ log) → (above i word : ℕ)
         → Passes above i word event → SlotNames (table log).pieces above i (ref_of word)
-    passed_now log (Pass caller node j w) h above i word same =
-        let ps = (table log).pieces in
+    passed_now log (Pass caller node j w) h above i word same = let ps = (table log).pieces in
         let row = (names pairs words opens log h.0).rows node (Inner h.1.row) h.1.published in
         subst (λ x. SlotNames ps x i (ref_of word)) same.0
         (subst (λ x. SlotNames ps node x (ref_of word)) same.1
@@ -80,8 +70,7 @@ module _ (pairs : List Pair) (words : ℕ) where
     -- a rebuild that a passed word names is published
     passed_rebuild : (log : Log) → Ran log → (above i word rebuild : ℕ)
         → SlotNames (table log).pieces above i (ref_of word)
-        → ref_of word ≡ Some (RebuildAt rebuild)
-        → IsRebuildFor (table log).pieces above i rebuild
+        → ref_of word ≡ Some (RebuildAt rebuild) → IsRebuildFor (table log).pieces above i rebuild
     passed_rebuild log h above i word rebuild named is =
         subst (SlotNames (table log).pieces above i) is named
 
@@ -113,15 +102,13 @@ module _ (pairs : List Pair) (words : ℕ) where
     named_before : (above i word rebuild : ℕ) → SlotNames (table log).pieces above i (ref_of word)
         → ref_of word ≡ Some (RebuildAt rebuild)
         → HasTarget (table (event ∷ log)) rebuild node → HasTarget (table log) rebuild node
-    named_before above i word rebuild named is of =
-        target_before _ _ grows rebuild node
+    named_before above i word rebuild named is of = target_before _ _ grows rebuild node
         (passed_rebuild law.opens log law.enabled.0 above i word rebuild named is) of
 
     -- a target of a rebuild that a change starts was one before, if the change was there before
     pub started_of : (base rebuild : ℕ) → StartsRebuild (table log) base rebuild
         → HasTarget (table (event ∷ log)) rebuild node → HasTarget (table log) rebuild node
-    started_of base rebuild k of =
-        target_before _ _ grows rebuild node
+    started_of base rebuild k of = target_before _ _ grows rebuild node
         (starting_rebuild law.opens log law.enabled.0 base rebuild k) of
 
     -- a cause after the event was one before, or a rebuild starts now, or a word is passed now
@@ -130,12 +117,10 @@ module _ (pairs : List Pair) (words : ℕ) where
         → HasTarget (table (event ∷ log)) rebuild node → IsStarted (table log) rebuild ⊎ New)
         → ((above i word : ℕ) → Passes above i word event → WordCalls (table log) word node → New)
         → IsCalled (table (event ∷ log)) (event ∷ log) node → IsCalled (table log) log node ⊎ New
-    causes New starts passes (as_target rebuild of begun) =
-        ⊎_elim
+    causes New starts passes (as_target rebuild of begun) = ⊎_elim
         (λ old.
         inl (as_target rebuild (started_of old.base rebuild (as_starts old) of) old))
-        (λ new. inr new)
-        (starts rebuild begun of)
+        (λ new. inr new) (starts rebuild begun of)
       where
         -- a started rebuild is one that its change starts
         as_starts : {rebuild : ℕ} → (it : IsStarted (table log) rebuild)
@@ -170,8 +155,7 @@ module _ (pairs : List Pair) (words : ℕ) where
       → ((node : ℕ) → New node → IsCalled (table (event ∷ log)) (event ∷ log) node)
       → RightCalls old log → RightCalls new (event ∷ log)
   calls_with log event law old new New more before now known node = (
-    (λ h.
-        ⊎_elim (λ k. call_stays log event law node ((known node).0 k)) (now node)
+    (λ h. ⊎_elim (λ k. call_stays log event law node ((known node).0 k)) (now node)
         ((more node).0 h)),
     (λ it. (more node).1 (⊎_elim (λ k. inl ((known node).1 k)) (λ k. inr k) (before node it))),
   )
@@ -182,8 +166,7 @@ module _ (pairs : List Pair) (words : ℕ) where
       → ((node : ℕ) → IsCalled (table (event ∷ log)) (event ∷ log) node
       → IsCalled (table log) log node ⊎ ⊥)
       → RightCalls called log → RightCalls called (event ∷ log)
-  calls_stay log event law called before known =
-      calls_with log event law called called (λ node. ⊥)
+  calls_stay log event law called before known = calls_with log event law called called (λ node. ⊥)
       (λ node. ((λ h. inl h), (λ s. ⊎_elim (λ h. h) (λ none. absurd none) s))) before
       (λ node none. absurd none) known
 
@@ -193,8 +176,7 @@ module _ (pairs : List Pair) (words : ℕ) where
         → ((c n i w : ℕ) → event ≢ Pass c n i w)
         → Lawful pairs words (event ∷ log) → (called : BTreeSet ℕ)
         → RightCalls called log → RightCalls called (event ∷ log)
-    calls_kept event no_decide passes_none law called known =
-        calls_stay log event law called
+    calls_kept event no_decide passes_none law called known = calls_stay log event law called
         (λ node. causes log event law node ⊥
         (λ rebuild begun of.
         inl (started_before pairs words log event no_decide law rebuild begun))
@@ -208,8 +190,7 @@ module _ (pairs : List Pair) (words : ℕ) where
     calls_refused caller base law called known =
         calls_stay log (Decide caller base false) law called
         (λ node. causes log (Decide caller base false) law node ⊥
-        (λ rebuild begun of.
-        ⊎_elim (λ old. inl old) (λ now. let no = now.0 in absurd (omega arith))
+        (λ rebuild begun of. ⊎_elim (λ old. inl old) (λ now. let no = now.0 in absurd (omega arith))
         (started_newly pairs words log caller base false law rebuild begun))
         (λ above i word now calls. absurd now))
         known
@@ -222,8 +203,7 @@ module _ (pairs : List Pair) (words : ℕ) where
     calls_started caller base law old new more known =
         calls_with log (Decide caller base true) law old new (StartCalls (table log) base) more
         (λ node. causes log (Decide caller base true) law node (StartCalls (table log) base node)
-        (λ rebuild begun of.
-        ⊎_elim (λ old. inl old)
+        (λ rebuild begun of. ⊎_elim (λ old. inl old)
         (λ now. inr record {
           rebuild = rebuild;
           starts = now.1;
@@ -231,8 +211,7 @@ module _ (pairs : List Pair) (words : ℕ) where
         })
         (started_newly pairs words log caller base true law rebuild begun))
         (λ above i word now calls. absurd now))
-        (λ node k.
-        as_target k.rebuild
+        (λ node k. as_target k.rebuild
         (target_stays _ _ (grows log (Decide caller base true) law node) k.rebuild node k.of)
         (start_begun pairs words log caller base k.rebuild k.starts))
         known

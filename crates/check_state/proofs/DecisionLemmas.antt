@@ -1,27 +1,16 @@
 -- Decided changes after an event: they stay, and only a Decide makes one. Serves `starting.rt`.
-use Rattle.std.proofs.Common.{◌≡◌, ◌≢◌, ◌∙◌, ◌⊎◌, ℕ, nat_lt, if◌then◌else◌, Bool, true, false, List, ◌∷◌, Option, Some, refl, sym, ap, subst, inl, inr, ⊎_elim}
+use Rattle.std.proofs.Common.{◌≡◌, ◌≢◌, ◌∙◌, ◌⊎◌, ℕ, nat_lt, if◌then◌else◌, Bool, true, false, List, ◌∷◌, Option, Some, refl, sym, ap, subst, inl, inr, ⊎_elim, option_map}
 use Rattle.ist_core.specs.declared.lists.Row.{Row}
 use Rattle.ist_core.specs.declared.states.ChangeRow.{ChangeRow}
 use Rattle.ist_core.specs.declared.events.Event.{Event}
 use Rattle.ist_core.specs.declared.events.Event.TheVariants.{Install, Decide, Resolve, Count, Mark, Finish, Root, Draw, Place}
-use Rattle.ist_core.specs.References.{ChangeAt, word_of}
-use Rattle.ist_core.specs.Statuses.{undecided, marked_word, finished_word}
-use Rattle.ist_core.specs.Elements.{Among, Each}
-use Rattle.ist_core.specs.Pieces.{Pieces, Piece, Leaf, Inner, Change, Rebuild, with_inners, changed_at, with_slot, with_status, counted, with_decision, with_root, drawn}
-use Rattle.ist_core.specs.Snapshots.{Snapshot, bases_of}
-use Rattle.ist_core.specs.After.{after, decision_word, side_of}
-use Rattle.ist_core.specs.Logs.{Log, state}
-use Rattle.ist_core.specs.Installing.{pair_row, pair_over, FitsKind, a_put, a_pair, a_remove, a_start, a_finish}
-use Rattle.ist_core.specs.Deciding.{CanDecide}
-use Rattle.ist_core.specs.Enabled.{Enabled}
-use Rattle.ist_core.proofs.ElementLemmas.{each-among}
-use Rattle.ist_core.proofs.RowLemmas.{changed_at-some}
-use Rattle.ist_core.proofs.MoveLemmas.{HeldLieApart}
-use Rattle.ist_core.proofs.InstallLemmas.{with_installed}
-use Rattle.ist_core.proofs.AddingLemmas.{IsInstalledWith, adds_install, adds-with_inners}
-use Rattle.ist_core.proofs.GrowingLemmas.{change_there}
-use Rattle.ist_core.proofs.StepLemmas.{rows_resolved, rows_placed, holds_installed, known, grow_step}
-use Rattle.ist_core.proofs.TreeLemmas.{IsTreeRow, root_tree, tree_of_ideal, tree_rows}
+use Rattle.ist_core.specs.WordTerms.{ChangeAt, word_of, undecided, marked_word, finished_word, Pieces, Piece, Leaf, Inner, Change, Rebuild, with_inners, changed_at, with_slot, with_status, counted, with_decision, with_root, drawn}
+use Rattle.ist_core.specs.LogTerms.{Among, Each, Snapshot, bases_of, after, decision_word, side_of, Log, state, Enabled}
+use Rattle.ist_core.specs.TreeTerms.{pair_row, pair_over, FitsKind, a_put, a_pair, a_remove, a_start, a_finish, CanDecide, IsFinishedWith, CanFinish}
+use Rattle.ist_core.proofs.AllWordLemmas.{each-among, changed_at-some, changed_at-same}
+use Rattle.ist_core.proofs.AllEventLemmas.{HeldLieApart, with_installed, IsInstalledWith, adds_install, adds-with_inners, rows_resolved, rows_placed, holds_installed, known, grow_step}
+use Rattle.ist_core.proofs.AllLogLemmas.{change_there, finished_by}
+use Rattle.ist_core.proofs.AllPlaceLemmas.{IsTreeRow, root_tree, tree_of_ideal, tree_rows}
 
 -- ---- fresh rows are undecided
 
@@ -101,8 +90,7 @@ came_changed : (ps xs qs : Pieces) (at : ℕ) (f : Piece → Piece) → qs ≡ c
 came_changed ps xs qs at f pieces keeps old base r e d =
     let it = changed_at-some xs at base f (Change r) (subst (λ ys. ys base ≡ Some (Change r)) pieces
     e) in
-    ⊎_elim
-    (λ k. old base r (it.1 ∙ ap (λ x. Some x) (sym k)) d)
+    ⊎_elim (λ k. old base r (it.1 ∙ ap (λ x. Some x) (sym k)) d)
     (λ k. old base r (it.1 ∙ ap (λ x. Some x) (keeps it.0 r (sym k.1))) d)
     it.2
 
@@ -115,8 +103,7 @@ came_added ps qs from base r e d = ⊎_elim (λ k. k) (λ k. absurd (d k)) (from
 pub came_step : (first : Snapshot) (log : Log) (event : Event) → Enabled first log event
     → HeldLieApart (state first log) → ((c b : ℕ) (x : Bool) → event ≢ Decide c b x)
     → DecidedCame (state first log).pieces (state first (event ∷ log)).pieces
-came_step first log (Install caller base rows) h s other =
-    let t = state first log in
+came_step first log (Install caller base rows) h s other = let t = state first log in
     let qs = with_installed t.pieces base h.change h.fresh in
     let adds = adds_install first log caller base h.change h.fresh h.fits
     (holds_installed first log caller base rows h) s in
@@ -133,20 +120,16 @@ came_step first log (Resolve caller base) h s other =
     (with_slot h.change.index (side_of h.change))
     (ap (λ u. u.pieces) (rows_resolved (state first log) caller base h))
     (slot_keeps h.change.index (side_of h.change)) (λ b r e d. e)
-came_step first log (Root caller at word rows) h s other =
-    let t = state first log in
-    let qs = with_inners t.pieces rows in
-    let adds = adds-with_inners t caller rows h.held s in
+came_step first log (Root caller at word rows) h s other = let t = state first log in
+    let qs = with_inners t.pieces rows in let adds = adds-with_inners t caller rows h.held s in
     let tree = root_tree qs word h.k h.leaves h.row.target (bases_of rows) h.root in
     came_changed t.pieces qs (changed_at qs at (with_root word)) at (with_root word) refl
     (root_keeps word)
     (came_added t.pieces qs (λ b q e. ⊎_elim (λ k. inl k)
     (λ k. inr (tree_fresh qs (bases_of rows) b q (tree_rows qs tree.0 h.row.target
     (bases_of rows) tree.2) k e)) (adds.from b q e)))
-came_step first log (Place caller at i word rows) h s other =
-    let t = state first log in
-    let qs = with_inners t.pieces rows in
-    let adds = adds-with_inners t caller rows h.held s in
+came_step first log (Place caller at i word rows) h s other = let t = state first log in
+    let qs = with_inners t.pieces rows in let adds = adds-with_inners t caller rows h.held s in
     let tree = tree_of_ideal qs h.ref h.part h.root (bases_of rows) h.ideal in
     came_changed t.pieces qs (after t (Place caller at i word rows)).pieces h.root
     (with_slot i word) (rows_placed t caller at i word rows h) (slot_keeps i word)
@@ -172,19 +155,16 @@ pub came_decided : (first : Snapshot) (log : Log) (caller base : ℕ) (said : Bo
     → (state first (Decide caller base said ∷ log)).pieces b ≡ Some (Change r)
     → ((state first log).pieces b ≡ Some (Change r))
     ⊎ ((b ≡ base) × (r ≡ record (h.change) { decision = decision_word said }))
-came_decided first log caller base said h b r e =
-    let t = state first log in
+came_decided first log caller base said h b r e = let t = state first log in
     let it = changed_at-some t.pieces base b (with_decision (decision_word said)) (Change r) e in
-    ⊎_elim
-    (λ k. inl (it.1 ∙ ap (λ x. Some x) (sym k)))
+    ⊎_elim (λ k. inl (it.1 ∙ ap (λ x. Some x) (sym k)))
     (λ k. inr (k.0, same (t.pieces b) it.0 it.1 (ap t.pieces k.0 ∙ h.pending.published) (sym k.1)))
     it.2
   where
     same : (o : Option Piece) (p : Piece) → o ≡ Some p → o ≡ Some (Change h.change) → with_decision
         (decision_word said) p ≡ Change r
         → r ≡ record (h.change) { decision = decision_word said }
-    same o p e f g =
-        let is : p ≡ Change h.change = cc in
+    same o p e f g = let is : p ≡ Change h.change = cc in
         let made : Change record (h.change) { decision = decision_word said } ≡ Change r = ap
         (with_decision (decision_word said)) (sym is) ∙ g in
         cc
@@ -205,3 +185,30 @@ decided_stays first log event h s base r e d =
     let same : on.0 ≡ r = ap (λ x. decided_as x on.0) (grown.decided d) ∙ ap (decided_as r.decision)
     grown.others in
     on.1 ∙ ap (λ x. Some (Change x)) same
+
+-- ---- finished rows after an event: only a Finish makes one. Serves `targeting.rt`.
+
+-- the event finishes the node with k keys
+abbrev pub FinishesNode : ℕ → ℕ → Event → Type 0
+FinishesNode node k (Finish caller at keys) = (at ≡ node) × (keys ≡ k)
+FinishesNode node k _ = ⊥
+
+-- a node finished after an event was finished before, or the event finishes it
+pub finished_before : (first : Snapshot) (log : Log) (node k : ℕ) (event : Event)
+    → Enabled first log event → HeldLieApart (state first log)
+    → IsFinishedWith (state first (event ∷ log)) node k
+    → IsFinishedWith (state first log) node k ⊎ FinishesNode node k event
+finished_before first log node k event h s f =
+    ⊎_elim (λ old. inl old) (λ by. inr (subst (FinishesNode node k) (sym by.1) (refl, refl)))
+    (finished_by first log event h s node k f)
+
+-- after a Finish the node is finished
+pub finished_now : (first : Snapshot) (log : Log) (caller node k : ℕ)
+    → CanFinish (state first log) log caller node k
+    → IsFinishedWith (state first (Finish caller node k ∷ log)) node k
+finished_now first log caller node k h = let t = state first log in record {
+  row = record (h.row) { status = finished_word k };
+  published = changed_at-same t.pieces node (with_status (finished_word k))
+      ∙ ap (option_map (with_status (finished_word k))) h.published;
+  status = refl;
+}

@@ -2,15 +2,11 @@
 use Rattle.std.proofs.Common.{◌≡◌, ◌≢◌, ◌↔◌, ◌∙◌, ◌⊎◌, ℕ, zero, suc, List, [], ◌∷◌, slice_get, slice_index_or, length, ◌<◌, Option, Some, None, refl, sym, subst, inl, inr, arith}
 use Rattle.std.specs.BTreeMap as tree
 use Rattle.ist_core.specs.declared.states.InnerRow.{InnerRow}
-use Rattle.ist_core.specs.RowLayout.{anchor}
-use Rattle.ist_core.specs.References.{Ref, InnerAt}
-use Rattle.ist_core.specs.Pieces.{Pieces, Inner}
-use Rattle.ist_core.specs.Snapshots.{Snapshot}
-use Rattle.ist_core.specs.Slots.{SlotHolds, in_anchor, in_row, logical}
-use Rattle.ist_core.specs.Links.{IsChild, Linked, below}
-use Rattle.ist_core.specs.Leaves.{HasLeaves, row_here, no_slot}
-use Rattle.ist_core.proofs.SlotLemmas.{no_row, slot_once}
-use Rattle.ist_core.proofs.OptionLemmas.{same_inner}
+use Rattle.ist_core.specs.WordTerms.{anchor, Ref, InnerAt, Pieces, Inner, SlotHolds, in_anchor, in_row, logical}
+use Rattle.ist_core.specs.LogTerms.{Snapshot}
+use Rattle.ist_core.specs.TreeTerms.{IsChild, Linked, below, HasLeaves, row_here, no_slot}
+use Rattle.ist_core.proofs.AllPlaceLemmas.{no_row, slot_once}
+use Rattle.ist_core.proofs.AllWordLemmas.{same_inner}
 use Rattle.check_builds.specs.Reading.{IsReadingOf}
 use Rattle.check_builds.specs.declared.readings.SlotReading.{SlotReading}
 use Rattle.check_builds.specs.declared.readings.SlotReading.TheVariants.{Nothing, OneLeaf, OneRow, Other}
@@ -47,8 +43,7 @@ module _ (t : Snapshot) where
 
   -- a child of what hangs hangs there too
   pub hangs_on : (node i under j row k child : ℕ) → Hangs t node i under j row
-      → IsChild t row k child
-      → Hangs t node i row k child
+      → IsChild t row k child → Hangs t node i row k child
   hangs_on node i _ _ row k child (hangs_here c) d = hangs_below row k c (hangs_here d)
   hangs_on node i under j row k child (hangs_below at m c h) d =
       hangs_below at m c (hangs_on at m under j row k child h d)
@@ -63,8 +58,7 @@ module _ (t : Snapshot) where
     -- a slot reads as what any of its words reads as
     pub child_at : (node i word child : ℕ) → SlotHolds t node i word → IsChild t node i child
         → logical t.pieces word ≡ Some (InnerAt child)
-    child_at node i word child h c =
-        subst (λ w. logical t.pieces w ≡ Some (InnerAt child))
+    child_at node i word child h c = subst (λ w. logical t.pieces w ≡ Some (InnerAt child))
         (slot_once t node i c.word word free c.holds h) c.reads
 
     -- a slot has one child
@@ -83,8 +77,7 @@ module _ (t : Snapshot) where
 
     -- a slot of an inner row holds its word
     holds_word : (node i word : ℕ) (r : InnerRow) → t.pieces node ≡ Some (Inner r)
-        → SlotHolds t node i word
-        → slice_get r.slots i ≡ Some word
+        → SlotHolds t node i word → slice_get r.slots i ≡ Some word
     holds_word node i word r e (in_anchor a b f) = absurd (no_row t.pieces node r free a e)
     holds_word node i word r e (in_row s p g) =
         subst (λ (x : InnerRow). slice_get x.slots i ≡ Some word)
@@ -125,8 +118,7 @@ other_reading o child none e =
 
 -- a reading that is no inner row
 pub no_row_read : (read : SlotReading) (o : Option Ref) (child : ℕ) → ((base : ℕ) → read ≢ OneRow base)
-    → IsReadingOf read o
-    → o ≢ Some (InnerAt child)
+    → IsReadingOf read o → o ≢ Some (InnerAt child)
 no_row_read Nothing o child other is e = let k = sym is ∙ e in cc
 no_row_read (OneLeaf base) o child other is e = let k = sym is ∙ e in cc
 no_row_read (OneRow base) o child other is e = absurd (other base refl)

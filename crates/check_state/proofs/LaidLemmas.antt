@@ -1,22 +1,41 @@
 -- What one part more adds to a list made by an index, and to the rows of a new table. Serves `opening.rt`.
-use Rattle.std.proofs.Common.{◌≡◌, ◌∙◌, ◌+◌, ◌-◌, ◌<◌, ◌≤◌, ℕ, List, [], ◌∷◌, ◌++◌, length, map, get_or, Some, None, sym, ap, subst, arith}
+use Rattle.std.proofs.Common.{◌≡◌, ◌+◌, ◌-◌, ◌<◌, ◌≤◌, ℕ, List, [], ◌∷◌, ◌++◌, Some, None, refl, ap, arith, ◌∙◌, length, map, get_or, sym, subst}
+use Rattle.ist_core.specs.WordTerms.{part_len, ideal_words, Piece, Pieces, with_row, pieces_of, degree, first_row, word_of, Leaf, Inner, tree_at, placed_parts, top_row, rows_within, rows_from}
+use Rattle.ist_image.specs.Placing.{part_base, part_of, rows_after}
+use Rattle.ist_image.proofs.PlacingSizeLemmas.{part_base-suc}
+use Rattle.check_state.specs.Laying.{with_pieces, Publishes}
 use Rattle.std.specs.List.{range_with_len}
 use Rattle.std.proofs.lemmas.List.FromFn.{map-range_with_len_more}
 use Rattle.ist_core.specs.declared.pairs.Pair.{Pair}
 use Rattle.ist_core.specs.declared.states.InnerRow.{InnerRow}
-use Rattle.ist_core.specs.Arithmetic.{degree, part_len}
-use Rattle.ist_core.specs.RowLayout.{first_row}
-use Rattle.ist_core.specs.References.{word_of}
-use Rattle.ist_core.specs.Pieces.{Piece, Leaf, Inner, with_row}
-use Rattle.ist_core.specs.Snapshots.{Snapshot}
-use Rattle.ist_core.specs.StartLayout.{tree_at, placed_parts, top_row, rows_within, rows_from, pieces_of}
+use Rattle.ist_core.specs.LogTerms.{Snapshot}
 use Rattle.check_events.specs.declared.replicas.Replica.{Replica}
 use Rattle.check_events.specs.Mirroring.{Mirrors}
-use Rattle.ist_image.specs.Placing.{part_of, part_base, rows_after}
 use Rattle.ist_image.proofs.PlacingLemmas.{rows_from-many, rows_after-first, rows_after-last}
 use Rattle.ist_image.proofs.PlacedLemmas.{length-part_of, slots_are}
-use Rattle.check_state.specs.Laying.{with_pieces, Publishes}
-use Rattle.check_state.proofs.LayingLemmas.{with_pieces-none, with_pieces-append}
+
+-- ---- lists of rows that are published, and where the tree of the previous part is. Serves
+-- `opening.rt`.
+
+-- rows published on an empty table are the rows of the list
+pub with_pieces-none : (rows : List (ℕ × Piece)) → with_pieces (λ base. None) rows ≡ pieces_of rows
+with_pieces-none [] = refl
+with_pieces-none (row ∷ rows) = ap (λ ps. with_row ps row.0 (Some row.1)) (with_pieces-none rows)
+
+-- two lists are published one after the other
+pub with_pieces-append : (ps : Pieces) (xs ys : List (ℕ × Piece))
+    → with_pieces ps (xs ++ ys) ≡ with_pieces (with_pieces ps ys) xs
+with_pieces-append ps [] ys = refl
+with_pieces-append ps (x ∷ xs) ys = ap (λ qs. with_row qs x.0 (Some x.1))
+    (with_pieces-append ps xs ys)
+
+-- the tree of the previous part ends where this one begins
+pub part_before : (base n : ℕ) {j at len words : ℕ} → 0 < j → at ≡ part_base base n j
+    → len ≡ part_len n (j - 1)
+    → words ≡ ideal_words len → (words ≤ at) × (at - words ≡ part_base base n (j - 1))
+part_before base n {j = j} some e i w = let one = part_base-suc base n (j - 1) in
+    let same : j - 1 + 1 ≡ j = omega arith in let here = ap (part_base base n) same in
+    let size = ap ideal_words i in (omega arith, omega arith)
 
 -- a list made by an index, with one more
 pub made_more : (f : ℕ → ℕ) (a j here x : ℕ) (old new : List ℕ) → old ≡ map f (range_with_len a j)
@@ -29,8 +48,7 @@ made_more f a j here x old new e i at v =
 
 -- the words for the trees of the first j parts, whatever the pairs are
 abbrev pub SlotsTo : ℕ → ℕ → ℕ → List ℕ → Type 0
-SlotsTo base n j slots =
-    (pairs : List Pair) → length pairs ≡ n
+SlotsTo base n j slots = (pairs : List Pair) → length pairs ≡ n
     → slots ≡ map (λ i. word_of (tree_at (part_base base n i) (part_of pairs i)))
     (range_with_len 0 j)
 
@@ -50,8 +68,7 @@ slot_more base {n = n} {j = j} {word = word} {old = old} {new = new} below e i i
 pub slots_whole : (base : ℕ) {n j : ℕ} {slots : List ℕ} → j ≡ degree n → SlotsTo base n j slots
     → (pairs : List Pair) → length pairs ≡ n
     → slots ≡ map (λ part. word_of (tree_at part.0 part.1)) (placed_parts base pairs)
-slots_whole base {n = n} end all pairs long =
-    all pairs long
+slots_whole base {n = n} end all pairs long = all pairs long
     ∙ ap (λ d. map (λ i. word_of (tree_at (part_base base n i) (part_of pairs i)))
     (range_with_len 0 d)) end
     ∙ slots_are base n pairs long
@@ -67,8 +84,7 @@ laid_in_front : (r : Replica) (t : Snapshot) (base at j : ℕ) (pairs part : Lis
           (with_pieces t.pieces (rows_after base pairs (j + 1))) (rows_from at part);
     })
     → Mirrors r (record t { pieces = with_pieces t.pieces (rows_after base pairs j) })
-laid_in_front r t base at j pairs part h e i m =
-    let following = rows_after base pairs (j + 1) in
+laid_in_front r t base at j pairs part h e i m = let following = rows_after base pairs (j + 1) in
     subst (λ ps. Mirrors r (record t { pieces = ps }))
     (ap (λ b. with_pieces (with_pieces t.pieces following) (rows_from b part)) e
     ∙ ap (λ xs. with_pieces (with_pieces t.pieces following)
@@ -105,8 +121,7 @@ pub top_laid : (base : ℕ) (pairs : List Pair) {r s u : Replica} {row : InnerRo
     → ((t : Snapshot) → Mirrors s t
     → Mirrors u (record t { pieces = with_row t.pieces base (Some (Inner row)) }))
     → Publishes r u (rows_from base pairs)
-top_laid base pairs {u = u} two e parts put t m =
-    let following = rows_after base pairs 0 in
+top_laid base pairs {u = u} two e parts put t m = let following = rows_after base pairs 0 in
     subst (λ rows. Mirrors u (record t { pieces = with_pieces t.pieces rows }))
     (sym (rows_from-many base pairs two))
     (subst (λ p. Mirrors u (record t {
@@ -145,8 +160,7 @@ all_laid r t rows m = subst (λ ps. Mirrors r (record t { pieces = ps })) (with_
 pub opened : (r : Replica) (t : Snapshot) (first : ℕ) (pairs : List Pair) → first ≡ first_row
     → Mirrors r (record t { pieces = with_pieces (λ base. None) (rows_from first pairs) })
     → Mirrors r (record t { pieces = pieces_of (rows_from first_row pairs) })
-opened r t first pairs e m =
-    all_laid r t (rows_from first_row pairs)
+opened r t first pairs e m = all_laid r t (rows_from first_row pairs)
     (subst (λ base. Mirrors r (record t {
       pieces = with_pieces (λ at. None) (rows_from base pairs);
     })) e m)

@@ -6,27 +6,17 @@ use Rattle.ist_core.specs.declared.pairs.Pair.{Pair}
 use Rattle.ist_core.specs.declared.states.ChangeRow.{ChangeRow}
 use Rattle.ist_core.specs.declared.events.Event.{Event}
 use Rattle.ist_core.specs.declared.events.Event.TheVariants.{Decide}
-use Rattle.ist_core.specs.References.{Ref, Empty, Unset, LeafAt, InnerAt, ChangeAt, RebuildAt, ref_of, unset_word}
-use Rattle.ist_core.specs.Pieces.{Change, Rebuild}
-use Rattle.ist_core.specs.Snapshots.{Snapshot}
-use Rattle.ist_core.specs.StartLayout.{start}
-use Rattle.ist_core.specs.Logs.{Log}
-use Rattle.ist_core.specs.Slots.{in_row, past_rebuild, past_change}
-use Rattle.ist_core.specs.Links.{IsChild, Linked, at_anchor, below}
-use Rattle.ist_core.specs.Lawful.{CanOpen, EachEnabled, state_of}
-use Rattle.ist_core.proofs.HomeLemmas.{mentioned_here}
-use Rattle.ist_core.proofs.MentionLemmas.{child_mentioned}
-use Rattle.ist_core.proofs.NamingLemmas.{RootNames}
-use Rattle.ist_core.proofs.OrderLemmas.{names}
-use Rattle.ist_core.proofs.PlaceLemmas.{anchor_free}
-use Rattle.ist_core.proofs.ReferenceLemmas.{ref_of-unset}
-use Rattle.ist_core.proofs.FateLemmas.{grow_after}
-use Rattle.laws_links.proofs.ChildLemmas.{IsReadBy, child_read, leads_grows, leads_rebuild, read_child}
+use Rattle.ist_core.specs.WordTerms.{Ref, Empty, Unset, LeafAt, InnerAt, ChangeAt, RebuildAt, ref_of, unset_word, Change, Rebuild, start, in_row, past_rebuild, past_change}
+use Rattle.ist_core.specs.LogTerms.{Snapshot, Log, CanOpen, EachEnabled, state_of}
+use Rattle.ist_core.specs.TreeTerms.{IsChild, Linked, at_anchor, below}
+use Rattle.ist_core.proofs.AllPlaceLemmas.{mentioned_here, child_mentioned, RootNames, names, anchor_free}
+use Rattle.ist_core.proofs.AllWordLemmas.{ref_of-unset}
+use Rattle.ist_core.proofs.AllLogLemmas.{grow_after}
+use Rattle.laws_links.proofs.ReadStepLemmas.{IsReadBy, child_read, leads_grows, leads_rebuild, read_child, Stood, Turning, filled_now, read_before, reads_back, turned_now, was_anchor, was_row}
 use Rattle.laws_links.proofs.FormLemmas.{IsFormed, of_finish, of_leaf_put, of_pair_put, of_remove, of_start}
 use Rattle.laws_links.proofs.FormedLemmas.{changes_are_formed}
 use Rattle.laws_links.proofs.ReadEventLemmas.{decide_reads}
 use Rattle.laws_links.proofs.ReadLemmas.{FillsSlot, ReadsAs, Turns, filled_by, reads_once, turned_by}
-use Rattle.laws_links.proofs.ReadStepLemmas.{Stood, Turning, filled_now, read_before, reads_back, turned_now, was_anchor, was_row}
 use Rattle.laws_links.proofs.ContentLemmas.{linked_set}
 use Rattle.laws_links.proofs.ReturnLemmas.{leads_back, one_inner}
 use Rattle.check_state.specs.Hanging.{Hangs, hangs_here}
@@ -41,11 +31,9 @@ module _ (pairs : List Pair) (words : ℕ) (opens : CanOpen pairs words) where
 
   -- a linked node is the anchor or a published inner row
   linked_stood : (log : Log) → EachEnabled (start pairs words) log → (node : ℕ)
-      → Linked (following log) node
-      → Stood pairs words opens log node
+      → Linked (following log) node → Stood pairs words opens log node
   linked_stood log h _ at_anchor = was_anchor refl
-  linked_stood log h _ (below {node = node} {child = child} i l c) =
-      let t = following log in
+  linked_stood log h _ (below {node = node} {child = child} i l c) = let t = following log in
       let o = names pairs words opens log h in
       was_row (mentioned_here t node i child o (child_mentioned t node i child o c))
 
@@ -53,12 +41,10 @@ module _ (pairs : List Pair) (words : ℕ) (opens : CanOpen pairs words) where
   unfilled : (log : Log) (event : Event) → EachEnabled (start pairs words) (event ∷ log)
       → (node i : ℕ)
       → Linked (following log) node → ¬ (FillsSlot (start pairs words) log node i Unset event)
-  unfilled log _ h node i l (filled_by can here at is) =
-      let t = following log in
+  unfilled log _ h node i l (filled_by can here at is) = let t = following log in
       let slot = in_row can.root_row can.root_published can.free in
       linked_set pairs words opens log h.0 can.root _ unset_word (subst (λ n. Linked t n) here l)
-      slot
-      (ap (λ o. past_rebuild t.pieces (past_change t.pieces o)) ref_of-unset)
+      slot (ap (λ o. past_rebuild t.pieces (past_change t.pieces o)) ref_of-unset)
 
   -- the event decides yes a change of slot i of the node that puts an inner row in
   pub record BringsTo (log : Log) (event : Event) (node i : ℕ) : Type 0 where
@@ -74,8 +60,7 @@ module _ (pairs : List Pair) (words : ℕ) (opens : CanOpen pairs words) where
 
   -- a change that is decided yes and puts no inner row in leaves the child of its slot
   turned_child : (log : Log) (event : Event) → EachEnabled (start pairs words) (event ∷ log)
-      → (node i child : ℕ) (was ref : Ref)
-      → ReadsAs (following log) node i was
+      → (node i child : ℕ) (was ref : Ref) → ReadsAs (following log) node i was
       → Turns (start pairs words) log node i was event
       → ReadsAs (following (event ∷ log)) node i ref
       → past_rebuild (following (event ∷ log)).pieces (Some ref) ≡ Some (InnerAt child)
@@ -105,18 +90,17 @@ module _ (pairs : List Pair) (words : ℕ) (opens : CanOpen pairs words) where
 
       brings : (row : ℕ) → ref_of can.change.to ≡ Some (InnerAt row)
           → BringsTo log (Decide caller base true) node i
-      brings row to =
-          record {
-            caller = caller;
-            base = base;
-            event_is = refl;
-            change = can.change;
-            published = can.pending.published;
-            node_is = n;
-            index_is = j;
-            row = row;
-            to = to;
-          }
+      brings row to = record {
+        caller = caller;
+        base = base;
+        event_is = refl;
+        change = can.change;
+        published = can.pending.published;
+        node_is = n;
+        index_is = j;
+        row = row;
+        to = to;
+      }
 
       by_form : IsFormed t can.change
           → IsChild t node i child ⊎ BringsTo log (Decide caller base true) node i
@@ -128,8 +112,7 @@ module _ (pairs : List Pair) (words : ℕ) (opens : CanOpen pairs words) where
           leads_grows t u (grow_after pairs words log (Decide caller base true) h)
           (RebuildAt f.rebuild) f.row.target (leads_rebuild t.pieces f.rebuild f.row f.published) in
           let same = one_inner f.row.target child (sym now ∙ leads_to (RebuildAt f.rebuild) f.to) in
-          let here = same_Some was (InnerAt f.row.target) (sym from ∙ f.from) in
-          inl
+          let here = same_Some was (InnerAt f.row.target) (sym from ∙ f.from) in inl
           (read_child t node i child was old
           (ap (λ x. past_rebuild t.pieces (Some x)) here ∙ ap (λ m. Some (InnerAt m)) same))
       by_form (of_finish f) =
@@ -141,8 +124,7 @@ module _ (pairs : List Pair) (words : ℕ) (opens : CanOpen pairs words) where
           by_root (Some (InnerAt b)) is k = inr (brings b (ap ref_of f.to ∙ is))
           by_root (Some Empty) is k = absurd (cc (leads_to Empty (ap ref_of f.to ∙ is)))
           by_root (Some Unset) is k = absurd (cc (leads_to Unset (ap ref_of f.to ∙ is)))
-          by_root (Some (LeafAt b)) is k =
-              absurd (cc (leads_to (LeafAt b) (ap ref_of f.to ∙ is)))
+          by_root (Some (LeafAt b)) is k = absurd (cc (leads_to (LeafAt b) (ap ref_of f.to ∙ is)))
           by_root (Some (ChangeAt b)) is k = absurd k
           by_root (Some (RebuildAt b)) is k = absurd k
           by_root None is k = absurd k
@@ -182,8 +164,7 @@ module _ (pairs : List Pair) (words : ℕ) (opens : CanOpen pairs words) where
   -- the same, one row further down
   one_more : (log : Log) (event : Event) (node i row j child : ℕ) → HangsNew log event node i row
       → IsChild (following (event ∷ log)) row j child → HangsNew log event row j child
-  one_more log event node i row j child n c =
-      let u = following (event ∷ log) in
+  one_more log event node i row j child n c = let u = following (event ∷ log) in
       let hangs = hangs_on u n.top n.k node i row j child n.hangs c in
       record { top = n.top; k = n.k; brings = n.brings; hangs = hangs }
 
@@ -194,8 +175,7 @@ module _ (pairs : List Pair) (words : ℕ) (opens : CanOpen pairs words) where
       → IsChild (following (event ∷ log)) node i child
       → (Linked (following log) node × IsChild (following log) node i child)
       ⊎ HangsNew log event node i child
-  child_from log event h node i child (inl l) c =
-      ⊎_elim (λ b. inl (l, b))
+  child_from log event h node i child (inl l) c = ⊎_elim (λ b. inl (l, b))
       (λ n. inr record { top = node; k = i; brings = n; hangs = hangs_here c })
       (child_back log event h node i child l c)
   child_from log event h node i child (inr n) c =
@@ -203,8 +183,7 @@ module _ (pairs : List Pair) (words : ℕ) (opens : CanOpen pairs words) where
 
   -- a linked node was linked before the event, or hangs newly
   linked_back : (log : Log) (event : Event) → EachEnabled (start pairs words) (event ∷ log)
-      → (node : ℕ)
-      → Linked (following (event ∷ log)) node
+      → (node : ℕ) → Linked (following (event ∷ log)) node
       → Linked (following log) node ⊎ ((up j : ℕ) × HangsNew log event up j node)
   linked_back log event h _ at_anchor = inl at_anchor
   linked_back log event h _ (below {node = node} {child = child} i l c) =

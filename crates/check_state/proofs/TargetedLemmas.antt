@@ -5,21 +5,17 @@ use Rattle.std.specs.BTreeSet.{BTreeSet}
 use Rattle.ist_core.specs.declared.pairs.Pair.{Pair}
 use Rattle.ist_core.specs.declared.events.Event.{Event}
 use Rattle.ist_core.specs.declared.events.Event.TheVariants.{Decide, Finish}
-use Rattle.ist_core.specs.Snapshots.{Snapshot}
-use Rattle.ist_core.specs.Logs.{Log}
-use Rattle.ist_core.specs.Growing.{AllGrow}
-use Rattle.ist_core.specs.Rebuilding.{IsStarted, IsFinishedWith}
-use Rattle.ist_core.specs.Marking.{HasTarget}
-use Rattle.ist_core.specs.StartLayout.{start}
-use Rattle.ist_core.specs.Lawful.{Lawful, state_of}
-use Rattle.ist_core.proofs.DrawLemmas.{finished_grows}
+use Rattle.ist_core.specs.LogTerms.{Snapshot, Log, Lawful, state_of}
+use Rattle.ist_core.specs.TreeTerms.{AllGrow, IsStarted, IsFinishedWith, HasTarget}
+use Rattle.ist_core.specs.WordTerms.{start}
+use Rattle.ist_core.proofs.AllLogLemmas.{finished_grows}
 use Rattle.check_fairness.specs.Answers.{Holds}
 use Rattle.check_fairness.specs.Targets.{IsTargeted, KnowsTargets, HasFinishedTarget, GainsKeys}
 use Rattle.check_state.specs.Remembered.{StartsFinished}
 use Rattle.check_state.specs.Calls.{StartCalls}
 use Rattle.check_state.proofs.StartedLemmas.{is_sound, rows_grow, start_stays, started_before, started_newly, start_begun}
 use Rattle.check_state.proofs.CallLemmas.{target_stays, started_of}
-use Rattle.check_state.proofs.FinishingLemmas.{FinishesNode, finished_before, finished_now}
+use Rattle.check_state.proofs.DecisionLemmas.{FinishesNode, finished_before, finished_now}
 
 module _ (pairs : List Pair) (words : ℕ) where
   -- the state after the log
@@ -33,42 +29,38 @@ module _ (pairs : List Pair) (words : ℕ) where
 
     -- a target of a started rebuild stays one
     targeted_stays : (node : ℕ) → IsTargeted (table log) node → IsTargeted (table (event ∷ log)) node
-    targeted_stays node it =
-        record {
-          rebuild = it.rebuild;
-          of = target_stays (table log) (table (event ∷ log)) grows it.rebuild node it.of;
-          started = start_stays pairs words log event law it.rebuild it.started;
-        }
+    targeted_stays node it = record {
+      rebuild = it.rebuild;
+      of = target_stays (table log) (table (event ∷ log)) grows it.rebuild node it.of;
+      started = start_stays pairs words log event law it.rebuild it.started;
+    }
 
     -- it was one before, if its rebuild was started before
     targeted_before : (node rebuild : ℕ) → HasTarget (table (event ∷ log)) rebuild node
         → IsStarted (table log) rebuild → IsTargeted (table log) node
-    targeted_before node rebuild of old =
-        record {
-          rebuild = rebuild;
-          of = started_of pairs words log event law node old.base rebuild record {
-            change = old.change;
-            published = old.published;
-            kind = old.kind;
-            to = old.to;
-          } of;
-          started = old;
-        }
+    targeted_before node rebuild of old = record {
+      rebuild = rebuild;
+      of = started_of pairs words log event law node old.base rebuild record {
+        change = old.change;
+        published = old.published;
+        kind = old.kind;
+        to = old.to;
+      } of;
+      started = old;
+    }
 
     -- a finished target stays one
     keys_stay : (k : ℕ) → HasFinishedTarget (table log) k → HasFinishedTarget (table (event ∷ log)) k
-    keys_stay k it =
-        record {
-          node = it.node;
-          targeted = targeted_stays it.node it.targeted;
-          finished = finished_grows (table log) (table (event ∷ log)) it.node k grows it.finished;
-        }
+    keys_stay k it = record {
+      node = it.node;
+      targeted = targeted_stays it.node it.targeted;
+      finished = finished_grows (table log) (table (event ∷ log)) it.node k grows it.finished;
+    }
 
     -- a row that is finished was so, or is so by the event
     row_before : (node k : ℕ) → IsFinishedWith (table (event ∷ log)) node k
         → IsFinishedWith (table log) node k ⊎ FinishesNode node k event
-    row_before node k f =
-        finished_before (start pairs words) log node k event law.enabled.1
+    row_before node k f = finished_before (start pairs words) log node k event law.enabled.1
         (is_sound pairs words log law.enabled.0) f
 
     -- if each started rebuild was started before, the targets stay
@@ -146,8 +138,7 @@ module _ (pairs : List Pair) (words : ℕ) where
       targeted_newly : (node rebuild : ℕ) → HasTarget (table following) rebuild node
           → IsStarted (table following) rebuild
           → IsTargeted (table log) node ⊎ StartCalls (table log) base node
-      targeted_newly node rebuild of begun =
-          ⊎_elim
+      targeted_newly node rebuild of begun = ⊎_elim
           (λ old. inl (targeted_before log (Decide caller base true) law node rebuild of old))
           (λ now. inr record {
             rebuild = rebuild;
@@ -158,25 +149,22 @@ module _ (pairs : List Pair) (words : ℕ) where
 
       -- the target of what the change starts is one after its yes
       targeted_now : (node : ℕ) → StartCalls (table log) base node → IsTargeted (table following) node
-      targeted_now node k =
-          record {
-            rebuild = k.rebuild;
-            of = target_stays (table log) (table following) (grows log (Decide caller base true) law)
-                k.rebuild node k.of;
-            started = start_begun pairs words log caller base k.rebuild k.starts;
-          }
+      targeted_now node k = record {
+        rebuild = k.rebuild;
+        of = target_stays (table log) (table following) (grows log (Decide caller base true) law)
+            k.rebuild node k.of;
+        started = start_begun pairs words log caller base k.rebuild k.starts;
+      }
 
       -- with the targets of what the change starts the set is right after its yes
       pub targets_more : (old new : BTreeSet ℕ)
           → ((node : ℕ) → Holds new node ↔ (Holds old node ⊎ StartCalls (table log) base node))
           → KnowsTargets old (table log) → KnowsTargets new (table following)
       targets_more old new more known node = (
-        (λ h.
-            ⊎_elim
+        (λ h. ⊎_elim
             (λ k. targeted_stays log (Decide caller base true) law node ((known node).0 k))
             (targeted_now node) ((more node).0 h)),
-        (λ it.
-            (more node).1
+        (λ it. (more node).1
             (⊎_elim (λ k. inl ((known node).1 k)) (λ k. inr k)
             (targeted_newly node it.rebuild it.of it.started))),
       )
@@ -187,8 +175,7 @@ module _ (pairs : List Pair) (words : ℕ) where
       keys_newly k it =
           let row = ⊎_elim (λ old. old) (λ now. absurd now)
           (row_before log (Decide caller base true) law it.node k it.finished) in
-          ⊎_elim
-          (λ old. inl record { node = it.node; targeted = old; finished = row })
+          ⊎_elim (λ old. inl record { node = it.node; targeted = old; finished = row })
           (λ now. inr record {
             rebuild = now.rebuild;
             starts = now.starts;
@@ -200,8 +187,7 @@ module _ (pairs : List Pair) (words : ℕ) where
       pub keys_started : GainsKeys (table log) (table following) (StartsFinished (table log) base)
       keys_started k = (
         keys_newly k,
-        (λ s.
-            ⊎_elim (keys_stay log (Decide caller base true) law k)
+        (λ s. ⊎_elim (keys_stay log (Decide caller base true) law k)
             (λ now. record {
               node = now.finished.target;
               targeted = targeted_now now.finished.target record {
@@ -229,8 +215,7 @@ module _ (pairs : List Pair) (words : ℕ) where
           (λ c b x e. cc) law it.targeted.rebuild it.targeted.started in
           let old = targeted_before log (Finish caller node keys) law it.node it.targeted.rebuild
           it.targeted.of begun in
-          ⊎_elim
-          (λ f. inl record { node = it.node; targeted = old; finished = f })
+          ⊎_elim (λ f. inl record { node = it.node; targeted = old; finished = f })
           (λ now. inr (subst (IsTargeted (table log)) (sym now.0) old, sym now.1))
           (row_before log (Finish caller node keys) law it.node k it.finished)
 
@@ -239,8 +224,7 @@ module _ (pairs : List Pair) (words : ℕ) where
           (λ k. IsTargeted (table log) node × (k ≡ keys))
       keys_finished k = (
         keys_done k,
-        (λ s.
-            ⊎_elim (keys_stay log (Finish caller node keys) law k)
+        (λ s. ⊎_elim (keys_stay log (Finish caller node keys) law k)
             (λ now. record {
               node = node;
               targeted = targeted_stays log (Finish caller node keys) law node now.0;

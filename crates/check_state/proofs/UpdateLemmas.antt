@@ -6,14 +6,11 @@ use Rattle.std.specs.BTreeMap.{BTreeMap}
 use Rattle.ist_core.specs.declared.pairs.Pair.{Pair}
 use Rattle.ist_core.specs.declared.events.Event.{Event}
 use Rattle.ist_core.specs.declared.events.Event.TheVariants.{Decide, Count}
-use Rattle.ist_core.specs.Snapshots.{Snapshot}
-use Rattle.ist_core.specs.Logs.{Log, Happened, Counts}
+use Rattle.ist_core.specs.LogTerms.{Snapshot, Log, Happened, Counts, Lawful, EachEnabled, state_of}
 use Rattle.laws_links.proofs.DecisionLemmas.{Decides}
-use Rattle.ist_core.specs.Deciding.{IsUpdateOf, SaysYes}
-use Rattle.ist_core.specs.StartLayout.{start}
-use Rattle.ist_core.specs.Lawful.{Lawful, EachEnabled, state_of}
-use Rattle.ist_core.proofs.GrowingLemmas.{change_there}
-use Rattle.ist_core.proofs.PrefixLemmas.{happened_left}
+use Rattle.ist_core.specs.TreeTerms.{IsUpdateOf, SaysYes}
+use Rattle.ist_core.specs.WordTerms.{start}
+use Rattle.ist_core.proofs.AllLogLemmas.{change_there, happened_left}
 use Rattle.check_events.specs.declared.pasts.LastUpdate.{LastUpdate}
 use Rattle.check_events.specs.Remembering.{IsUncounted, LacksCount, KnowsUpdates}
 use Rattle.check_state.specs.Entries.{Renews, CountsIn}
@@ -47,8 +44,7 @@ module _ (pairs : List Pair) (words : ℕ) where
   decided_here (event ∷ log) h base said d =
       let here = ⊎_elim (decided_now log event h base said) (decided_here log h.0 base said) d in
       let grows = rows_grow pairs words log event h in
-      let on = change_there _ _ grows base here.0 here.1 in
-      (on.0, on.1)
+      let on = change_there _ _ grows base here.0 here.1 in (on.0, on.1)
 
   -- ---- one event
 
@@ -77,11 +73,9 @@ module _ (pairs : List Pair) (words : ℕ) where
               → ¬ (Happened (SaysYes (table (event ∷ log)) caller) later)
               → ¬ (Happened (Counts caller node) later)
               → IsUncounted (table log) log caller node base × ¬ (Counts caller node event)
-          at [] is last uncounted =
-              let same : event ≡ Decide it.by base true = cc in
+          at [] is last uncounted = let same : event ≡ Decide it.by base true = cc in
               absurd (none (subst (SaysYes (table (event ∷ log)) caller) (sym same) it.update))
-          at (first ∷ later) is last uncounted =
-              let same : event ≡ first = cc in
+          at (first ∷ later) is last uncounted = let same : event ≡ first = cc in
               let rest : log ≡ later ++ Decide it.by base true ∷ it.earlier = cc in
               let said = Decides base true in
               let then = in_between said later (Decide it.by base true) it.earlier (refl, refl) in
@@ -102,21 +96,19 @@ module _ (pairs : List Pair) (words : ℕ) where
       -- it
       longer : ¬ (Counts caller node event) → IsUncounted (table log) log caller node base
           → IsUncounted (table (event ∷ log)) (event ∷ log) caller node base
-      longer no_count it =
-          record {
-            later = event ∷ it.later;
-            by = it.by;
-            earlier = it.earlier;
-            log_is = ap (λ xs. event ∷ xs) it.log_is;
-            update = stays_update base it.update;
-            last = λ y. ⊎_elim none (λ old. it.last (yes_kept _ _ caller it.later was old)) y;
-            uncounted = λ y. ⊎_elim no_count it.uncounted y;
-          }
+      longer no_count it = record {
+        later = event ∷ it.later;
+        by = it.by;
+        earlier = it.earlier;
+        log_is = ap (λ xs. event ∷ xs) it.log_is;
+        update = stays_update base it.update;
+        last = λ y. ⊎_elim none (λ old. it.last (yes_kept _ _ caller it.later was old)) y;
+        uncounted = λ y. ⊎_elim no_count it.uncounted y;
+      }
         where
           was : (b : ℕ) → Happened (Decides b true) it.later
               → IsUpdateOf (table (event ∷ log)) caller b → IsUpdateOf (table log) caller b
-          was b d =
-              let said = Decides b true in
+          was b d = let said = Decides b true in
               let then = happened_left said it.later (Decide it.by base true ∷ it.earlier) d in
               was_update b (subst (Happened said) (sym it.log_is) then)
 
@@ -158,13 +150,11 @@ module _ (pairs : List Pair) (words : ℕ) where
         at : Renews (table log) change caller (entry old caller) (entry new caller)
             → LacksCount (entry new caller) node base
             ↔ IsUncounted (table following) following caller node base
-        at (inl k) =
-            let both = k.1 node base in
+        at (inl k) = let both = k.1 node base in
             let update = stays_update log (Decide by change true) law caller change k.0 in
             let last = last_is (table following) log by change caller node base update in
             ((λ l. last.0 (both.0 l)), (λ i. both.1 (last.1 i)))
-        at (inr k) =
-            let yes = Decide by change true in
+        at (inr k) = let yes = Decide by change true in
             let here = decided_now log yes law.enabled change true (refl, refl) in
             let before = update_before _ _ (rows_grow pairs words log yes law.enabled) caller change
             here in

@@ -6,20 +6,16 @@ use Rattle.std.specs.Ordering.{nat_cmp}
 use Rattle.std.specs.BTreeMap as tree
 use Rattle.std.specs.BTreeMap.{BTreeMap}
 use Rattle.ist_core.specs.declared.states.InnerRow.{InnerRow}
-use Rattle.ist_core.specs.Elements.{Among}
-use Rattle.ist_core.specs.RowLayout.{anchor}
-use Rattle.ist_core.specs.References.{InnerAt}
-use Rattle.ist_core.specs.Pieces.{Inner}
-use Rattle.ist_core.specs.Snapshots.{Snapshot}
-use Rattle.ist_core.specs.Slots.{logical}
-use Rattle.ist_core.specs.Links.{IsChild}
-use Rattle.ist_core.proofs.ElementLemmas.{among-append, among_left, among_right}
-use Rattle.ist_core.proofs.ImageLemmas.{get_below}
+use Rattle.ist_core.specs.LogTerms.{Among, Snapshot}
+use Rattle.ist_core.specs.WordTerms.{anchor, InnerAt, Inner, logical}
+use Rattle.ist_core.specs.TreeTerms.{IsChild}
+use Rattle.ist_core.proofs.AllWordLemmas.{among-append, among_left, among_right}
+use Rattle.ist_core.proofs.AllPlaceLemmas.{get_below}
 use Rattle.check_events.specs.declared.pasts.Slot.{Slot}
 use Rattle.check_state.specs.declared.linking.Link.{Link}
 use Rattle.check_state.specs.Hanging.{Hangs, hangs_here, hangs_below, SomeHangs, PutsLink, PutsLinks, HasSlot, AddsSlots, HangsOnce}
 use Rattle.check_state.proofs.HangingLemmas.{hangs_split, first_child, child_by_word, child_within}
-use Rattle.check_state.proofs.AddedSlotLemmas.{IsIt, one_entry, once_more}
+use Rattle.check_state.proofs.WayToRowLemmas.{IsIt, one_entry, once_more}
 
 module _ (t : Snapshot) where
   -- how far the remembering has come of what hangs in or below a slot
@@ -28,8 +24,7 @@ module _ (t : Snapshot) where
     -- each link that waits is of a child in its slot
     pub links : (l : Link) → Among l waiting → IsChild t l.node l.index l.child
     -- what was remembered before or hangs there is what is remembered now or hangs by what waits
-    pub told : (under j child : ℕ)
-        → (HasSlot old under j child ⊎ Hangs t node i under j child)
+    pub told : (under j child : ℕ) → (HasSlot old under j child ⊎ Hangs t node i under j child)
         ↔ (HasSlot now under j child ⊎ SomeHangs t waiting under j child)
 
   -- at first nothing is remembered, and the row in the slot waits
@@ -37,8 +32,7 @@ module _ (t : Snapshot) where
       → IsChild t node i child
       → waiting ≡ record { node = node; index = i; child = child } ∷ []
       → Noted old old node i waiting
-  noted_none old node i child waiting once c is =
-      subst (λ ls. Noted old old node i ls) (sym is)
+  noted_none old node i child waiting once c is = subst (λ ls. Noted old old node i ls) (sym is)
       record {
         once = once;
         links = λ l a. ⊎_elim (λ e. at l e) (λ none. absurd none) a;
@@ -62,8 +56,7 @@ module _ (t : Snapshot) where
 
   -- with nothing waiting all is remembered
   pub noted_all : (old now : BTreeMap ℕ Slot) (node i : ℕ) (waiting : List Link) → waiting ≡ []
-      → Noted old now node i waiting
-      → AddsSlots old now (Hangs t node i)
+      → Noted old now node i waiting → AddsSlots old now (Hangs t node i)
   noted_all old now node i waiting is noted under j child =
       let it = subst (λ ls. Noted old now node i ls) is noted in (
         (λ h. (it.told under j child).1 (inl h)),
@@ -88,10 +81,8 @@ module _ (t : Snapshot) where
     -- what hangs by the row is the row, or hangs by one of those in its slots
     by_row : (under j x : ℕ) → Hangs t l.node l.index under j x
         → HasSlot mid under j x ⊎ SomeHangs t next under j x
-    by_row under j x h =
-        ⊎_elim (λ it. inl ((entry under j x).1 (inr it)))
-        (λ b.
-        let c = first_child t l.child b.0 under j x b.1 in
+    by_row under j x h = ⊎_elim (λ it. inl ((entry under j x).1 (inr it)))
+        (λ b. let c = first_child t l.child b.0 under j x b.1 in
         let m : Link = record { node = l.child; index = b.0; child = c.0 } in
         inr (m, (puts m).1 (inr (refl, c.1)), b.1))
         (hangs_split t noted.once.anchor_free l.node l.index l.child under j x child h)
@@ -99,8 +90,7 @@ module _ (t : Snapshot) where
     forth : (under j x : ℕ) → HasSlot now under j x ⊎ SomeHangs t (rest ++ l ∷ []) under j x
         → HasSlot mid under j x ⊎ SomeHangs t next under j x
     forth under j x (inl e) = inl ((entry under j x).1 (inl e))
-    forth under j x (inr s) =
-        ⊎_elim (λ a. inr (s.0, (puts s.0).1 (inl a), s.2))
+    forth under j x (inr s) = ⊎_elim (λ a. inr (s.0, (puts s.0).1 (inl a), s.2))
         (λ a. ⊎_elim
         (λ e. by_row under j x (subst (λ y. Hangs t y.node y.index under j x) e s.2))
         (λ none. absurd none) a)
@@ -108,20 +98,15 @@ module _ (t : Snapshot) where
 
     back : (under j x : ℕ) → HasSlot mid under j x ⊎ SomeHangs t next under j x
         → HasSlot now under j x ⊎ SomeHangs t (rest ++ l ∷ []) under j x
-    back under j x (inl e) =
-        ⊎_elim (λ o. inl o)
-        (λ it. inr (l, last, here it))
+    back under j x (inl e) = ⊎_elim (λ o. inl o) (λ it. inr (l, last, here it))
         ((entry under j x).0 e)
       where
         here : (under ≡ l.node) × (j ≡ l.index) × (x ≡ l.child) → Hangs t l.node l.index under j x
-        here it =
-            subst (λ m. Hangs t l.node l.index m j x) (sym it.0)
+        here it = subst (λ m. Hangs t l.node l.index m j x) (sym it.0)
             (subst (λ k. Hangs t l.node l.index l.node k x) (sym it.1)
             (hangs_here (subst (λ y. IsChild t l.node l.index y) (sym it.2) child)))
-    back under j x (inr s) =
-        ⊎_elim (λ a. inr (s.0, among_left s.0 rest (l ∷ []) a, s.2))
-        (λ below.
-        let h = subst (λ n. Hangs t n s.0.index under j x) below.0 s.2 in
+    back under j x (inr s) = ⊎_elim (λ a. inr (s.0, among_left s.0 rest (l ∷ []) a, s.2))
+        (λ below. let h = subst (λ n. Hangs t n s.0.index under j x) below.0 s.2 in
         let c = subst (λ n. IsChild t n s.0.index s.0.child) (sym below.0) below.1 in
         inr (l, last, hangs_below l.child s.0.index child h))
         ((puts s.0).0 s.1)
@@ -129,16 +114,15 @@ module _ (t : Snapshot) where
     -- when a row was remembered, it is replaced by those that hang in its slots among those that
     -- wait
     pub noted_one : Noted old mid node i next
-    noted_one =
-        record {
-          once = once_more t now mid l.node l.index l.child noted.once child u;
-          links = λ m a. ⊎_elim (λ b. noted.links m (among_left m rest (l ∷ []) b))
-              (λ below. subst (λ n. IsChild t n m.index m.child) (sym below.0) below.1) ((puts m).0 a);
-          told = λ under j x. (
-            (λ h. forth under j x ((noted.told under j x).0 h)),
-            (λ h. (noted.told under j x).1 (back under j x h)),
-          );
-        }
+    noted_one = record {
+      once = once_more t now mid l.node l.index l.child noted.once child u;
+      links = λ m a. ⊎_elim (λ b. noted.links m (among_left m rest (l ∷ []) b))
+          (λ below. subst (λ n. IsChild t n m.index m.child) (sym below.0) below.1) ((puts m).0 a);
+      told = λ under j x. (
+        (λ h. forth under j x ((noted.told under j x).0 h)),
+        (λ h. (noted.told under j x).1 (back under j x h)),
+      );
+    }
 
   -- ---- the slots of a node
 
@@ -182,8 +166,7 @@ module _ (t : Snapshot) where
   -- before the end of the slots is anywhere
   pub puts_all : (node : ℕ) (row : InnerRow) (old new : List Link) (n : ℕ) → n ≡ length row.slots
       → t.pieces anchor ≡ None → t.pieces node ≡ Some (Inner row)
-      → ((l : Link) → Among l new ↔ (Among l old ⊎ HangsBefore node n l))
-      → PutsLinks t node old new
+      → ((l : Link) → Among l new ↔ (Among l old ⊎ HangsBefore node n l)) → PutsLinks t node old new
   puts_all node row old new n end free e all l = (
     (λ a. ⊎_elim (λ o. inl o) (λ h. inr (h.0, h.2)) ((all l).0 a)),
     (λ h. ⊎_elim (λ o. (all l).1 (inl o))
@@ -191,8 +174,7 @@ module _ (t : Snapshot) where
   )
     where
       within : (l : Link) → IsChild t node l.index l.child → l.index < n
-      within l c =
-          let w = child_within t free node l.index l.child row e c in
+      within l c = let w = child_within t free node l.index l.child row e c in
           let less = get_below row.slots l.index w.0 w.1 in omega arith
 
   -- one more row waits
@@ -232,6 +214,5 @@ module _ (t : Snapshot) where
 -- if no row waits, none is next
 pub nothing_waits : (waiting rest : List Link) (n : ℕ) → waiting ≡ rest ++ [] → rest ≡ take (n - 1) waiting
     → n ≡ 0 → waiting ≡ []
-nothing_waits waiting rest n is taken none =
-    let first : n - 1 ≡ 0 = omega arith in
+nothing_waits waiting rest n is taken none = let first : n - 1 ≡ 0 = omega arith in
     is ∙ append-nil rest ∙ taken ∙ ap (λ k. take k waiting) first

@@ -1,17 +1,17 @@
 -- The ways that a table has stay right after a longer log; and which keys lead to one child of a
 -- node. Serves `ways.rt`.
-use Rattle.std.proofs.Common.{◌≡◌, ◌↔◌, ◌≢◌, ◌∙◌, ◌⊎◌, ◌≤◌, ◌<◌, ◌+◌, ◌-◌, ◌^◌, ℕ, List, ◌∷◌, length, get_or, Some, None, sym, ap, subst, inl, inr, ⊎_elim, arith}
+use Rattle.std.proofs.Common.{◌≡◌, ◌↔◌, ◌≢◌, ◌∙◌, ◌⊎◌, ◌≤◌, ◌<◌, ◌+◌, ◌-◌, ◌^◌, ℕ, List, ◌∷◌, length, get_or, Some, None, sym, ap, subst, inl, inr, ⊎_elim, arith, true, false, eqb, Option}
 use Rattle.std.proofs.lemmas.Grind.{common_steps}
 use Rattle.std.specs.Ordering.{nat_cmp}
-use Rattle.std.specs.BTreeMap as tree
 use Rattle.std.specs.BTreeMap.{BTreeMap}
 use Rattle.std.specs.List.Sorted.{IsStrictlyIncreasing}
 use Rattle.ist_core.specs.declared.events.Event.{Event}
-use Rattle.ist_core.specs.Arithmetic.{child_count}
-use Rattle.ist_core.specs.Snapshots.{Snapshot}
-use Rattle.ist_core.specs.Logs.{Log}
-use Rattle.ist_core.specs.Links.{Linked, Leads, WasLinked, WasLedTo}
-use Rattle.ist_core.proofs.RisingLemmas.{child_count_tells}
+use Rattle.ist_core.specs.declared.states.ChangeRow.{ChangeRow}
+use Rattle.ist_core.specs.declared.pairs.Pair.{Pair}
+use Rattle.ist_core.specs.WordTerms.{child_count, Change, Inner, start}
+use Rattle.ist_core.specs.LogTerms.{Snapshot, Log, Lawful}
+use Rattle.ist_core.specs.TreeTerms.{Linked, Leads, WasLinked, WasLedTo, IsUpdate, IsUpdateOf}
+use Rattle.ist_core.proofs.AllPlaceLemmas.{child_count_tells}
 use Rattle.ist_math.proofs.ChildLemmas.{child_count_is}
 use Rattle.check_events.specs.declared.pasts.Slot.{Slot}
 use Rattle.check_events.specs.declared.pasts.RowWay.{RowWay}
@@ -19,6 +19,15 @@ use Rattle.check_events.specs.Remembering.{KnowsSlots, KnowsWays, IsWay}
 use Rattle.check_events.specs.Ways.{KeysStay}
 use Rattle.check_events.proofs.WayUpLemmas.{ever_at, at_ever, linked_leads, climbs_is}
 use Rattle.check_builds.proofs.TableLemmas.{updated_here, updated_other}
+use Rattle.std.proofs.lemmas.Bool.Decides.{eqb_tells}
+use Rattle.std.specs.BTreeSet.{BTreeSet}
+use Rattle.ist_core.proofs.AllWordLemmas.{same_change}
+use Rattle.check_fairness.specs.Answers.{Holds}
+use Rattle.check_events.specs.declared.pasts.LastUpdate.{LastUpdate}
+use Rattle.check_state.specs.Entries.{BeginsAt, Renews, CountsIn}
+use Rattle.ist_core.proofs.AllLogLemmas.{ever_from, grow_between, inner_there}
+use Rattle.std.specs.BTreeMap as tree
+use Rattle.std.specs.BTreeSet as set
 
 -- ---- a longer log
 
@@ -36,16 +45,14 @@ module _ (first : Snapshot) (log : Log) (event : Event) (slots : BTreeMap ℕ Sl
   -- the ways stay
   pub ways_stay : (ways : BTreeMap ℕ RowWay) → KnowsWays ways first log
       → KnowsWays ways first (event ∷ log)
-  ways_stay ways h node way e =
-      let it = h node way e in
-      record {
-        linked = inr it.linked;
-        led = λ key low. (
-          (λ led. (it.led key low).0 (led_before key node it.linked led)),
-          (λ span. inr ((it.led key low).1 span)),
-        );
-        jump = ⊎_elim (λ a. inl a) (λ on. inr (inr on)) it.jump;
-      }
+  ways_stay ways h node way e = let it = h node way e in record {
+    linked = inr it.linked;
+    led = λ key low. (
+      (λ led. (it.led key low).0 (led_before key node it.linked led)),
+      (λ span. inr ((it.led key low).1 span)),
+    );
+    jump = ⊎_elim (λ a. inl a) (λ on. inr (inr on)) it.jump;
+  }
 
 -- two numbers are the same or not
 pub same_or_not : (a b : ℕ) → (a ≡ b) ⊎ (a ≢ b)
@@ -63,14 +70,12 @@ no_ways first log empty none node way e = absurd (cc (empty_map empty none node)
 pub way_added : (first : Snapshot) (log : Log) (old new : BTreeMap ℕ RowWay) (row : ℕ) (way : RowWay)
     → tree.Updates nat_cmp old new row (Some way) → IsWay first log row way
     → KnowsWays old first log → KnowsWays new first log
-way_added first log old new row way u is h node found e =
-    ⊎_elim
+way_added first log old new row way u is h node found e = ⊎_elim
     (λ s.
     let there : Some way ≡ Some found = sym (updated_here old new row way u) ∙ sym (ap (tree.get nat_cmp new) s) ∙ e in
     let same : way ≡ found = cc in
     subst (λ w. IsWay first log node w) same (subst (λ n. IsWay first log n way) (sym s) is))
-    (λ s. h node found (sym (updated_other old new row way u node s) ∙ e))
-    (same_or_not node row)
+    (λ s. h node found (sym (updated_other old new row way u node s) ∙ e)) (same_or_not node row)
 
 -- ---- the keys of one child
 
@@ -93,8 +98,7 @@ module _ (keys : List ℕ) (rise : IsStrictlyIncreasing keys) where
           let next : index - 1 - 1 + 1 ≡ index - 1 = omega arith in
           let lower = subst (λ i. get_or keys (index - 1 - 1) 0 < get_or keys i 0) next step in
           omega arith) in
-          let less = child_count_tells keys (at - 1) key (omega arith) in
-          omega arith
+          let less = child_count_tells keys (at - 1) key (omega arith) in omega arith
 
   -- a key for a child is below the key after the child
   below_next : (index key : ℕ) → index < length keys → index ≡ child_count keys key
@@ -110,8 +114,7 @@ module _ (keys : List ℕ) (rise : IsStrictlyIncreasing keys) where
   pub span_is : (index low high : ℕ) → index ≤ length keys
       → (0 < index → low ≡ get_or keys (index - 1) 0) → (index ≡ 0 → low ≡ 0)
       → (index < length keys → high + 1 ≡ get_or keys index 0)
-      → (index ≡ length keys → high + 1 ≡ 2 ^ 64)
-      → (key : ℕ) → key < 2 ^ 64
+      → (index ≡ length keys → high + 1 ≡ 2 ^ 64) → (key : ℕ) → key < 2 ^ 64
       → (index ≡ child_count keys key) ↔ ((low ≤ key) × (key ≤ high))
   span_is index low high within from none to end key word = (
     (λ is. (
@@ -122,9 +125,7 @@ module _ (keys : List ℕ) (rise : IsStrictlyIncreasing keys) where
           (λ less. let a = to less in let b = below_next index key less is in omega arith)
           (last_or_less index within),
     )),
-    (λ h.
-        let l = h.0 in
-        let u = h.1 in
+    (λ h. let l = h.0 in let u = h.1 in
         sym (child_count_is keys key index rise within
         (λ less. let a = to less in omega arith) (λ some. let a = from some in omega arith))),
   )
@@ -134,3 +135,111 @@ module _ (keys : List ℕ) (rise : IsStrictlyIncreasing keys) where
 
       last_or_less : (i : ℕ) → i ≤ length keys → (i ≡ length keys) ⊎ (i < length keys)
       last_or_less i h = grind arith
+
+-- ---- what becomes of the entries of the table of updates. Serves `updating.rt`.
+
+-- a number is another one, or isn't
+abbrev SameOrNot : ℕ → ℕ → Type 0
+SameOrNot x y = ◌⊎◌ ((eqb x y ≡ true) × (x ≡ y)) ((eqb x y ≡ false) × (x ≢ y))
+
+-- the caller's entry, if there is one
+abbrev entry : BTreeMap ℕ LastUpdate → ℕ → Option LastUpdate
+entry updates caller = tree.get nat_cmp updates caller
+
+-- a set with one more number holds it, and what it held
+pub inserted_more : (old new : BTreeSet ℕ) (k : ℕ) → set.Updates nat_cmp old new k true → (x : ℕ)
+    → Holds new x ↔ (Holds old x ⊎ (x ≡ k))
+inserted_more old new k u x = at (eqb_tells x k)
+  where
+    at : SameOrNot x k → Holds new x ↔ (Holds old x ⊎ (x ≡ k))
+    at (inl e) = ((λ _. inr e.1), (λ _. subst (λ y. Holds new y) (sym e.1) u.1))
+    at (inr f) =
+        let same : set.contains nat_cmp new x ≡ set.contains nat_cmp old x =
+        grind (arith, common_steps, u.0 x, f.1) in (
+          (λ h. inl (sym same ∙ h)),
+          (λ h. ⊎_elim (λ o. same ∙ o) (λ e. absurd (f.1 e)) h),
+        )
+
+-- ---- a yes
+
+-- an entry of the change that has no node begins there
+begins_at : (last : LastUpdate) (change : ℕ) → last.change ≡ change → ((x : ℕ) → ¬ (Holds last.counted x))
+    → BeginsAt (Some last) change
+begins_at last change is none node base = ((λ l. sym is ∙ l.0), (λ e. (is ∙ e, none node)))
+
+module _ (t : Snapshot) (change : ℕ) (row : ChangeRow) (e : t.pieces change ≡ Some (Change row))
+  where
+    -- a published change is an update of its owner only
+    owner_is : (caller : ℕ) → IsUpdateOf t caller change → caller ≡ row.owner
+    owner_is caller it =
+        sym it.owned ∙ ap (λ r. r.owner) (same_change (t.pieces change) it.change row it.published e)
+
+    -- if a new entry is put under the owner of a put or remove, the entries are as a yes makes them
+    pub renewed : (old new : BTreeMap ℕ LastUpdate) (last : LastUpdate) → IsUpdate row.kind
+        → last.change ≡ change → ((x : ℕ) → ¬ (Holds last.counted x))
+        → tree.Updates nat_cmp old new row.owner (Some last) → (caller : ℕ)
+        → Renews t change caller (tree.get nat_cmp old caller) (tree.get nat_cmp new caller)
+    renewed old new last kind is none u caller = at (eqb_tells caller row.owner)
+      where
+        at : SameOrNot caller row.owner → Renews t change caller (entry old caller) (entry new caller)
+        at (inl k) =
+            let here : entry new caller ≡ Some last =
+            ap (entry new) k.1 ∙ updated_here old new row.owner last u in
+            inl (
+              record { change = row; published = e; owned = sym k.1; update = kind },
+              subst (λ o. BeginsAt o change) (sym here) (begins_at last change is none),
+            )
+        at (inr k) =
+            inr ((λ it. k.1 (owner_is caller it)), updated_other old new row.owner last u caller k.1)
+
+-- ---- a Count
+
+module _ (caller node : ℕ) where
+  -- an entry of the caller gets the node
+  entry_counted : (other : ℕ) (last next : LastUpdate) → caller ≡ other → next.change ≡ last.change
+      → ((x : ℕ) → Holds next.counted x ↔ (Holds last.counted x ⊎ (x ≡ node)))
+      → CountsIn caller node other (Some last) (Some next)
+  entry_counted other last next same change more at base = (
+    (λ l. (
+      (sym change ∙ l.0, λ a. l.1 ((more at).1 (inl a))),
+      (λ both. l.1 ((more at).1 (inr (sym both.1)))),
+    )),
+    (λ k. (
+      change ∙ k.0.0,
+      λ a. ⊎_elim k.0.1 (λ e. k.1 (same, sym e)) ((more at).0 a),
+    )),
+  )
+
+  -- an entry of another stays
+  entry_kept : (other : ℕ) → caller ≢ other → (o : Option LastUpdate) → CountsIn caller node other o
+      o
+  entry_kept other ne o at base = ((λ l. (l, λ both. ne both.0)), (λ k. k.0))
+
+  -- if the caller's entry gets the node, the entries are as a Count makes them
+  pub counted_in : (old new : BTreeMap ℕ LastUpdate) (last next : LastUpdate)
+      → tree.get nat_cmp old caller ≡ Some last → next.change ≡ last.change
+      → ((x : ℕ) → Holds next.counted x ↔ (Holds last.counted x ⊎ (x ≡ node)))
+      → tree.Updates nat_cmp old new caller (Some next) → (other : ℕ)
+      → CountsIn caller node other (tree.get nat_cmp old other) (tree.get nat_cmp new other)
+  counted_in old new last next had change more u other = at (eqb_tells other caller)
+    where
+      at : SameOrNot other caller → CountsIn caller node other (entry old other) (entry new other)
+      at (inl k) = let before : entry old other ≡ Some last = ap (entry old) k.1 ∙ had in
+          let now : entry new other ≡ Some next =
+          ap (entry new) k.1 ∙ updated_here old new caller next u in
+          subst (λ o. CountsIn caller node other o (entry new other)) (sym before)
+          (subst (λ o. CountsIn caller node other (Some last) o) (sym now)
+          (entry_counted other last next (sym k.1) change more))
+      at (inr k) = let stays = updated_other old new caller next u other k.1 in
+          subst (λ o. CountsIn caller node other (entry old other) o) (sym stays)
+          (entry_kept other (λ e. k.1 (sym e)) (entry old other))
+
+-- ---- after a lawful log an inner row keeps its keys. Serves `ways.rt`.
+
+module _ (pairs : List Pair) (words : ℕ) (log : Log) (lawful : Lawful pairs words log) where
+  -- an inner row keeps its keys
+  pub keys_stay : KeysStay (start pairs words) log
+  keys_stay node r ever =
+      let it = ever_from (start pairs words) (λ t. t.pieces node ≡ Some (Inner r)) log ever in
+      let grown = inner_there _ _ (grow_between pairs words it.0 log lawful.enabled it.1) node r
+      it.2 in (grown.0, grown.1, grown.2.keys)

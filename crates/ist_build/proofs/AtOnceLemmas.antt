@@ -3,20 +3,14 @@
 use Rattle.std.proofs.Common.{◌≡◌, ℕ, ◌≤◌, List, ◌++◌, length, Result, Ok, Err, IfOk, IfErr, sym, ap, subst, arith}
 use Rattle.std.specs.List.{sum}
 use Rattle.ist_core.specs.declared.ports.Full.{Full}
-use Rattle.ist_core.specs.Arithmetic.{degree}
-use Rattle.ist_core.specs.Leaves.{PlacedLeaf}
-use Rattle.ist_core.specs.RowLayout.{inner_words, place_limit}
-use Rattle.ist_core.specs.Shapes.{shape}
-use Rattle.ist_core.proofs.PrefixLemmas.{goes_on_by}
-use Rattle.ist_core.proofs.ShapeLemmas.{shape_many}
+use Rattle.ist_core.specs.WordTerms.{degree, inner_words, place_limit, shape}
+use Rattle.ist_core.specs.TreeTerms.{PlacedLeaf}
+use Rattle.ist_core.proofs.AllLogLemmas.{goes_on_by}
+use Rattle.ist_core.proofs.AllWordLemmas.{shape_many}
+use Rattle.ist_rule.specs.RuleTerms.{IsSound, own_at, now, GoesOnTo}
 use Rattle.ist_rule.specs.declared.view.View.{View}
-use Rattle.ist_rule.specs.Rule.{IsSound, own_at}
-use Rattle.ist_rule.specs.Learning.{now, GoesOnTo}
+use Rattle.ist_rows.specs.RowTerms.{IsCaller, IsInBuild, HasTaken, HoldsBlock, AreNext, HasNoRoom, ReservedAll, HasTakenFew, HasTakenFewIn}
 use Rattle.ist_rows.specs.declared.callers.Caller.{Caller}
-use Rattle.ist_rows.specs.Rows.{IsCaller}
-use Rattle.ist_rows.specs.Building.{IsInBuild, HasTaken}
-use Rattle.ist_rows.specs.Block.{HoldsBlock, AreNext, HasNoRoom, ReservedAll}
-use Rattle.ist_rows.specs.Taken.{HasTakenFew, HasTakenFewIn}
 use Rattle.ist_rows.proofs.FewLemmas.{out_in, out_on}
 use Rattle.ist_rows.proofs.FewStepLemmas.{few_reserved_all, no_room_out}
 use Rattle.ist_rows.proofs.BlockLemmas.{holds_them}
@@ -24,11 +18,10 @@ use Rattle.ist_rows.proofs.ReserveLemmas.{next_low}
 use Rattle.ist_build.specs.Laying.{BuiltOn, ArePlaced, HaveLeaves, AreKeysOf, AreNextRows, IsLaid, IsShort, IsWritten, IsLaidBelow}
 use Rattle.ist_build.proofs.BuiltLemmas.{built_grow, built_more, built_next, loads_built, rewritten_built}
 use Rattle.ist_build.proofs.PartLeafLemmas.{published_on}
-use Rattle.ist_build.proofs.KeyLemmas.{keys_on}
+use Rattle.ist_build.proofs.KeyLemmas.{keys_on, IsFreshBlock, reserved_all_built, fresh_block}
 use Rattle.ist_build.proofs.LayingLemmas.{row_within}
 use Rattle.ist_build.proofs.RowOpenedLemmas.{at_rewritten}
 use Rattle.ist_build.proofs.StoringLemmas.{block_first}
-use Rattle.ist_build.proofs.ReservedLemmas.{IsFreshBlock, reserved_all_built, fresh_block}
 use Rattle.ist_build.proofs.ShareLemmas.{laid_lower, taken_on, short_on}
 
 -- several keys take a row at least
@@ -107,16 +100,13 @@ module _ (old new : Caller) (leaves keys : List ℕ) (at base : ℕ) (base_is : 
       let row = (block_first (now new.token.view) new.number base (length leaves) two block_held).0 in
       let inside = (row_within new.token.view reserved.reserved.sound new.number base
       (inner_words (degree (length leaves))) row).1 in
-      let low = next_low new.token.view reserved.reserved.sound in
-      let free = low.0 in
-      let all = low.1 in
-      omega arith
+      let low = next_low new.token.view reserved.reserved.sound in let free = low.0 in
+      let all = low.1 in omega arith
 
   module _ (last : Caller) (end word : ℕ) (written : IsWritten new last base end) where
     -- the caller only reserved, and stored into what it reserved
     block_built : BuiltOn old.token.view last.token.view
-    block_built =
-        let high = fresh.high in
+    block_built = let high = fresh.high in
         subst (λ (x : Caller). BuiltOn old.token.view x.token.view) (sym written.same)
         (rewritten_built old.token.view new.token.view last.token.view.own built
         (subst (λ (x : Caller). IsSound x.token.view) written.same written.sound)
@@ -139,22 +129,21 @@ module _ (old new : Caller) (leaves keys : List ℕ) (at base : ℕ) (base_is : 
 
   -- the rows are there to be laid
   pub block_ready : BlockReady old new leaves keys base
-  block_ready =
-      record {
-        held = block_held;
-        fresh = fresh.zero_words;
-        low = block_low;
-        leaves_are = (have.0, placed_on old.token.view new.token.view built leaves have.0 have.1);
-        keys_are = keys_on (now old.token.view) (now new.token.view)
-            (built_grow old.token.view new.token.view built) leaves keys have_keys;
-        laid = λ last end word written laid. record {
-          built = block_built last end word written;
-          laid = block_laid last end word written laid;
-          taken = block_taken last end word written;
-          few = subst (λ (x : Caller). HasTakenFew (sum sizes) 0 old x) (sym written.same)
-              (few_reserved_all old new c at sizes reserved);
-        };
-      }
+  block_ready = record {
+    held = block_held;
+    fresh = fresh.zero_words;
+    low = block_low;
+    leaves_are = (have.0, placed_on old.token.view new.token.view built leaves have.0 have.1);
+    keys_are = keys_on (now old.token.view) (now new.token.view)
+        (built_grow old.token.view new.token.view built) leaves keys have_keys;
+    laid = λ last end word written laid. record {
+      built = block_built last end word written;
+      laid = block_laid last end word written laid;
+      taken = block_taken last end word written;
+      few = subst (λ (x : Caller). HasTakenFew (sum sizes) 0 old x) (sym written.same)
+          (few_reserved_all old new c at sizes reserved);
+    };
+  }
 
 -- ---- if they don't fit
 
@@ -181,9 +170,7 @@ pub later_built : (old mid new : Caller) (words : ℕ) (leaves : List ℕ) → I
     → IfErr answer (λ full. IsShort mid.token.view words (length leaves) full new.token.view)
     → LaterBuilt old new words leaves answer
 later_built old mid new words leaves c is room same g b (Ok word) laid taken full =
-    let v = old.token.view in
-    let on = loads_built v mid.token.view g in
-    record {
+    let v = old.token.view in let on = loads_built v mid.token.view g in record {
       built = built_more v mid.token.view new.token.view on b;
       laid = λ placed a. laid_lower new.token.view new.number (now v).next (now mid.token.view).next word
           placed (built_next v mid.token.view on)
@@ -195,8 +182,7 @@ later_built old mid new words leaves c is room same g b (Ok word) laid taken ful
       full = tt;
     }
 later_built old mid new words leaves c is room same g b (Err full) laid taken short =
-    let v = old.token.view in
-    record {
+    let v = old.token.view in record {
       built = built_more v mid.token.view new.token.view (loads_built v mid.token.view g) b;
       laid = tt;
       taken = tt;

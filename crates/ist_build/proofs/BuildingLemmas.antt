@@ -4,36 +4,26 @@ use Rattle.std.proofs.lemmas.Bool.Decides.{nat_tests}
 use Rattle.std.proofs.lemmas.List.{length-map}
 use Rattle.std.specs.List.{flat_map}
 use Rattle.ist_core.specs.declared.ports.Full.{Full}
-use Rattle.ist_core.specs.Arithmetic.{degree, part_len, part_start}
-use Rattle.ist_core.specs.Leaves.{PlacedLeaf}
-use Rattle.ist_core.specs.Parts.{first_keys}
-use Rattle.ist_core.specs.Pieces.{Leaf}
-use Rattle.ist_core.specs.References.{InnerAt, IsGoodBase, ref_of, word_of}
-use Rattle.ist_core.specs.RowLayout.{inner_words}
-use Rattle.ist_core.specs.Shapes.{shape}
-use Rattle.ist_core.specs.Snapshots.{HoldsRow}
-use Rattle.ist_core.proofs.PlaceLemmas.{placed, claimed_within}
-use Rattle.ist_core.proofs.ReferenceLemmas.{ref_of-word_of}
-use Rattle.ist_core.proofs.RootLemmas.{least_degree-le}
-use Rattle.ist_core.proofs.RoomLemmas.{next_within, words_same}
-use Rattle.ist_core.proofs.ShapeLemmas.{shape_few, shape_many}
+use Rattle.ist_core.specs.WordTerms.{degree, part_len, part_start, first_keys, Leaf, InnerAt, IsGoodBase, ref_of, word_of, inner_words, shape}
+use Rattle.ist_core.specs.TreeTerms.{PlacedLeaf}
+use Rattle.ist_core.specs.LogTerms.{HoldsRow}
+use Rattle.ist_core.proofs.AllPlaceLemmas.{placed, claimed_within}
+use Rattle.ist_core.proofs.AllWordLemmas.{ref_of-word_of, least_degree-le, shape_few, shape_many}
+use Rattle.ist_core.proofs.AllLogLemmas.{next_within, words_same}
 use Rattle.laws_calls.specs.Dividing.{lens_to, parts_to, share_of}
 use Rattle.laws_calls.proofs.PartLemmas.{parts_all, lens_all}
+use Rattle.ist_rule.specs.RuleTerms.{IsSound, now, GoesOnTo}
 use Rattle.ist_rule.specs.declared.view.View.{View}
-use Rattle.ist_rule.specs.Rule.{IsSound}
-use Rattle.ist_rule.specs.Learning.{now, GoesOnTo}
 use Rattle.ist_dcss.proofs.FieldLemmas.{good_base}
+use Rattle.ist_rows.specs.RowTerms.{IsCaller, IsFull, spares_of, IsInBuild, IsNext, HasTaken, HasRefused}
 use Rattle.ist_rows.specs.declared.callers.Caller.{Caller}
-use Rattle.ist_rows.specs.Rows.{IsCaller, IsFull, spares_of}
-use Rattle.ist_rows.specs.Building.{IsInBuild, IsNext, HasTaken, HasRefused}
 use Rattle.ist_build.specs.Laying.{BuiltOn, ArePlaced, HaveLeaves, IsLaid, AreNextRows, IsShort}
 use Rattle.ist_build.specs.Midway.{words_at, AreLaid, lens_from, IsOpened, IsMidway, IsTopRowRefused}
-use Rattle.ist_build.proofs.BuiltLemmas.{built_more, loads_built}
+use Rattle.ist_build.proofs.BuiltLemmas.{built_more, loads_built, short_for_more}
 use Rattle.ist_build.proofs.JoinedSubtreeLemmas.{laid_top}
 use Rattle.ist_build.proofs.PartLeafLemmas.{part_placed, length-share_of}
 use Rattle.ist_build.proofs.PartsLemmas.{lens_first, lens_last, sizes_left}
 use Rattle.ist_rows.proofs.ShortLemmas.{short_from, short_goes_on}
-use Rattle.ist_build.proofs.ShortLemmas.{short_for_more}
 
 -- ---- few leaves
 
@@ -53,8 +43,7 @@ one_good v s leaves have one = at leaves have.0 have.1 one
     at : (bases : List ℕ) (placed : List PlacedLeaf) → ArePlaced (now v) bases placed
         → length bases ≡ 1 → IsGoodBase (slice_index_or bases 0 0)
     at bases [] a e = absurd (let all = ap length a.bases_are in omega arith)
-    at bases (leaf ∷ more) a e =
-        subst (λ xs. IsGoodBase (slice_index_or xs 0 0)) a.bases_are
+    at bases (leaf ∷ more) a e = subst (λ xs. IsGoodBase (slice_index_or xs 0 0)) a.bases_are
         (good_base v s leaf.base (Leaf leaf.row) a.published.0 (omega arith))
 
 -- a build over at most one leaf takes no row
@@ -71,8 +60,7 @@ small_taken who leaves few stuck done rest h =
 -- its row is the next
 pub next_row : (who : Caller) (n d : ℕ) → 2 ≤ n → d ≡ degree n → AreNextRows who n
     → IsNext who (inner_words d)
-next_row who n d two same h =
-    subst (λ k. IsNext who (inner_words k)) (sym same)
+next_row who n d two same h = subst (λ k. IsNext who (inner_words k)) (sym same)
     record {
       stuck = h.stuck;
       done = h.done;
@@ -92,23 +80,21 @@ row_short v words n d full w two same f =
 -- a refused reservation only made loads, and so built on
 pub full_built : (v : View) (words size : ℕ) (full : Full) (w : View) → IsFull v words size full w
     → BuiltOn v w
-full_built v words size full w f =
-    loads_built v w (short_goes_on v words full w f)
+full_built v words size full w f = loads_built v w (short_goes_on v words full w f)
 
 -- so no row of the build is there, and the caller is where it was
 pub row_refused : (old new : Caller) (words n d : ℕ) (full : Full) → 2 ≤ n → d ≡ degree n
     → IsCaller new → new.number ≡ old.number → spares_of new ≡ spares_of old
     → IsFull old.token.view words (inner_words d) full new.token.view → HasRefused new
     → IsTopRowRefused old words n full new
-row_refused old new words n d full two same caller number rows f refused =
-    record {
-      caller = caller;
-      number = number;
-      rows = rows;
-      built = full_built old.token.view words (inner_words d) full new.token.view f;
-      short = row_short old.token.view words n d full new.token.view two same f;
-      refused = refused;
-    }
+row_refused old new words n d full two same caller number rows f refused = record {
+  caller = caller;
+  number = number;
+  rows = rows;
+  built = full_built old.token.view words (inner_words d) full new.token.view f;
+  short = row_short old.token.view words n d full new.token.view two same f;
+  refused = refused;
+}
 
 -- a held row lies at a good base
 pub held_good : (v : View) → IsSound v → (number base size : ℕ) → HoldsRow (now v) number base size
@@ -117,8 +103,7 @@ held_good v s number base size i =
     let it = claimed_within v.start v.words v.log base size s.lawful.enabled
     ((placed v.start v.words v.log s.lawful.enabled).held
     record { caller = number; base = base; size = size } i) in
-    let low = it.below_next in
-    let some = it.some in
+    let low = it.below_next in let some = it.some in
     let next = next_within v.start v.words s.lawful.opens v.log s.lawful.enabled in
     let all = words_same v.start v.words s.lawful.opens v.log in
     let limit = s.lawful.opens.within in
@@ -153,25 +138,23 @@ module _ (old who : Caller) (leaves : List ℕ) (base d j : ℕ) (m : IsMidway o
 
   -- its rows are due
   pub part_due : AreNextRows old n → AreNextRows who (length own)
-  part_due h =
-      record {
-        stuck = h.stuck;
-        done = h.done ++ inner_words d ∷ flat_map shape (lens_to n j);
-        rest = flat_map shape (lens_from n (j + 1)) ++ h.rest;
-        at = subst (λ k. IsInBuild who h.stuck
-            (h.done ++ inner_words d ∷ flat_map shape (lens_to n j))
-            (shape k ++ (flat_map shape (lens_from n (j + 1)) ++ h.rest))) (sym length_own)
-            (subst (IsInBuild who h.stuck (h.done ++ inner_words d ∷ flat_map shape (lens_to n j)))
-            (ap (λ xs. xs ++ h.rest) (sizes_left n j less)
-            ∙ append_assoc (shape (part_len n j)) (flat_map shape (lens_from n (j + 1))) h.rest)
-            (m.due h.stuck h.done h.rest h.at));
-      }
+  part_due h = record {
+    stuck = h.stuck;
+    done = h.done ++ inner_words d ∷ flat_map shape (lens_to n j);
+    rest = flat_map shape (lens_from n (j + 1)) ++ h.rest;
+    at = subst (λ k. IsInBuild who h.stuck
+        (h.done ++ inner_words d ∷ flat_map shape (lens_to n j))
+        (shape k ++ (flat_map shape (lens_from n (j + 1)) ++ h.rest))) (sym length_own)
+        (subst (IsInBuild who h.stuck (h.done ++ inner_words d ∷ flat_map shape (lens_to n j)))
+        (ap (λ xs. xs ++ h.rest) (sizes_left n j less)
+        ∙ append_assoc (shape (part_len n j)) (flat_map shape (lens_from n (j + 1))) h.rest)
+        (m.due h.stuck h.done h.rest h.at));
+  }
 
   -- if too few words are left for one of them, too few are left for the whole
   pub part_short : (words : ℕ) (full : Full) (w : View) → length own ≤ n
       → IsShort who.token.view words (length own) full w → IsShort old.token.view words n full w
-  part_short words full w le h =
-      short_for_more BuiltOn BuiltOn old.token.view who.token.view
+  part_short words full w le h = short_for_more BuiltOn BuiltOn old.token.view who.token.view
       (λ x. built_more old.token.view who.token.view x m.built) words (length own) n full w le h
 
 -- ---- all parts
@@ -189,8 +172,7 @@ record Facts (who : Caller) (base : ℕ) (placed : List PlacedLeaf) (n : ℕ) : 
 module _ (old who : Caller) (leaves : List ℕ) (base d j : ℕ) (m : IsMidway old leaves base d j who)
     (degree_is : d ≡ degree (length leaves)) (all : j ≡ d) (two : 2 ≤ length leaves) where
   whole : IsMidway old leaves base (degree (length leaves)) (degree (length leaves)) who
-  whole =
-      subst (λ k. IsMidway old leaves base k (degree (length leaves)) who) degree_is
+  whole = subst (λ k. IsMidway old leaves base k (degree (length leaves)) who) degree_is
       (subst (λ k. IsMidway old leaves base d k who) (all ∙ degree_is) m)
 
   -- once all parts are set, the row is laid
@@ -229,8 +211,7 @@ module _ (old who : Caller) (leaves : List ℕ) (base d j : ℕ) (m : IsMidway o
 
   -- and all its rows are taken
   pub all_taken : HasTaken old (shape (length leaves)) who
-  all_taken stuck done rest h =
-      let n = length leaves in
+  all_taken stuck done rest h = let n = length leaves in
       let to : flat_map shape (lens_to n (degree n)) ≡ flat_map shape (lens_from n 0) =
       ap (flat_map shape) (lens_all n ∙ sym (lens_first n)) in
       let left : flat_map shape (lens_from n (degree n)) ++ rest ≡ rest =

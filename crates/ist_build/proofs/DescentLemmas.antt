@@ -1,12 +1,10 @@
 -- The way down to one leaf of a finished node. Serves `descent`.
 use Rattle.std.proofs.Common.{◌≡◌, ℕ, ◌+◌, ◌*◌, ◌-◌, ◌^◌, ◌<◌, ◌≤◌, List, [], ◌∷◌, length, map, drop, Some, refl, sym, ap, ◌∙◌, subst, arith}
 use Rattle.std.proofs.lemmas.List.{length-take-le, length-drop, length-map}
-use Rattle.ist_core.specs.Leaves.{PlacedLeaf, HasLeaves}
-use Rattle.ist_core.specs.RowLayout.{place_limit}
-use Rattle.ist_core.specs.References.{Ref, Empty, LeafAt, InnerAt}
+use Rattle.ist_core.specs.TreeTerms.{PlacedLeaf, HasLeaves, HasTarget, IsFrozen, IsFinishedWith}
+use Rattle.ist_core.specs.WordTerms.{place_limit, Ref, Empty, LeafAt, InnerAt, RebuildAt, ref_of, past_rebuild, rebuild_reads}
+use Rattle.ist_rule.specs.RuleTerms.{IsSound, now, GoesOnTo}
 use Rattle.ist_rule.specs.declared.view.View.{View}
-use Rattle.ist_rule.specs.Rule.{IsSound}
-use Rattle.ist_rule.specs.Learning.{now, GoesOnTo}
 use Rattle.ist_build.specs.declared.below.FinishedChild.{FinishedChild}
 use Rattle.ist_build.specs.declared.below.FinishedChild.TheVariants.{Nothing, Leaf, Row}
 use Rattle.ist_build.specs.Calls.{HasKeys}
@@ -14,19 +12,18 @@ use Rattle.ist_build.specs.Reading.{HasSlots, HasRead, HasReadOne, IsReading, Is
 use Rattle.ist_build.proofs.ReadLemmas.{read_is, read_left_out, one_left_out, one_taken}
 use Rattle.ist_build.proofs.ReadingLemmas.{reading_more, reading_full, reading_last, under_leaves, leaves_number, nothing_read, leaf_read}
 use Rattle.ist_build.proofs.ShareLemmas.{some_leaves}
-use Rattle.ist_build.proofs.SlotLemmas.{few_slots}
+use Rattle.ist_build.proofs.PlaceLemmas.{few_slots, frozen_slot_reads}
+use Rattle.laws_links.proofs.FinishedLemmas.{target_grows}
+use Rattle.ist_mark.proofs.BelowLemmas.{row_below, target_below}
+use Rattle.ist_rule.proofs.WentOnLemmas.{goes_on_grow}
 
 -- ---- few words are loaded
 
 -- in a row
 pub few_loads : (v : View) → IsSound v → (node degree i loads more : ℕ) → HasSlots v node degree
     → i < degree → loads ≤ 4 * i + 1 → more ≤ 4 → loads + more ≤ (place_limit - node) * 2 ^ 31
-few_loads v s node degree i loads more h less few two =
-    let it = few_slots v s node degree h in
-    let few_slots = it.0 in
-    let low = it.1 in
-    let words = s.lawful.opens.within in
-    omega arith
+few_loads v s node degree i loads more h less few two = let it = few_slots v s node degree h in
+    let few_slots = it.0 in let low = it.1 in let words = s.lawful.opens.within in omega arith
 
 -- in a row and what is below it
 pub few_below : (v w : View) → IsSound v → (node degree i loads more base keys below : ℕ)
@@ -34,25 +31,19 @@ pub few_below : (v w : View) → IsSound v → (node degree i loads more base ke
     → it ≡ Row base keys → IsUnder w node i it → below ≤ (place_limit - base) * 2 ^ 31 → loads + more + below ≤ (place_limit - node) * 2 ^ 31
 few_below v w s node degree i loads more base keys below h less few two what is there rest =
     let under : IsUnder w node i (Row base keys) = subst (IsUnder w node i) is there in
-    let rise = under.1 in
-    let it = few_slots v s node degree h in
-    let few_slots = it.0 in
-    let low = it.1 in
-    let words = s.lawful.opens.within in
-    omega arith
+    let rise = under.1 in let it = few_slots v s node degree h in let few_slots = it.0 in
+    let low = it.1 in let words = s.lawful.opens.within in omega arith
 
 -- ---- the leaf is found
 
 -- if there is a leaf number i, a reading of all leaves finds it
 pub not_after : (leaves : List PlacedLeaf) (i skip : ℕ) → i < length leaves
     → HasRead (0 ∷ []) (before_one i) leaves (0 ∷ []) (before_one skip) → ⊥
-not_after leaves i skip enough h =
-    let is = read_is 1 leaves i [] (omega arith) in
+not_after leaves i skip enough h = let is = read_is 1 leaves i [] (omega arith) in
     let rest = length-drop i leaves in
     let many = length-map (drop i leaves) (λ (leaf : PlacedLeaf). leaf.base) in
     let full = length-take-le 1 (map (λ (leaf : PlacedLeaf). leaf.base) (drop i leaves)) (omega arith) in
-    let same = ap length (h.got ∙ is) in
-    omega arith
+    let same = ap length (h.got ∙ is) in omega arith
 
 -- what is left to skip after what hangs below a slot
 abbrev pub LeavesToSkip : ℕ → FinishedChild → ℕ → Type 0
@@ -80,8 +71,7 @@ module _ (leaves : List PlacedLeaf) (v w : View) (node degree j : ℕ) (s : IsSo
   -- it is this leaf
   pub at_leaf : (below : FinishedChild) (base : ℕ) → below ≡ Leaf base → IsUnder w node j below → skip ≡ 0
       → HasReadOne i leaves base
-  at_leaf below base is found none =
-      let under = subst (IsUnder w node j) is found in
+  at_leaf below base is found none = let under = subst (IsUnder w node j) is found in
       reading_full leaves (0 ∷ []) (before_one i) w node (j + 1) (base ∷ []) after_one
       (reading_more leaves (0 ∷ []) (before_one i) v w node degree j (0 ∷ []) (before_one skip)
       (base ∷ []) after_one s g h less r
@@ -97,8 +87,7 @@ module _ (leaves : List PlacedLeaf) (v w : View) (node degree j : ℕ) (s : IsSo
       → ((here : List PlacedLeaf) → HasLeaves (now w).pieces (Some (InnerAt base)) here
       → HasReadOne skip here found)
       → HasReadOne i leaves found
-  below_row below base keys found is there told =
-      let under = subst (IsUnder w node j) is there in
+  below_row below base keys found is there told = let under = subst (IsUnder w node j) is there in
       reading_full leaves (0 ∷ []) (before_one i) w node (j + 1) (found ∷ []) after_one
       (reading_more leaves (0 ∷ []) (before_one i) v w node degree j (0 ∷ []) (before_one skip)
       (found ∷ []) after_one s g h less r
@@ -140,8 +129,60 @@ pub not_past : (u v : View) → IsSound u → IsSound v → (node degree j i ski
     → IsReading leaves (0 ∷ []) (before_one i) v node j (0 ∷ []) (before_one skip))
     → ⊥
 not_past u v s t node degree j i skip h all keys told =
-    let it = some_leaves u s node (i + 1) keys in
-    let enough = it.2 in
+    let it = some_leaves u s node (i + 1) keys in let enough = it.2 in
     not_after it.0 i skip (omega arith)
     (reading_last it.0 (0 ∷ []) (before_one i) v node degree j (0 ∷ []) (before_one skip) t h all
     (told it.0 it.1))
+
+-- ---- what hangs below a slot, by the word that it was passed with. Serves `look_below`.
+
+-- nothing, or a leaf
+pub under_nothing : (v : View) → IsSound v → (node i word : ℕ) → IsFrozen v.log node i word
+    → ref_of word ≡ Some Empty → IsUnder v node i Nothing
+under_nothing v s node i word p is =
+    frozen_slot_reads v s node i word Empty p (ap (past_rebuild (now v).pieces) is)
+
+-- below a slot passed with the word of a leaf is this leaf
+pub under_leaf : (v : View) → IsSound v → (node i word base : ℕ) → IsFrozen v.log node i word
+    → ref_of word ≡ Some (LeafAt base) → IsUnder v node i (Leaf base)
+under_leaf v s node i word base p is =
+    frozen_slot_reads v s node i word (LeafAt base) p (ap (past_rebuild (now v).pieces) is)
+
+-- an inner row
+pub row_reads : (v : View) → IsSound v → (node i word base : ℕ) → IsFrozen v.log node i word
+    → ref_of word ≡ Some (InnerAt base) → SlotReads (now v) node i (InnerAt base)
+row_reads v s node i word base p is =
+    frozen_slot_reads v s node i word (InnerAt base) p (ap (past_rebuild (now v).pieces) is)
+
+-- or the target of a rebuild
+pub target_reads : (v : View) → IsSound v → (node i word rebuild target : ℕ)
+    → IsFrozen v.log node i word → ref_of word ≡ Some (RebuildAt rebuild)
+    → HasTarget (now v) rebuild target → SlotReads (now v) node i (InnerAt target)
+target_reads v s node i word rebuild target p is h =
+    frozen_slot_reads v s node i word (InnerAt target) p
+    (ap (past_rebuild (now v).pieces) is ∙ ap rebuild_reads h.published
+    ∙ ap (λ n. Some (InnerAt n)) h.target_is)
+
+-- below a slot passed with the word of a finished row is this row, which lies above the node
+pub under_row : (v : View) → IsSound v → (node i word base keys : ℕ) → IsFrozen v.log node i word
+    → ref_of word ≡ Some (InnerAt base) → IsFinishedWith (now v) base keys
+    → IsUnder v node i (Row base keys)
+under_row v s node i word base keys p is f =
+    (row_reads v s node i word base p is, (row_below v s node i word base p is).above, f)
+
+-- and below one passed with the word of a rebuild is its finished target
+pub under_target : (v : View) → IsSound v → (node i word rebuild target keys : ℕ)
+    → IsFrozen v.log node i word → ref_of word ≡ Some (RebuildAt rebuild)
+    → HasTarget (now v) rebuild target → IsFinishedWith (now v) target keys
+    → IsUnder v node i (Row target keys)
+under_target v s node i word rebuild target keys p is h f = (
+  target_reads v s node i word rebuild target p is h,
+  (target_below v s node i word rebuild target p is h).above,
+  f,
+)
+
+-- a rebuild keeps its target
+pub target_on : (v w : View) → GoesOnTo v w → (rebuild target : ℕ) → HasTarget (now v) rebuild
+    target → HasTarget (now w) rebuild target
+target_on v w g rebuild target h =
+    target_grows (now v) (now w) (goes_on_grow v w g) rebuild target h

@@ -1,32 +1,36 @@
 -- How few words a build takes, function by function. Serves `block`, `parts`, `top` and `root`.
-use Rattle.std.proofs.Common.{◌≡◌, ℕ, ◌+◌, ◌<◌, ◌≤◌, nat_lt, Bool, true, false, if◌then◌else◌, List, length, Result, refl, sym, ap, ◌∙◌, subst, ⊎_elim, arith}
+use Rattle.std.proofs.Common.{◌≡◌, ℕ, ◌+◌, ◌<◌, ◌≤◌, nat_lt, Bool, true, false, if◌then◌else◌, List, length, Result, refl, sym, ap, ◌∙◌, subst, ⊎_elim, arith, ◌*◌, [], ◌∷◌, map, take, drop, Some}
 use Rattle.std.specs.List.{sum}
 use Rattle.std.proofs.lemmas.Bool.Decides.{nat_tests, eqb_tells}
 use Rattle.ist_core.specs.declared.events.Event.{Event}
 use Rattle.ist_core.specs.declared.ports.Full.{Full}
 use Rattle.ist_core.specs.declared.events.Who.TheVariants.{Caller as CallerOf}
-use Rattle.ist_core.specs.Arithmetic.{degree}
-use Rattle.ist_core.specs.Rebuilding.{IsFinishedWith}
-use Rattle.ist_core.specs.RowLayout.{inner_words}
-use Rattle.ist_core.specs.Shapes.{shape, share_from}
-use Rattle.ist_core.specs.Snapshots.{Snapshot}
-use Rattle.ist_core.proofs.DrawLemmas.{finished_once}
-use Rattle.ist_core.proofs.OptionLemmas.{same_rebuild}
-use Rattle.ist_rule.specs.Faces.{TokenFace}
+use Rattle.ist_core.specs.declared.states.LeafRow.{LeafRow}
+use Rattle.ist_core.specs.WordTerms.{degree, inner_words, shape, share_from, square_root, Leaf, InnerAt, place_limit, share_from_is}
+use Rattle.ist_core.specs.TreeTerms.{IsFinishedWith, PlacedLeaf, HasLeaves}
+use Rattle.ist_core.specs.LogTerms.{Snapshot, Each}
+use Rattle.ist_core.proofs.AllLogLemmas.{finished_once}
+use Rattle.ist_core.proofs.AllWordLemmas.{same_rebuild, square_root-le}
+use Rattle.ist_rule.specs.RuleTerms.{TokenFace, GoesOnTo, Logged, ExchangedOrLost, storing, IsSound, now}
 use Rattle.ist_rule.specs.declared.view.View.{View}
-use Rattle.ist_rule.specs.Learning.{GoesOnTo, Logged, ExchangedOrLost, storing}
-use Rattle.ist_rule.proofs.GoingOnLemmas.{goes_on_who}
+use Rattle.ist_rule.proofs.EventLemmas.{goes_on_who}
+use Rattle.ist_rows.specs.RowTerms.{IsCaller, HasTakenFew, HasTakenFewIn, IsLaterCaller, TakesFew, TakesNoWords, taken_at}
 use Rattle.ist_rows.specs.declared.callers.Caller.{Caller}
-use Rattle.ist_rows.specs.Rows.{IsCaller}
-use Rattle.ist_rows.specs.Taken.{HasTakenFew, HasTakenFewIn, IsLaterCaller, TakesFew, TakesNoWords, taken_at}
 use Rattle.ist_rows.proofs.FewLemmas.{later_went}
 use Rattle.ist_rows.proofs.FewStepLemmas.{few_call, few_kept, none_loads, none_logged, none_logged_load, none_more}
 use Rattle.ist_build.specs.Back.{HasBuilt, IsBack}
-use Rattle.ist_build.specs.Calls.{Builds, IsTold, root_words}
-use Rattle.ist_build.specs.Laying.{BuiltOn, IsReservation, LaidOn}
+use Rattle.ist_build.specs.Calls.{Builds, IsTold, root_words, HasKeys}
+use Rattle.ist_build.specs.Laying.{BuiltOn, IsReservation, LaidOn, IsLeaf}
 use Rattle.ist_build.specs.Midway.{setting}
 use Rattle.ist_build.specs.Reading.{HasReadOut}
-use Rattle.ist_build.proofs.LaidOnLemmas.{laid_went}
+use Rattle.ist_build.proofs.BuiltLemmas.{laid_went, leaf_goes_on}
+use Rattle.laws_links.proofs.FinishedLemmas.{leaves_stand}
+use Rattle.laws_links.proofs.ContentLemmas.{finished_few}
+use Rattle.std.proofs.lemmas.Bool.{cases_lt}
+use Rattle.std.proofs.Math.Nat.{mul-le-mul_right}
+use Rattle.std.proofs.lemmas.List.{length-drop}
+use Rattle.ist_build.proofs.PartLeafLemmas.{some_first, each_drop}
+use Rattle.ist_build.proofs.ShareLemmas.{some_leaves}
 
 -- a caller that laid rows is a later state
 pub after_laid : (P : Event → Type 0) (old new : Caller) → new.number ≡ old.number
@@ -61,8 +65,7 @@ pub few_stored : (n left : ℕ) (old who : Caller) (token : TokenFace) (new : Ca
     → who.number ≡ old.number → BuiltOn old.token.view who.token.view → IsCaller who
     → GoesOnTo who.token.view token.view → new.token.view.log ≡ token.view.log
     → HasTakenFew n left old who → HasTakenFew n left old new
-few_stored n left old who token new number b c seen log_is f =
-    let v = old.token.view in
+few_stored n left old who token new number b c seen log_is f = let v = old.token.view in
     subst (TakesFew old.number n left v.words v.start v.log) (sym log_is)
     (few_kept n left old who (record who { token = token }) (after_laid IsReservation old who number b)
     (none_loads who token c.mine seen) f)
@@ -71,8 +74,7 @@ few_stored n left old who token new number b c seen log_is f =
 pub set_log : (v : View) (base d j key word : ℕ) (new mid : Caller)
     → new ≡ record mid { token = record mid.token { view = setting v base d j key word } }
     → new.token.view.log ≡ v.log
-set_log v base d j key word new mid e =
-    ap (λ (x : Caller). x.token.view.log) e ∙ by (nat_lt 0 j)
+set_log v base d j key word new mid e = ap (λ (x : Caller). x.token.view.log) e ∙ by (nat_lt 0 j)
   where
     by : (b : Bool) → (if b then storing (storing v (base + (3 + d + j)) word) (base + (3 + j)) key
         else storing v (base + (3 + d + j)) word).log ≡ v.log
@@ -83,14 +85,12 @@ set_log v base d j key word new mid e =
 
 -- over few keys the root is the whole tree
 pub root_few : (k : ℕ) → k < share_from → root_words k ≡ sum (shape k)
-root_few k few =
-    ap (λ (b : Bool). if b then sum (shape k) else inner_words (degree k))
+root_few k few = ap (λ (b : Bool). if b then sum (shape k) else inner_words (degree k))
     (let is : nat_lt k share_from ≡ true = grind (arith, nat_tests) in is)
 
 -- over many it is its top row
 pub root_many : (k : ℕ) → share_from ≤ k → root_words k ≡ inner_words (degree k)
-root_many k many =
-    ap (λ (b : Bool). if b then sum (shape k) else inner_words (degree k))
+root_many k many = ap (λ (b : Bool). if b then sum (shape k) else inner_words (degree k))
     (let is : nat_lt k share_from ≡ false = grind (arith, nat_tests) in is)
 
 -- the token of a caller that has built is the caller's
@@ -110,8 +110,7 @@ told_once t rebuild j k h l =
 pub none_then : (who : Caller) (mid last : TokenFace) → who.token.view.who ≡ CallerOf who.number
     → GoesOnTo who.token.view mid.view → (event : Event) → Logged mid.view event last.view
     → taken_at who.number event ≡ 0 → TakesNoWords who (record who { token = last })
-none_then who mid last mine g event l nothing =
-    let via = record who { token = mid } in
+none_then who mid last mine g event l nothing = let via = record who { token = mid } in
     none_more who via (record who { token = last }) (none_loads who mid mine g)
     (none_logged via last (goes_on_who g ∙ mine) event l nothing)
 
@@ -125,3 +124,76 @@ none_exchanged who token mine event lost place old found x nothing none =
     ⊎_elim (λ same. none_logged who token mine event (x.0 same.1) nothing)
     (λ other. none_logged_load who token mine lost place found (x.1 other.1) none)
     (eqb_tells found old)
+
+-- ---- one leaf of a finished node, its key, and how few keys and parts there are. Serves `top`, `leaf_at` and
+-- `filling`.
+
+-- ---- one leaf
+
+-- the leaf number i of a finished target
+pub leaf_is : (i base : ℕ) (leaves : List PlacedLeaf) (leaf : PlacedLeaf) (others : List PlacedLeaf)
+    → map (λ l. l.base) (take 1 (drop i leaves)) ≡ base ∷ [] → drop i leaves ≡ leaf ∷ others
+    → base ≡ leaf.base
+leaf_is i base leaves leaf others is e =
+    let both : leaf.base ∷ [] ≡ base ∷ [] =
+    sym (ap (λ xs. map (λ (l : PlacedLeaf). l.base) (take 1 xs)) e) ∙ is in
+    cc
+
+-- it is published
+pub leaf_there : (v w : View) → IsSound v → GoesOnTo v w → (target i base : ℕ)
+    → HasKeys (now v) target (i + 1)
+    → ((leaves : List PlacedLeaf) → HasLeaves (now v).pieces (Some (InnerAt target)) leaves
+    → map (λ l. l.base) (take 1 (drop i leaves)) ≡ base ∷ [])
+    → IsLeaf (now w) base
+leaf_there v w s g target i base h told = let it = some_leaves v s target (i + 1) h in
+    let long = it.2 in let rest = length-drop i it.0 in
+    let first = some_first (drop i it.0) (omega arith) in
+    let all = each_drop (λ leaf. (now v).pieces leaf.base ≡ Some (Leaf leaf.row)) i it.0
+    (leaves_stand (now v).pieces (Some (InnerAt target)) it.0 it.1) in
+    let here : (now v).pieces first.0.base ≡ Some (Leaf first.0.row) =
+    (subst (Each (λ leaf. (now v).pieces leaf.base ≡ Some (Leaf leaf.row))) first.2 all).0 in
+    subst (IsLeaf (now w)) (sym (leaf_is i base it.0 first.0 first.1 (told it.0 it.1) first.2))
+    record { row = first.0.row; published = leaf_goes_on v w g first.0.base first.0.row here }
+
+-- and so is its key
+pub key_told_at : (v w : View) → GoesOnTo v w → (target i base key : ℕ)
+    → ((leaves : List PlacedLeaf) → HasLeaves (now v).pieces (Some (InnerAt target)) leaves
+    → map (λ l. l.base) (take 1 (drop i leaves)) ≡ base ∷ [])
+    → ((row : LeafRow) → (now w).pieces base ≡ Some (Leaf row) → key ≡ row.key)
+    → (leaves : List PlacedLeaf) → HasLeaves (now v).pieces (Some (InnerAt target)) leaves
+    → (leaf : PlacedLeaf) (others : List PlacedLeaf) → drop i leaves ≡ leaf ∷ others
+    → key ≡ leaf.row.key
+key_told_at v w g target i base key told key_is leaves has leaf others e =
+    let all = each_drop (λ l. (now v).pieces l.base ≡ Some (Leaf l.row)) i leaves
+    (leaves_stand (now v).pieces (Some (InnerAt target)) leaves has) in
+    let here : (now v).pieces leaf.base ≡ Some (Leaf leaf.row) =
+    (subst (Each (λ l. (now v).pieces l.base ≡ Some (Leaf l.row))) e all).0 in
+    key_is leaf.row (ap (now w).pieces (leaf_is i base leaves leaf others (told leaves has) e)
+    ∙ leaf_goes_on v w g leaf.base leaf.row here)
+
+-- ---- numbers
+
+-- a target isn't large
+pub target_few : (v : View) → IsSound v → (target k : ℕ) → IsFinishedWith (now v) target k
+    → k ≤ place_limit
+target_few v s target k f =
+    finished_few v.start v.words s.lawful.opens v.log s.lawful.enabled target k f
+
+twice : (x : ℕ) → 2 ≤ x → 2 * x ≤ x * x
+twice x two = mul-le-mul_right x two
+
+-- its degree is less than half of them
+pub degree_small : (k : ℕ) → 4 ≤ k → 2 * degree k ≤ k
+unfolding degree
+degree_small k four = let le = square_root-le k in ⊎_elim (λ small. omega arith)
+    (λ large. let more = twice (square_root k) large in omega arith) (cases_lt (square_root k) 2)
+
+-- the degree of the top row is below the limit of places
+pub target_degree : (v : View) → IsSound v → (target k d : ℕ) → IsFinishedWith (now v) target k
+    → share_from ≤ k → d ≡ degree k → d < place_limit
+target_degree v s target k d f many is = let few = target_few v s target k f in
+    let number = share_from_is in let half = degree_small k (omega arith) in omega arith
+
+-- a target with a shared root has at least two keys
+pub many_two : (k : ℕ) → share_from ≤ k → 2 ≤ k
+many_two k many = let number = share_from_is in omega arith

@@ -7,37 +7,22 @@ use Rattle.ist_core.specs.declared.events.Event.TheVariants.{Draw}
 use Rattle.ist_core.specs.declared.lists.HeldRow.{HeldRow}
 use Rattle.ist_core.specs.declared.pairs.Pair.{Pair}
 use Rattle.ist_core.specs.declared.states.RebuildRow.{RebuildRow}
-use Rattle.ist_core.specs.After.{after}
-use Rattle.ist_core.specs.Building.{CanDraw}
-use Rattle.ist_core.specs.Lawful.{EachEnabled, state_of}
-use Rattle.ist_core.specs.Logs.{Log, Happened, Draws, same_log, one_event}
-use Rattle.ist_core.specs.Pieces.{Rebuild, drawn}
-use Rattle.ist_core.specs.Rebuilding.{IsFinishedWith}
-use Rattle.ist_core.specs.RowLayout.{rebuild_draw_offset}
-use Rattle.ist_core.specs.Snapshots.{Snapshot, without}
-use Rattle.ist_core.specs.StartLayout.{start}
-use Rattle.ist_core.specs.Slots.{SlotHolds}
-use Rattle.ist_core.proofs.FateLemmas.{grow_between}
-use Rattle.ist_core.proofs.GrowingLemmas.{rebuild_there}
-use Rattle.ist_core.proofs.RowLemmas.{changed_at-same}
-use Rattle.ist_rule.specs.declared.view.View.{View}
 use Rattle.ist_core.specs.declared.events.Who.TheVariants.{Caller as CallerOf}
-use Rattle.ist_core.proofs.OptionLemmas.{same_rebuild}
-use Rattle.ist_core.proofs.SettingLemmas.{set_by}
-use Rattle.ist_rule.specs.Conditions.{CanAdd}
-use Rattle.ist_rule.specs.Faces.{TokenFace}
-use Rattle.ist_rule.specs.Rule.{IsSound}
-use Rattle.ist_rule.specs.Learning.{now, Looked, Logged, GoesOnTo}
-use Rattle.ist_rule.specs.Watching.{number_of}
-use Rattle.ist_rule.proofs.GoingOnLemmas.{looked_goes_on}
+use Rattle.ist_core.specs.LogTerms.{after, EachEnabled, state_of, Log, Happened, Draws, same_log, one_event, Snapshot, without}
+use Rattle.ist_core.specs.TreeTerms.{CanDraw, IsFinishedWith}
+use Rattle.ist_core.specs.WordTerms.{Rebuild, drawn, rebuild_draw_offset, start, SlotHolds}
+use Rattle.ist_core.proofs.AllLogLemmas.{grow_between, rebuild_there, set_by}
+use Rattle.ist_core.proofs.AllWordLemmas.{changed_at-same, same_rebuild}
+use Rattle.ist_rule.specs.RuleTerms.{CanAdd, TokenFace, IsSound, now, Looked, Logged, GoesOnTo, number_of}
+use Rattle.ist_rule.specs.declared.view.View.{View}
+use Rattle.ist_rule.proofs.EventLemmas.{looked_goes_on}
 use Rattle.ist_dcss.proofs.FieldLemmas.{looked_row}
+use Rattle.ist_rows.specs.RowTerms.{sizes_built, TakesNoWords}
 use Rattle.ist_rows.specs.declared.callers.Caller.{Caller}
-use Rattle.ist_rows.specs.Building.{sizes_built}
-use Rattle.ist_rows.specs.Taken.{TakesNoWords}
 use Rattle.ist_rows.proofs.FewStepLemmas.{none_loads}
 use Rattle.ist_build.proofs.FewLemmas.{none_then}
 use Rattle.laws_stability.proofs.SetLemmas.{set_later}
-use Rattle.laws_coming.proofs.AddingLemmas.{draw_comes}
+use Rattle.laws_coming.proofs.FurtherLemmas.{draw_comes}
 use Rattle.ist_rule.proofs.WentOnLemmas.{later_by-goes_on}
 use Rattle.ist_build.specs.BuildEvents.{drawing}
 use Rattle.ist_build.specs.Calls.{IsBuiltOut}
@@ -45,12 +30,10 @@ use Rattle.ist_build.specs.declared.shared.SharedRoot.{SharedRoot}
 use Rattle.ist_build.specs.Putting.{PutOn, IsShared, IsSlotSet}
 use Rattle.ist_build.specs.Back.{IsFreeToBuild, IsBack, IsSharedAs, IsFilling}
 use Rattle.ist_build.proofs.RisingListLemmas.{keeps_all}
-use Rattle.ist_build.proofs.BackLemmas.{back_logged, back_loads, back_same, back_more}
-use Rattle.ist_build.proofs.BuiltLemmas.{loads_built}
-use Rattle.ist_build.proofs.KeptLemmas.{shared_back}
+use Rattle.ist_build.proofs.BackLemmas.{back_logged, back_loads, back_same, back_more, shared_back}
+use Rattle.ist_build.proofs.BuiltLemmas.{loads_built, put_now, put_lawful}
 use Rattle.ist_build.proofs.FilledLemmas.{many_filled}
 use Rattle.ist_build.proofs.PartPutLemmas.{shared_now}
-use Rattle.ist_build.proofs.PutOnLemmas.{put_now, put_lawful}
 use Rattle.ist_build.proofs.TopBegunLemmas.{sizes_on}
 
 -- ---- draws
@@ -70,8 +53,7 @@ module _ (pairs : List Pair) (words caller rebuild part : ℕ) where
       (state_of pairs words (event ∷ log)).pieces
       (grow_between pairs words log (event ∷ log) h (one_event event same_log)) rebuild it.row
       it.published in
-      let below = it.below in
-      let more = on.2.draw in
+      let below = it.below in let more = on.2.draw in
       record { row = on.0; published = on.1; below = omega arith }
 
   here : (log : Log) (event : Event) → EachEnabled (start pairs words) (event ∷ log)
@@ -79,9 +61,7 @@ module _ (pairs : List Pair) (words caller rebuild part : ℕ) where
   here log (Draw c o p) h (x, y, z) =
       subst (λ n. WasDrawn (state_of pairs words (Draw c o p ∷ log)) n part) y
       (subst (λ n. WasDrawn (state_of pairs words (Draw c o p ∷ log)) o n) z
-      (let can = h.1 in
-      let is = can.part_is in
-      record {
+      (let can = h.1 in let is = can.part_is in record {
         row = record (can.row) { draw = can.row.draw + 1 };
         published = changed_at-same (state_of pairs words log).pieces o drawn
             ∙ ap (option_map drawn) can.published;
@@ -135,39 +115,34 @@ module _ (old : Caller) (token : TokenFace) (r : IsFreeToBuild old) (s : IsSound
 
   can : word < shared.degree
       → CanDraw (now token.view) token.view.log old.number shared.rebuild there.row.draw
-  can less =
-      record {
-        known = gone.sound.is_true.low old.number mine;
-        row = there.row;
-        published = there.published;
-        rooted = set_by there.row.root _ there.root_is (λ q. cc);
-        k = shared.keys;
-        finished = subst (λ n. IsFinishedWith (now token.view) n shared.keys) (sym there.target_is)
-            there.finished;
-        shared = there.shared;
-        part_is = refl;
-        not_past = λ earlier i.
-            let it = was_drawn token.view.start token.view.words old.number shared.rebuild earlier
-            token.view.log
-            gone.sound.lawful.enabled i in
-            let below = it.below in
-            let same = ap (λ r. r.draw) (same_rebuild ((now token.view).pieces shared.rebuild) it.row
-            there.row
-            it.published there.published) in
-            let is = told_draw in
-            let slots = sh.degree_is in
-            omega arith;
-      }
+  can less = record {
+    known = gone.sound.is_true.low old.number mine;
+    row = there.row;
+    published = there.published;
+    rooted = set_by there.row.root _ there.root_is (λ q. cc);
+    k = shared.keys;
+    finished = subst (λ n. IsFinishedWith (now token.view) n shared.keys) (sym there.target_is)
+        there.finished;
+    shared = there.shared;
+    part_is = refl;
+    not_past = λ earlier i.
+        let it = was_drawn token.view.start token.view.words old.number shared.rebuild earlier
+        token.view.log
+        gone.sound.lawful.enabled i in
+        let below = it.below in
+        let same = ap (λ r. r.draw) (same_rebuild ((now token.view).pieces shared.rebuild) it.row
+        there.row
+        it.published there.published) in
+        let is = told_draw in let slots = sh.degree_is in omega arith;
+  }
 
   drawing_is : drawing token.view place ≡ (λ found. Draw old.number shared.rebuild found)
-  drawing_is =
-      ap₂ (λ n o. λ found. Draw n o found) (ap number_of mine)
+  drawing_is = ap₂ (λ n o. λ found. Draw n o found) (ap number_of mine)
       (let q : place - rebuild_draw_offset ≡ shared.rebuild = omega arith in q)
 
   -- the part may be drawn
   draw_allowed : word < shared.degree → CanAdd token.view place (drawing token.view place)
-  draw_allowed less =
-      subst (CanAdd token.view place) (sym drawing_is)
+  draw_allowed less = subst (CanAdd token.view place) (sym drawing_is)
       (subst (λ p. CanAdd token.view p (λ found. Draw old.number shared.rebuild found)) (sym place_is)
       (draw_comes token.view gone.sound old.number mine shared.rebuild there.row.draw (can less)))
 
@@ -175,8 +150,7 @@ module _ (old : Caller) (token : TokenFace) (r : IsFreeToBuild old) (s : IsSound
   draw_back : (last : TokenFace) (part : ℕ)
       → Logged token.view (drawing token.view place part) last.view
       → IsBack old (record old { token = last })
-  draw_back last part x =
-      let event = Draw old.number shared.rebuild part in
+  draw_back last part x = let event = Draw old.number shared.rebuild part in
       let logged = subst (λ (e : Event). Logged token.view e last.view)
       (ap (λ f. f part) drawing_is) x in
       back_logged old (record old { token = token })
@@ -193,15 +167,14 @@ module _ (old : Caller) (token : TokenFace) (r : IsFreeToBuild old) (s : IsSound
 
   -- the next part may be drawn
   pub may_draw : MayDraw old token place word shared.degree
-  may_draw =
-      record {
-        looked = back_loads old token r gone;
-        idle = none_loads old token r.caller.mine gone;
-        allowed = draw_allowed;
-        back = draw_back;
-        none = λ last part x. none_then old token last r.caller.mine gone (drawing token.view place part)
-            x refl;
-      }
+  may_draw = record {
+    looked = back_loads old token r gone;
+    idle = none_loads old token r.caller.mine gone;
+    allowed = draw_allowed;
+    back = draw_back;
+    none = λ last part x. none_then old token last r.caller.mine gone (drawing token.view place part)
+        x refl;
+  }
 
 -- ---- slot by slot
 
@@ -226,16 +199,15 @@ filling_begun who s r sound sh =
 -- once slot i is set, one more slot is filled
 pub filling_more : (old who new : Caller) (s : SharedRoot) (i : ℕ) → IsFilling old s i who
     → IsBack who new → IsSlotSet (now new.token.view) s.root i → IsFilling old s (i + 1) new
-filling_more old who new s i f b set =
-    record {
-      back = back_more old who new f.back b;
-      shared = shared_back who new s b f.shared;
-      filled = λ j less. ⊎_elim
-          (λ low. set_on who.token.view new.token.view b.put s.root j (f.filled j low))
-          (λ high. subst (IsSlotSet (now new.token.view) s.root) (let q : i ≡ j = omega arith in q)
-          set)
-          (cases_lt j i);
-    }
+filling_more old who new s i f b set = record {
+  back = back_more old who new f.back b;
+  shared = shared_back who new s b f.shared;
+  filled = λ j less. ⊎_elim
+      (λ low. set_on who.token.view new.token.view b.put s.root j (f.filled j low))
+      (λ high. subst (IsSlotSet (now new.token.view) s.root) (let q : i ≡ j = omega arith in q)
+      set)
+      (cases_lt j i);
+}
 
 -- once all are set, the rebuild is built out
 pub filling_done : (old who : Caller) (s : SharedRoot) (i : ℕ) → IsFilling old s i who → s.degree ≤ i

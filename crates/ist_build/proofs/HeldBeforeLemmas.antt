@@ -8,41 +8,27 @@ use Rattle.std.proofs.lemmas.List.Elements.{filter-append}
 use Rattle.ist_core.specs.declared.events.Event.{Event}
 use Rattle.ist_core.specs.declared.lists.HeldRow.{HeldRow}
 use Rattle.ist_core.specs.declared.lists.Row.{Row}
-use Rattle.ist_core.specs.After.{after}
-use Rattle.ist_core.specs.Elements.{Among}
-use Rattle.ist_core.specs.Fairness.{AreBuilds}
-use Rattle.ist_core.specs.Lawful.{Lawful, state_of}
-use Rattle.ist_core.specs.Logs.{Log}
-use Rattle.ist_core.specs.Snapshots.{Snapshot, bases_of, sizes_of, without, HoldsRow}
-use Rattle.ist_core.specs.StartLayout.{start}
-use Rattle.ist_core.proofs.ElementLemmas.{among-append, among_right, among-filter, among_filter, each-among}
-use Rattle.ist_core.proofs.FateLemmas.{grow_between}
-use Rattle.ist_core.proofs.PublishingLemmas.{among_bases, tests_base, row_among}
-use Rattle.ist_core.proofs.RoomLemmas.{words_same}
-use Rattle.ist_core.proofs.SoundLemmas.{sound}
-use Rattle.ist_core.proofs.StartLemmas.{sound_start}
-use Rattle.ist_rule.specs.declared.view.View.{View}
 use Rattle.ist_core.specs.declared.events.Who.TheVariants.{Caller as CallerOf}
-use Rattle.ist_core.specs.Authors.{Later, LaterBy, one_more}
-use Rattle.ist_rule.specs.Rule.{IsSound}
-use Rattle.ist_rule.specs.Watching.{number_of}
-use Rattle.ist_rule.specs.Learning.{now}
+use Rattle.ist_core.specs.LogTerms.{after, Among, AreBuilds, Lawful, state_of, Log, Snapshot, bases_of, sizes_of, without, HoldsRow, Later, LaterBy, one_more}
+use Rattle.ist_core.specs.WordTerms.{start}
+use Rattle.ist_core.proofs.AllWordLemmas.{among-append, among_right, among-filter, among_filter, each-among}
+use Rattle.ist_core.proofs.AllLogLemmas.{grow_between, words_same}
+use Rattle.ist_core.proofs.AllEventLemmas.{among_bases, tests_base, row_among, sound, sound_start}
+use Rattle.ist_rule.specs.RuleTerms.{IsSound, number_of, now}
+use Rattle.ist_rule.specs.declared.view.View.{View}
+use Rattle.ist_rows.specs.RowTerms.{kind_words, spares_of, row_of, is_spare, held_by, build_sizes, IsCaller, AreStuck, sizes_built, HasRefused}
 use Rattle.ist_rows.specs.declared.callers.Caller.{Caller}
 use Rattle.ist_rows.specs.declared.kinds.Kind.{Kind}
-use Rattle.ist_rows.specs.Kinds.{kind_words}
-use Rattle.ist_rows.specs.Rows.{spares_of, row_of, is_spare, held_by, build_sizes, IsCaller}
-use Rattle.ist_rows.specs.Building.{AreStuck, sizes_built, HasRefused}
-use Rattle.ist_rows.proofs.BuildLemmas.{ComesAfter, builds_on}
+use Rattle.ist_rows.proofs.ReserveLemmas.{ComesAfter, builds_on}
 use Rattle.ist_rows.proofs.BuildingLemmas.{all_stuck_on}
 use Rattle.ist_rows.proofs.CallerLemmas.{spare_kind}
 use Rattle.ist_rows.proofs.CallerGoingLemmas.{base_same}
-use Rattle.ist_rows.proofs.HeldListLemmas.{held_by_later}
+use Rattle.ist_rows.proofs.ShortLemmas.{held_by_later}
 use Rattle.ist_rule.proofs.WentOnLemmas.{later_by, later_by_more, later_by_all, later_by-goes_on}
 use Rattle.ist_build.specs.BuildEvents.{is_from, row_stored, held_rows_from}
 use Rattle.ist_build.specs.Laying.{IsReservation, BuiltOn, OwnsRows}
 use Rattle.ist_rows.proofs.HeldAfterLemmas.{filter_swap}
-use Rattle.ist_build.proofs.BuiltLemmas.{built_now, built_lawful}
-use Rattle.ist_build.proofs.LaidOnLemmas.{next_between}
+use Rattle.ist_build.proofs.BuiltLemmas.{built_now, built_lawful, next_between}
 use Rattle.ist_build.proofs.RisingListLemmas.{among_map, covers, keeps_all, keeps_none, of_map, one_rising}
 use Rattle.ist_build.proofs.HeldMoreLemmas.{AnyEvent, HoldsMore, cancel, holds_more, stored_rows}
 
@@ -64,8 +50,7 @@ module _ (who : Caller) (c : IsCaller who) (s : IsSound who.token.view) (w : Vie
   is_other h = not (list_any (λ base. base == h.base) (bases_of rows))
 
   more : HoldsMore v.start v.words number v.log w.log
-  more =
-      holds_more v.start v.words number v.log w.log (built_lawful v w b).enabled
+  more = holds_more v.start v.words number v.log w.log (built_lawful v w b).enabled
       (subst (λ x. LaterBy x IsReservation v.log w.log) c.mine b.later)
 
   held_is : held_by (now w) number ≡ held ++ more.fresh
@@ -84,16 +69,13 @@ module _ (who : Caller) (c : IsCaller who) (s : IsSound who.token.view) (w : Vie
       at : (x : Bool) → is_spare (spares_of who) h.base ≡ x
           → not (is_spare (spares_of who) h.base) ≡ true
       at false e = ap not e
-      at true e =
-          let k = spare_kind (spares_of who) h.base e in
+      at true e = let k = spare_kind (spares_of who) h.base e in
           let low = held_low record { caller = number; base = h.base; size = kind_words k.0 }
           (c.rows k.0 h.base k.1) in
-          let high = more.high h i in
-          absurd (omega arith)
+          let high = more.high h i in absurd (omega arith)
 
   fresh_sizes : map (λ h. h.size) more.fresh ≡ sizes
-  fresh_sizes =
-      cancel (sizes_built who) (map (λ h. h.size) more.fresh) sizes
+  fresh_sizes = cancel (sizes_built who) (map (λ h. h.size) more.fresh) sizes
       (sym (ap (λ hs. map (λ h. h.size) (filter (λ h. not (is_spare (spares_of who) h.base)) hs)) held_is
       ∙ ap (map (λ (h : HeldRow). h.size))
       (filter-append (λ (h : HeldRow). not (is_spare (spares_of who) h.base)) held more.fresh
@@ -105,23 +87,18 @@ module _ (who : Caller) (c : IsCaller who) (s : IsSound who.token.view) (w : Vie
 
   -- they are as many as the rows that were built
   few : length (map (λ h. h.base) more.fresh) ≤ length (bases_of rows)
-  few =
-      let one = length-map more.fresh (λ (h : HeldRow). h.base) in
+  few = let one = length-map more.fresh (λ (h : HeldRow). h.base) in
       let two = length-map more.fresh (λ (h : HeldRow). h.size) in
       let three = length-map rows (λ (row : Row). row.base) in
       let four = length-map rows (λ (row : Row). length row.words) in
-      let same = ap length (fresh_sizes ∙ sym sizes_are) in
-      omega arith
+      let same = ap length (fresh_sizes ∙ sym sizes_are) in omega arith
 
   high_row : (base : ℕ) → Among base (bases_of rows) → (now v).next ≤ base
-  high_row base i =
-      let it = row_among base rows i in
-      subst (λ x. (now v).next ≤ x) it.2
+  high_row base i = let it = row_among base rows i in subst (λ x. (now v).next ≤ x) it.2
       (each-among (λ (row : Row). (now v).next ≤ row.base) it.0 rows owns.high it.1)
 
   row_fresh : (base : ℕ) → Among base (bases_of rows) → Among base (map (λ h. h.base) more.fresh)
-  row_fresh base i =
-      let it = row_among base rows i in
+  row_fresh base i = let it = row_among base rows i in
       let h : HeldRow = record { caller = number; base = it.0.base; size = length it.0.words } in
       let there = among_filter (λ (x : HeldRow). x.caller == number) h (now w).held
       (each-among (λ (row : Row). HoldsRow (now w) number row.base (length row.words)) it.0 rows
@@ -140,8 +117,7 @@ module _ (who : Caller) (c : IsCaller who) (s : IsSound who.token.view) (w : Vie
 
   -- without the rows that were built it holds what it held
   left : filter is_other (held_by (now w) number) ≡ held
-  left =
-      ap (filter is_other) held_is ∙ filter-append is_other held more.fresh
+  left = ap (filter is_other) held_is ∙ filter-append is_other held more.fresh
       ∙ ap₂ (λ xs ys. xs ++ ys) (keeps_all is_other held stays) (keeps_none is_other more.fresh goes)
       ∙ append-nil held
     where
@@ -153,17 +129,13 @@ module _ (who : Caller) (c : IsCaller who) (s : IsSound who.token.view) (w : Vie
         where
           at : (x : Bool) → list_any (λ base. base == h.base) (bases_of rows) ≡ x → is_other h ≡ true
           at false e = ap not e
-          at true e =
-              let high = high_row h.base (among_bases h.base (bases_of rows) e) in
-              let low = old_low h i in
-              absurd (omega arith)
+          at true e = let high = high_row h.base (among_bases h.base (bases_of rows) e) in
+              let low = old_low h i in absurd (omega arith)
 
   -- the rows that were built are those that it holds from the first of them on
-  named_rows : (base : ℕ) → (now v).next ≤ base
-      → ((b : ℕ) → Among b (bases_of rows) → base ≤ b)
+  named_rows : (base : ℕ) → (now v).next ≤ base → ((b : ℕ) → Among b (bases_of rows) → base ≤ b)
       → map (row_stored w) (filter (is_from base) (held_by (now w) number)) ≡ rows
-  named_rows base le first =
-      ap (λ hs. map (row_stored w) (filter (is_from base) hs)) held_is
+  named_rows base le first = ap (λ hs. map (row_stored w) (filter (is_from base) hs)) held_is
       ∙ ap (map (row_stored w))
       (filter-append (is_from base) held more.fresh
       ∙ ap₂ (λ xs ys. xs ++ ys)
@@ -201,8 +173,7 @@ module _ (who : Caller) (c : IsCaller who) (s : IsSound who.token.view) (w : Vie
       → ((b : ℕ) → Among b (bases_of rows) → base ≤ b) → held_rows_from w base ≡ rows
   rows_named base le first =
       ap (λ n. map (row_stored w) (filter (is_from base) (held_by (now w) n)))
-      (ap number_of (ap (λ x. x.who) b.same ∙ c.mine))
-      ∙ named_rows base le first
+      (ap number_of (ap (λ x. x.who) b.same ∙ c.mine)) ∙ named_rows base le first
 
   -- ---- after the event by which they are no longer held
 
@@ -216,8 +187,7 @@ module _ (who : Caller) (c : IsCaller who) (s : IsSound who.token.view) (w : Vie
     x = new.token.view
 
     lawful : Lawful v.start v.words (event ∷ before)
-    lawful =
-        subst (λ p. Lawful p v.words (event ∷ before)) start_is
+    lawful = subst (λ p. Lawful p v.words (event ∷ before)) start_is
         (subst (λ n. Lawful x.start n (event ∷ before)) words_is
         (subst (Lawful x.start x.words) log_is r.lawful))
 
@@ -229,12 +199,10 @@ module _ (who : Caller) (c : IsCaller who) (s : IsSound who.token.view) (w : Vie
 
     -- after the event the caller holds what it held before the build
     pub held_back : held_by (now x) number ≡ held
-    held_back =
-        ap (λ t. held_by t number) now_x
+    held_back = ap (λ t. held_by t number) now_x
         ∙ ap (filter (λ (h : HeldRow). h.caller == number)) (drops (state_of v.start v.words before))
         ∙ filter_swap (λ (h : HeldRow). h.caller == number) is_other
-        (state_of v.start v.words before).held
-        ∙ ap (filter is_other)
+        (state_of v.start v.words before).held ∙ ap (filter is_other)
         (held_by_later v.start v.words number w.log before lawful.enabled.0 mine_later
         ∙ ap (λ t. held_by t number) (sym (built_now v w b)))
         ∙ left
@@ -245,8 +213,7 @@ module _ (who : Caller) (c : IsCaller who) (s : IsSound who.token.view) (w : Vie
         (subst (λ k. LaterBy k AnyEvent w.log before) (ap (λ y. y.who) b.same) (later_by later))) (inr tt)
 
     comes : ComesAfter (now v) (now x)
-    comes =
-        subst (ComesAfter (now v)) (sym now_x)
+    comes = subst (ComesAfter (now v)) (sym now_x)
         record {
           words = words_same v.start v.words lawful.opens (event ∷ before)
               ∙ sym (words_same v.start v.words lawful.opens v.log);
@@ -256,14 +223,12 @@ module _ (who : Caller) (c : IsCaller who) (s : IsSound who.token.view) (w : Vie
         }
 
     sizes_back : sizes_built new ≡ sizes_built who
-    sizes_back =
-        ap₂ (λ n own. build_sizes (now x) n own) number_is spares_is
+    sizes_back = ap₂ (λ n own. build_sizes (now x) n own) number_is spares_is
         ∙ ap (λ hs. map (λ h. h.size) (filter (λ h. not (is_spare (spares_of who) h.base)) hs)) held_back
 
     -- each build that it holds rows of was refused, if that was so before the build
     pub refused_back : HasRefused who → HasRefused new
-    refused_back refused =
-        subst (AreStuck (now x)) (sym sizes_back)
+    refused_back refused = subst (AreStuck (now x)) (sym sizes_back)
         (all_stuck_on (now v) (now x) comes (sizes_built who) refused)
 
     rows_back : (kind : Kind) (base : ℕ) → row_of kind (spares_of who) ≡ Some base
@@ -277,11 +242,10 @@ module _ (who : Caller) (c : IsCaller who) (s : IsSound who.token.view) (w : Vie
 
     -- it is a caller
     pub caller_back : IsCaller new
-    caller_back =
-        record {
-          mine = who_is ∙ c.mine ∙ ap CallerOf (sym number_is);
-          rows = λ kind base e. subst (λ n. HoldsRow (now x) n base (kind_words kind)) (sym number_is)
-              (rows_back kind base (ap (row_of kind) (sym spares_is) ∙ e));
-          builds = builds_on (now v) (now x) comes (sizes_built new)
-              (subst (AreBuilds (now v)) (sym sizes_back) c.builds);
-        }
+    caller_back = record {
+      mine = who_is ∙ c.mine ∙ ap CallerOf (sym number_is);
+      rows = λ kind base e. subst (λ n. HoldsRow (now x) n base (kind_words kind)) (sym number_is)
+          (rows_back kind base (ap (row_of kind) (sym spares_is) ∙ e));
+      builds = builds_on (now v) (now x) comes (sizes_built new)
+          (subst (AreBuilds (now v)) (sym sizes_back) c.builds);
+    }

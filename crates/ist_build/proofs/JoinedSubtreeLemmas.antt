@@ -3,38 +3,27 @@ use Rattle.std.proofs.Common.{◌≡◌, ℕ, ◌+◌, ◌-◌, ◌<◌, ◌≤�
 use Rattle.std.proofs.lemmas.List.{map-append}
 use Rattle.ist_core.specs.declared.lists.Row.{Row}
 use Rattle.ist_core.specs.declared.states.InnerRow.{InnerRow}
-use Rattle.ist_core.specs.Arithmetic.{degree}
-use Rattle.ist_core.specs.Elements.{Among, Each, Distinct}
-use Rattle.ist_core.specs.Ideals.{no_part, of_more}
-use Rattle.ist_core.specs.Leaves.{PlacedLeaf}
-use Rattle.ist_core.specs.Parts.{parts, first_keys}
-use Rattle.ist_core.specs.Pieces.{Inner, inner_of, words_of, with_row, with_inners}
-use Rattle.ist_core.specs.References.{InnerAt, ref_of}
-use Rattle.ist_core.specs.RowLayout.{inner_words}
-use Rattle.ist_core.specs.Snapshots.{bases_of, HoldsRow, HoldsRows}
-use Rattle.ist_core.proofs.ElementLemmas.{each_append, each-among}
-use Rattle.ist_core.proofs.PublishingLemmas.{row_among}
-use Rattle.ist_core.proofs.RowLemmas.{with_row-same}
+use Rattle.ist_core.specs.WordTerms.{degree, no_part, of_more, parts, first_keys, Inner, inner_of, words_of, with_row, with_inners, InnerAt, ref_of, inner_words}
+use Rattle.ist_core.specs.LogTerms.{Among, Each, Distinct, bases_of, HoldsRow, HoldsRows}
+use Rattle.ist_core.specs.TreeTerms.{PlacedLeaf}
+use Rattle.ist_core.proofs.AllWordLemmas.{each_append, each-among, with_row-same}
+use Rattle.ist_core.proofs.AllEventLemmas.{row_among}
 use Rattle.laws_calls.proofs.IdealRowLemmas.{parts_over, right_leaf, right_inner, parts_joined}
+use Rattle.ist_rule.specs.RuleTerms.{IsSound, own_at, now}
 use Rattle.ist_rule.specs.declared.view.View.{View}
-use Rattle.ist_rule.specs.Rule.{IsSound, own_at}
-use Rattle.ist_rule.specs.Learning.{now}
 use Rattle.ist_build.specs.Laying.{Rises, OwnsRows, IsLaid}
 use Rattle.ist_build.specs.Midway.{words_at, AreLaid, IsOpened}
-use Rattle.ist_build.proofs.OwnWordLemmas.{length-words_at, get-words_at, row_of_words, words_of_row, inner_of_row}
-use Rattle.ist_build.proofs.LayingLemmas.{rows_free}
+use Rattle.ist_build.proofs.LayingLemmas.{length-words_at, get-words_at, row_of_words, words_of_row, inner_of_row, rows_free}
 
 -- a base among the bases of rows that lie from a place on does so
 high_base : (low base : ℕ) (rows : List Row) → Each (λ row. low ≤ row.base) rows
     → Among base (bases_of rows) → low ≤ base
-high_base low base rows high i =
-    let it = row_among base rows i in
+high_base low base rows high i = let it = row_among base rows i in
     subst (λ b. low ≤ b) it.2 (each-among (λ row. low ≤ row.base) it.0 rows high it.1)
 
 low_base : (mid base : ℕ) (rows : List Row) → Each (λ row. row.base < mid) rows
     → Among base (bases_of rows) → base < mid
-low_base mid base rows low i =
-    let it = row_among base rows i in
+low_base mid base rows low i = let it = row_among base rows i in
     subst (λ b. b < mid) it.2 (each-among (λ row. row.base < mid) it.0 rows low it.1)
 
 -- rows that lie from a place on lie from a lower one on
@@ -68,9 +57,7 @@ rises_both mid (x ∷ xs) ys d e low high = (
   where
     above : (zs : List ℕ) → ((y : ℕ) → Among y zs → mid ≤ y) → Each (λ y. x < y) zs
     above [] h = tt
-    above (z ∷ zs) h =
-        let first = low x (inl refl) in
-        let second = h z (inl refl) in
+    above (z ∷ zs) h = let first = low x (inl refl) in let second = h z (inl refl) in
         (omega arith, above zs (λ y i. h y (inr i)))
 
 module _ (w : View) (s : IsSound w) (number low mid : ℕ) (le : low ≤ mid) (xs ys : List Row)
@@ -80,25 +67,22 @@ module _ (w : View) (s : IsSound w) (number low mid : ℕ) (le : low ≤ mid) (x
   both_held = each_append (λ row. HoldsRow (now w) number row.base (length row.words)) xs ys a.held b.held
 
   apart : (base : ℕ) → Among base (bases_of xs) → ¬ (Among base (bases_of ys))
-  apart base i j =
-      let one = low_base mid base xs below i in
-      let two = high_base mid base ys b.high j in
-      omega arith
+  apart base i j = let one = low_base mid base xs below i in
+      let two = high_base mid base ys b.high j in omega arith
 
   -- rows below a place and rows from it on, which the caller owns, are rows that it owns together
   pub owns_both : OwnsRows w number low (xs ++ ys)
-  owns_both =
-      record {
-        stored = each_append (λ row. (k : ℕ) → k < length row.words
-            → slice_get row.words k ≡ Some (own_at w.own (row.base + k))) xs ys a.stored b.stored;
-        held = both_held;
-        once = subst Distinct (sym (map-append (λ (row : Row). row.base) xs ys))
-            (distinct_both (bases_of xs) (bases_of ys) a.once b.once apart);
-        rising = subst Rises (sym (map-append (λ (row : Row). row.base) xs ys))
-            (rises_both mid (bases_of xs) (bases_of ys) a.rising b.rising
-            (λ x i. low_base mid x xs below i) (λ y i. high_base mid y ys b.high i));
-        high = each_append (λ row. low ≤ row.base) xs ys a.high (high_more low mid ys le b.high);
-      }
+  owns_both = record {
+    stored = each_append (λ row. (k : ℕ) → k < length row.words
+        → slice_get row.words k ≡ Some (own_at w.own (row.base + k))) xs ys a.stored b.stored;
+    held = both_held;
+    once = subst Distinct (sym (map-append (λ (row : Row). row.base) xs ys))
+        (distinct_both (bases_of xs) (bases_of ys) a.once b.once apart);
+    rising = subst Rises (sym (map-append (λ (row : Row). row.base) xs ys))
+        (rises_both mid (bases_of xs) (bases_of ys) a.rising b.rising
+        (λ x i. low_base mid x xs below i) (λ y i. high_base mid y ys b.high i));
+    high = each_append (λ row. low ≤ row.base) xs ys a.high (high_more low mid ys le b.high);
+  }
 
   free_both : (base : ℕ) → Among base (bases_of (xs ++ ys)) → (now w).pieces base ≡ None
   free_both base i = rows_free w s number (xs ++ ys) both_held base i
@@ -109,15 +93,14 @@ pub are_laid_more : (w : View) → IsSound w → (number low mid above : ℕ) �
     → (h : AreLaid w number low above words following) → IsLaid w number mid word part
     → Each (λ row. row.base < mid) h.rows
     → AreLaid w number low above (words ++ word ∷ []) (following ++ part ∷ [])
-are_laid_more w s number low mid above le less words following word part h p below =
-    record {
-      rows = h.rows ++ p.rows;
-      owns = owns_both w s number low mid le h.rows p.rows h.owns p.owns below;
-      ideal = parts_joined (now w).pieces h.rows p.rows
-          (free_both w s number low mid le h.rows p.rows h.owns p.owns below)
-          (apart w s number low mid le h.rows p.rows h.owns p.owns below)
-          words following above word p.ref part h.ideal p.ref_is (p.ideal above less);
-    }
+are_laid_more w s number low mid above le less words following word part h p below = record {
+  rows = h.rows ++ p.rows;
+  owns = owns_both w s number low mid le h.rows p.rows h.owns p.owns below;
+  ideal = parts_joined (now w).pieces h.rows p.rows
+      (free_both w s number low mid le h.rows p.rows h.owns p.owns below)
+      (apart w s number low mid le h.rows p.rows h.owns p.owns below)
+      words following above word p.ref part h.ideal p.ref_is (p.ideal above less);
+}
 
 -- in the rows of both
 pub more_rows : (w : View) (s : IsSound w) (number low mid above : ℕ) (le : low ≤ mid)
@@ -131,12 +114,11 @@ more_rows w s number low mid above le less words following word part h p below =
 
 -- nothing is laid
 pub are_laid_none : (w : View) (number low above : ℕ) → AreLaid w number low above [] []
-are_laid_none w number low above =
-    record {
-      rows = [];
-      owns = record { stored = tt; held = tt; once = tt; rising = tt; high = tt };
-      ideal = no_part;
-    }
+are_laid_none w number low above = record {
+  rows = [];
+  owns = record { stored = tt; held = tt; once = tt; rising = tt; high = tt };
+  ideal = no_part;
+}
 
 -- the row over parts that were laid is laid
 module _ (w : View) (s : IsSound w) (number first base word : ℕ) (leaves : List PlacedLeaf)
@@ -147,8 +129,7 @@ module _ (w : View) (s : IsSound w) (number first base word : ℕ) (leaves : Lis
     ≡ first_keys (λ leaf. leaf.row.key) (drop 1 (parts leaves)))
     (h : AreLaid w number (base + inner_words (degree (length leaves))) base
     (words_at w.own (base + 3 + degree (length leaves)) (degree (length leaves))) (parts leaves))
-    (degree_two : 2 ≤ degree (length leaves))
-    (is : ref_of word ≡ Some (InnerAt base)) where
+    (degree_two : 2 ≤ degree (length leaves)) (is : ref_of word ≡ Some (InnerAt base)) where
   abbrev d : ℕ
   d = degree (length leaves)
 
@@ -168,18 +149,17 @@ module _ (w : View) (s : IsSound w) (number first base word : ℕ) (leaves : Lis
   size_is = length-words_at w.own base (inner_words d)
 
   owns_top : OwnsRows w number first (top_row ∷ [])
-  owns_top =
-      record {
-        stored = (
-          (λ k less. get-words_at w.own base (inner_words d) k
-              (subst (λ n. k < n) size_is less)),
-          tt,
-        );
-        held = (subst (HoldsRow (now w) number base) (sym size_is) held, tt);
-        once = ((λ i. i), tt);
-        rising = (tt, tt);
-        high = (le, tt);
-      }
+  owns_top = record {
+    stored = (
+      (λ k less. get-words_at w.own base (inner_words d) k
+          (subst (λ n. k < n) size_is less)),
+      tt,
+    );
+    held = (subst (HoldsRow (now w) number base) (sym size_is) held, tt);
+    once = ((λ i. i), tt);
+    rising = (tt, tt);
+    high = (le, tt);
+  }
 
   below : Each (λ row. row.base < base + inner_words d) (top_row ∷ [])
   below = ((omega arith), tt)
@@ -203,35 +183,33 @@ module _ (w : View) (s : IsSound w) (number first base word : ℕ) (leaves : Lis
       below
 
   stands : with_inners (now w).pieces (top_row ∷ h.rows) base ≡ Some (Inner r)
-  stands =
-      ap (λ o. with_row (with_inners (now w).pieces h.rows) base o base) read
+  stands = ap (λ o. with_row (with_inners (now w).pieces h.rows) base o base) read
       ∙ with_row-same (with_inners (now w).pieces h.rows) base (Inner r)
 
   -- a row whose first words, keys and slots are stored over laid parts is a laid ideal subtree
   pub laid_top : IsLaid w number first word leaves
-  laid_top =
-      record {
-        rows = top_row ∷ h.rows;
-        owns = owns_all;
-        ref = InnerAt base;
-        ref_is = is;
-        ideal = λ above less. of_more r
-            record {
-              published = stands;
-              two = two;
-              higher = omega arith;
-              status = opened.status;
-              count = opened.count;
-              degree = refl;
-              size = opened.size_is;
-              keys = keys;
-            }
-            (parts_over (with_inners (now w).pieces h.rows)
-            (with_inners (now w).pieces (top_row ∷ h.rows)) (bases_of h.rows)
-            (right_leaf (now w).pieces (top_row ∷ []) h.rows free_all apart_all)
-            (right_inner (now w).pieces (top_row ∷ []) h.rows free_all apart_all) r.slots
-            (parts leaves) base (bases_of h.rows) h.ideal (λ b i. i));
-      }
+  laid_top = record {
+    rows = top_row ∷ h.rows;
+    owns = owns_all;
+    ref = InnerAt base;
+    ref_is = is;
+    ideal = λ above less. of_more r
+        record {
+          published = stands;
+          two = two;
+          higher = omega arith;
+          status = opened.status;
+          count = opened.count;
+          degree = refl;
+          size = opened.size_is;
+          keys = keys;
+        }
+        (parts_over (with_inners (now w).pieces h.rows)
+        (with_inners (now w).pieces (top_row ∷ h.rows)) (bases_of h.rows)
+        (right_leaf (now w).pieces (top_row ∷ []) h.rows free_all apart_all)
+        (right_inner (now w).pieces (top_row ∷ []) h.rows free_all apart_all) r.slots
+        (parts leaves) base (bases_of h.rows) h.ideal (λ b i. i));
+  }
 
   -- in the row and the rows of its parts
   pub top_rows : laid_top.rows ≡ record { base = base; words = words_at w.own base (inner_words d) } ∷ h.rows

@@ -1,24 +1,28 @@
 -- The keys of leaves, as they were loaded before anything was stored: of all leaves, and of a part.
 -- Serves `load_keys` and `build`.
-use Rattle.std.proofs.Common.{◌≡◌, ℕ, zero, suc, ◌+◌, ◌<◌, ◌≤◌, List, [], ◌∷◌, ◌++◌, length, map, take, drop, Some, slice_index_or, slice_set, refl, sym, ap, ◌∙◌, subst, arith}
+use Rattle.std.proofs.Common.{◌≡◌, ℕ, zero, suc, ◌+◌, ◌<◌, ◌≤◌, List, [], ◌∷◌, ◌++◌, length, map, take, drop, Some, slice_index_or, slice_set, refl, sym, ap, ◌∙◌, subst, arith, inr}
 use Rattle.std.proofs.lemmas.List.{take_all, take_more_set}
 use Rattle.std.proofs.Math.Seq.{take-suc}
 use Rattle.ist_core.specs.declared.states.LeafRow.{LeafRow}
-use Rattle.ist_core.specs.Elements.{Each}
-use Rattle.ist_core.specs.Growing.{AllGrow}
-use Rattle.ist_core.specs.Leaves.{PlacedLeaf}
-use Rattle.ist_core.specs.Pieces.{Leaf}
-use Rattle.ist_core.specs.Snapshots.{Snapshot}
-use Rattle.ist_core.specs.Arithmetic.{part_len, part_start}
-use Rattle.ist_core.proofs.GrowingLemmas.{leaf_there}
+use Rattle.ist_core.specs.declared.events.Event.{Event}
+use Rattle.ist_core.specs.declared.events.Who.{Who}
+use Rattle.ist_core.specs.LogTerms.{Each, Snapshot, one_more, LaterBy, Log}
+use Rattle.ist_core.specs.TreeTerms.{AllGrow, PlacedLeaf}
+use Rattle.ist_core.specs.WordTerms.{Leaf, part_len, part_start, start}
+use Rattle.ist_core.proofs.AllLogLemmas.{leaf_there}
 use Rattle.laws_calls.specs.Dividing.{share_of}
+use Rattle.ist_rule.specs.RuleTerms.{now, GoesOnTo, IsSound, own_at}
 use Rattle.ist_rule.specs.declared.view.View.{View}
-use Rattle.ist_rule.specs.Learning.{now, GoesOnTo}
+use Rattle.ist_rows.specs.RowTerms.{reservings, ReservedAll}
 use Rattle.ist_rows.specs.declared.callers.Caller.{Caller}
-use Rattle.ist_build.specs.Laying.{ArePlaced, HaveLeaves, IsLeaf, IsKeyOf, AreKeysOf}
+use Rattle.ist_build.specs.Laying.{ArePlaced, HaveLeaves, IsLeaf, IsKeyOf, AreKeysOf, LaidOn, BuiltOn, IsReservation}
 use Rattle.ist_build.specs.Midway.{IsMidway}
-use Rattle.ist_build.proofs.BuiltLemmas.{leaf_goes_on, built_grow, loads_built}
+use Rattle.ist_build.proofs.BuiltLemmas.{leaf_goes_on, built_grow, loads_built, built_more, next_between}
 use Rattle.ist_build.proofs.PartLeafLemmas.{part_placed}
+use Rattle.ist_rule.specs.Several.{with_events, made_after_all, logging_all, LoggedAll}
+use Rattle.ist_rule.proofs.ListLogLemmas.{enabled_before}
+use Rattle.ist_rule.proofs.WentOnLemmas.{later_by}
+use Rattle.ist_rows.proofs.BlockLemmas.{none_made, took_all}
 
 -- keys stay as rows grow
 pub keys_on : (t u : Snapshot) → AllGrow t.pieces u.pieces → (bases keys : List ℕ)
@@ -52,8 +56,7 @@ leaf_here t bases i have less = at bases have.0 have.1.bases_are have.1.publishe
         → Each (λ leaf. t.pieces leaf.base ≡ Some (Leaf leaf.row)) placed → (i : ℕ)
         → i < length bases → IsLeaf t (slice_index_or bases i 0)
     at bases [] is all i less = absurd (let none = ap length is in omega arith)
-    at bases (leaf ∷ placed) is all zero less =
-        subst (λ xs. IsLeaf t (slice_index_or xs 0 0)) is
+    at bases (leaf ∷ placed) is all zero less = subst (λ xs. IsLeaf t (slice_index_or xs 0 0)) is
         record { row = leaf.row; published = all.0 }
     at bases (leaf ∷ placed) is all (suc i) less =
         subst (λ xs. suc i < length xs → IsLeaf t (slice_index_or xs (suc i) 0)) is
@@ -76,8 +79,7 @@ keys_set t u g leaves keys i key less many h k =
 -- each of them is a leaf after loads too
 pub leaf_after : (v w : View) (leaves : List ℕ) (i : ℕ) → HaveLeaves (now v) leaves
     → i < length leaves → GoesOnTo v w → IsLeaf (now w) (slice_index_or leaves i 0)
-leaf_after v w leaves i have less g =
-    let it = leaf_here (now v) leaves i have less in
+leaf_after v w leaves i have less g = let it = leaf_here (now v) leaves i have less in
     record { row = it.row; published = leaf_goes_on v w g (slice_index_or leaves i 0) it.row it.published }
 
 -- the key of the next leaf was loaded, and is stored after those before it
@@ -100,8 +102,7 @@ keys_more v u w leaves keys i key have less many first second before told =
 pub keys_all : (t : Snapshot) (leaves keys : List ℕ) (i : ℕ) → length leaves ≤ i
     → length keys ≡ length leaves → AreKeysOf t (take i leaves) (take i keys)
     → AreKeysOf t leaves keys
-keys_all t leaves keys i end many h =
-    subst (λ xs. AreKeysOf t xs keys) (take_all i leaves end)
+keys_all t leaves keys i end many h = subst (λ xs. AreKeysOf t xs keys) (take_all i leaves end)
     (subst (AreKeysOf t (take i leaves)) (take_all i keys (omega arith)) h)
 
 -- the first ones, and those after them
@@ -149,16 +150,14 @@ module _ (old who : Caller) (leaves keys : List ℕ) (base d j : ℕ)
   n = length leaves
 
   shared : AreKeysOf (now who.token.view) (share_of n j leaves) (share_of n j keys)
-  shared =
-      keys_share (now who.token.view) n j leaves keys
+  shared = keys_share (now who.token.view) n j leaves keys
       (keys_on (now old.token.view) (now who.token.view)
       (built_grow old.token.view who.token.view m.built) leaves keys have)
 
   -- its keys are its leaves' keys
   pub part_keys : (own : List ℕ) → own ≡ share_of n j leaves
       → AreKeysOf (now who.token.view) own own_keys
-  part_keys own own_is =
-      subst (λ xs. AreKeysOf (now who.token.view) xs own_keys) (sym own_is)
+  part_keys own own_is = subst (λ xs. AreKeysOf (now who.token.view) xs own_keys) (sym own_is)
       (subst (AreKeysOf (now who.token.view) (share_of n j leaves)) (sym keys_are) shared)
 
   -- and the first is its first leaf's key
@@ -171,3 +170,68 @@ module _ (old who : Caller) (leaves keys : List ℕ) (base d j : ℕ)
       ap (λ xs. slice_index_or xs 0 0) keys_are
       ∙ key_first (now who.token.view) (share_of n j leaves) (share_of n j keys) shared leaf others
       it.bases_are it.published.0
+
+-- ---- a caller that reserved rows at one step has built on, and where the rows lie. Serves
+-- `build_at_once`.
+
+-- a log that goes on by own events of which P is true
+later_all : {who : Who} {P : Event → Type 0} {a : Log} (events : List Event) (log : Log)
+    → LaterBy who P a log → Each P events → LaterBy who P a (with_events events log)
+later_all [] log l h = l
+later_all (event ∷ more) log l h = later_all more (event ∷ log) (one_more event l (inr h.0)) h.1
+
+-- a caller laid on by several events
+pub logged_all_laid : (P : Event → Type 0) (v : View) (events : List Event) (w : View)
+    → LoggedAll v events w → Each P events → made_after_all events v.made ≡ v.made → LaidOn P v w
+logged_all_laid P v events w l is made = let log = with_events events l.before in
+    let log_is : w.log ≡ log = ap (λ x. x.log) l.view in
+    let same : logging_all v l.before events ≡ record v { log = log } =
+    ap {B = View} (λ n. record v { log = log; made = n }) made in
+    record {
+      later = subst (LaterBy v.who P v.log) (sym log_is)
+          (later_all events l.before (later_by l.later) is);
+      sound = l.sound;
+      same = subst (λ (x : View). x ≡ record v {
+        log = x.log;
+        own = x.own;
+        loads = x.loads;
+        loaded = x.loaded;
+      }) (sym l.view) same;
+      own = λ place low. ap (λ x. own_at x.own place) l.view;
+      loaded = let is = ap (λ x. x.loaded) l.view in omega arith;
+    }
+
+are_reservings : (number base : ℕ) (sizes : List ℕ) → Each IsReservation (reservings number base sizes)
+are_reservings number base [] = tt
+are_reservings number base (size ∷ more) = (tt, are_reservings number (base + size) more)
+
+-- a caller that reserved rows at one step has built on
+pub reserved_all_built : (v : View) (number base : ℕ) (sizes : List ℕ) (w : View)
+    → ReservedAll v number base sizes w → BuiltOn v w
+reserved_all_built v number base sizes w r = built_more v r.before w (loads_built v r.before r.seen)
+    (logged_all_laid IsReservation r.before (reservings number base sizes) w r.reserved
+    (are_reservings number base sizes) (none_made number base sizes r.before.made))
+
+-- where the rows lie: from the first free word on, and their words are 0
+pub record IsFreshBlock (v : View) (base : ℕ) (w : View) : Type 0 where
+  pub high : (now v).next ≤ base
+  -- the caller's own word at each place from the first row on is 0
+  pub zero_words : (place : ℕ) → base ≤ place → own_at w.own place ≡ 0
+
+-- rows reserved at one step are a fresh block
+pub fresh_block : (v : View) → IsSound v → (number base : ℕ) (sizes : List ℕ) → 1 ≤ length sizes
+    → (w : View) → ReservedAll v number base sizes w → IsFreshBlock v base w
+fresh_block v s number base [] some w r = absurd (omega arith)
+fresh_block v s number base (size ∷ more) some w r =
+    let it = took_all v number base (size ∷ more) w r in
+    let here = enabled_before (start v.start v.words) (reservings number (base + size) more) _
+    it.lawful.enabled in
+    let up = next_between v.start v.words v.who IsReservation v.log it.before here.0
+    (later_by it.later) in
+    let at_next = here.1.base_is in
+    let own_is : w.own ≡ v.own = ap (λ x. x.own) r.reserved.view ∙ ap (λ x. x.own) r.seen.same in
+    record {
+      high = omega arith;
+      zero_words = λ place le. ap (λ o. own_at o place) own_is
+          ∙ s.is_true.fresh place (omega arith);
+    }

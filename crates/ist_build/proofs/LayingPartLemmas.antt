@@ -3,20 +3,15 @@ use Rattle.std.proofs.Common.{◌≡◌, ◌≢◌, ℕ, ◌+◌, ◌<◌, ◌�
 use Rattle.std.specs.List.{sum, flat_map}
 use Rattle.std.proofs.lemmas.List.{take-map, drop-map}
 use Rattle.std.proofs.lemmas.List.Sums.{sum_by-append}
-use Rattle.ist_core.specs.Arithmetic.{degree, part_len, part_start}
-use Rattle.ist_core.specs.Leaves.{PlacedLeaf}
-use Rattle.ist_core.specs.Pieces.{Leaf}
-use Rattle.ist_core.specs.RowLayout.{inner_words, place_limit}
-use Rattle.ist_core.specs.Shapes.{shape}
-use Rattle.ist_core.specs.Snapshots.{Snapshot}
+use Rattle.ist_core.specs.WordTerms.{degree, part_len, part_start, Leaf, inner_words, place_limit, shape}
+use Rattle.ist_core.specs.TreeTerms.{PlacedLeaf}
+use Rattle.ist_core.specs.LogTerms.{Snapshot}
+use Rattle.ist_rule.specs.RuleTerms.{IsSound, own_at, now}
 use Rattle.ist_rule.specs.declared.view.View.{View}
 use Rattle.ist_rule.specs.declared.view.OwnWord.{OwnWord}
-use Rattle.ist_rule.specs.Rule.{IsSound, own_at}
-use Rattle.ist_rule.specs.Learning.{now}
+use Rattle.ist_rows.specs.RowTerms.{IsCaller, HoldsBlock}
 use Rattle.ist_rows.specs.declared.callers.Caller.{Caller}
-use Rattle.ist_rows.specs.Rows.{IsCaller}
 use Rattle.laws_calls.specs.Dividing.{lens_to, share_of}
-use Rattle.ist_rows.specs.Block.{HoldsBlock}
 use Rattle.ist_build.specs.Laying.{ArePlaced, HaveLeaves, AreKeysOf, IsWritten, IsLaidBelow}
 use Rattle.ist_build.specs.Midway.{lens_from, IsLaying, setting}
 use Rattle.ist_build.proofs.PartLeafLemmas.{each_take, each_drop, length-share_of, keys_set}
@@ -28,17 +23,16 @@ use Rattle.ist_build.proofs.KeyLemmas.{keys_share, key_first}
 -- the leaves of a part, in the same state
 pub share_placed : (t : Snapshot) (n j : ℕ) (bases : List ℕ) (leaves : List PlacedLeaf)
     → ArePlaced t bases leaves → ArePlaced t (share_of n j bases) (share_of n j leaves)
-share_placed t n j bases leaves a =
-    record {
-      bases_are = sym (take-map (λ (leaf : PlacedLeaf). leaf.base) (part_len n j)
-          (drop (part_start n j) leaves))
-          ∙ ap (take (part_len n j)) (sym (drop-map (λ (leaf : PlacedLeaf). leaf.base)
-          (part_start n j) leaves) ∙ ap (drop (part_start n j)) a.bases_are);
-      published = each_take (λ leaf. t.pieces leaf.base ≡ Some (Leaf leaf.row)) (part_len n j)
-          (drop (part_start n j) leaves)
-          (each_drop (λ leaf. t.pieces leaf.base ≡ Some (Leaf leaf.row)) (part_start n j) leaves
-          a.published);
-    }
+share_placed t n j bases leaves a = record {
+  bases_are = sym (take-map (λ (leaf : PlacedLeaf). leaf.base) (part_len n j)
+      (drop (part_start n j) leaves))
+      ∙ ap (take (part_len n j)) (sym (drop-map (λ (leaf : PlacedLeaf). leaf.base)
+      (part_start n j) leaves) ∙ ap (drop (part_start n j)) a.bases_are);
+  published = each_take (λ leaf. t.pieces leaf.base ≡ Some (Leaf leaf.row)) (part_len n j)
+      (drop (part_start n j) leaves)
+      (each_drop (λ leaf. t.pieces leaf.base ≡ Some (Leaf leaf.row)) (part_start n j) leaves
+      a.published);
+}
 
 -- the first key of a part is its first leaf's key
 share_key : (t : Snapshot) (n j : ℕ) (bases keys own_keys : List ℕ) → AreKeysOf t bases keys
@@ -57,8 +51,7 @@ part_block : (old who : Caller) (leaves : List ℕ) (base d j next : ℕ)
     → HoldsBlock (now who.token.view) who.number next (shape (part_len (length leaves) j))
     × HoldsBlock (now who.token.view) who.number (next + sum (shape (part_len (length leaves) j)))
     (flat_map shape (lens_from (length leaves) (j + 1)))
-part_block old who leaves base d j next m less =
-    let n = length leaves in
+part_block old who leaves base d j next m less = let n = length leaves in
     holds_split (now who.token.view) who.number next (shape (part_len n j))
     (flat_map shape (lens_from n (j + 1)))
     (subst (HoldsBlock (now who.token.view) who.number next) (sizes_left n j less) m.rest)
@@ -84,8 +77,7 @@ module _ (old who : Caller) (leaves keys : List ℕ) (base d j next : ℕ)
 
   -- its rows are held
   pub held_part : HoldsBlock (now who.token.view) who.number next (shape (length own))
-  held_part =
-      subst (λ k. HoldsBlock (now who.token.view) who.number next (shape k)) (sym long_part)
+  held_part = subst (λ k. HoldsBlock (now who.token.view) who.number next (shape k)) (sym long_part)
       (part_block old who leaves base d j next m less).0
 
   -- its leaves are published, and its keys are theirs
@@ -99,8 +91,7 @@ module _ (old who : Caller) (leaves keys : List ℕ) (base d j next : ℕ)
 
   -- if the keys are the leaves' keys, the part's keys are the keys of the part's leaves
   pub keys_part : AreKeysOf (now old.token.view) leaves keys → AreKeysOf (now who.token.view) own own_keys
-  keys_part have =
-      subst (λ t. AreKeysOf t own own_keys) (sym same_state)
+  keys_part have = subst (λ t. AreKeysOf t own own_keys) (sym same_state)
       (subst (λ xs. AreKeysOf (now old.token.view) xs own_keys) (sym own_is)
       (subst (AreKeysOf (now old.token.view) (share_of (length leaves) j leaves)) (sym keys_are)
       (keys_share (now old.token.view) (length leaves) j leaves keys have)))
@@ -160,8 +151,7 @@ module _ (old who : Caller) (leaves : List ℕ) (base d j next end key word : �
     same_now = ap (λ (x : Caller). now x.token.view) m.written.same
 
     all_sizes : end ≡ base + inner_words d + sum (flat_map shape (lens_to n (j + 1)))
-    all_sizes =
-        let is = m.next_is in
+    all_sizes = let is = m.next_is in
         let more = ap sum (sizes_next n j)
         ∙ sum_by-append (λ x. x) (flat_map shape (lens_to n j)) (shape (part_len n j)) in
         omega arith
@@ -169,39 +159,36 @@ module _ (old who : Caller) (leaves : List ℕ) (base d j next end key word : �
     -- when the part's word and key are stored, one part more of the row is built
     pub laying_set : IsCaller last → IsSound (record v { own = words })
         → IsLaying old leaves base d (j + 1) end last
-    laying_set caller sound_last =
-        let inside = in_row in
-        let more = up in
-        record {
-          written = record {
-            same = ap (λ (x : Caller). record x {
-              token = record x.token { view = record x.token.view { own = words } };
-            }) m.written.same;
-            caller = caller;
-            sound = sound_last;
-            below = λ p l. stays p (omega arith) (λ e. omega arith) (λ one e. omega arith)
-                ∙ m.written.below p l;
-            above = λ p l. elsewhere c base d j key word less p (λ e. omega arith)
-                (λ one e. omega arith) ∙ above p l ∙ m.written.above p (omega arith);
-          };
-          next_is = all_sizes;
-          low = low;
-          held = m.held;
-          rest = subst (λ b. HoldsBlock (now v) who.number b (flat_map shape (lens_from n (j + 1))))
-              (sym end_is) (part_block old who leaves base d j next m
-              (let q : j < degree n = omega (arith, d_is) in q)).1;
-          opened = opened_on v.own words base d n
-              (λ p l. stays p (omega arith) (λ e. omega arith) (λ one e. omega arith)) m.opened;
-          laid = λ placed a.
-              part_laid_too v who.number base d n j next end key word nown less in_row up below sound
-              placed (m.laid placed a)
-              (laid (share_of n j placed)
-              (share_placed (now v) n j leaves placed
-              (subst (λ t. ArePlaced t leaves placed) (sym same_now) a)));
-          keys = λ placed a.
-              keys_set v.own c base d j key word less (now old.token.view) leaves placed a d_is some
-              (λ p l. stays p (omega arith)) (m.keys placed a) (key_is placed a);
-        }
+    laying_set caller sound_last = let inside = in_row in let more = up in record {
+      written = record {
+        same = ap (λ (x : Caller). record x {
+          token = record x.token { view = record x.token.view { own = words } };
+        }) m.written.same;
+        caller = caller;
+        sound = sound_last;
+        below = λ p l. stays p (omega arith) (λ e. omega arith) (λ one e. omega arith)
+            ∙ m.written.below p l;
+        above = λ p l. elsewhere c base d j key word less p (λ e. omega arith)
+            (λ one e. omega arith) ∙ above p l ∙ m.written.above p (omega arith);
+      };
+      next_is = all_sizes;
+      low = low;
+      held = m.held;
+      rest = subst (λ b. HoldsBlock (now v) who.number b (flat_map shape (lens_from n (j + 1))))
+          (sym end_is) (part_block old who leaves base d j next m
+          (let q : j < degree n = omega (arith, d_is) in q)).1;
+      opened = opened_on v.own words base d n
+          (λ p l. stays p (omega arith) (λ e. omega arith) (λ one e. omega arith)) m.opened;
+      laid = λ placed a.
+          part_laid_too v who.number base d n j next end key word nown less in_row up below sound
+          placed (m.laid placed a)
+          (laid (share_of n j placed)
+          (share_placed (now v) n j leaves placed
+          (subst (λ t. ArePlaced t leaves placed) (sym same_now) a)));
+      keys = λ placed a.
+          keys_set v.own c base d j key word less (now old.token.view) leaves placed a d_is some
+          (λ p l. stays p (omega arith)) (m.keys placed a) (key_is placed a);
+    }
 
 -- ---- in the form of the functions' clauses
 

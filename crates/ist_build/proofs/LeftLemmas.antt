@@ -5,45 +5,34 @@ use Rattle.std.proofs.lemmas.Bool.{cases_lt}
 use Rattle.std.proofs.lemmas.Bool.Decides.{nat_tests}
 use Rattle.std.proofs.lemmas.List.Sums.{sum_by-append, sum_by-cons}
 use Rattle.ist_core.specs.declared.states.InnerRow.{InnerRow}
-use Rattle.ist_core.specs.Arithmetic.{degree, part_len, part_lens}
-use Rattle.ist_core.specs.Pieces.{Piece, Inner}
-use Rattle.ist_core.specs.References.{unset_word}
-use Rattle.ist_core.specs.RowLayout.{inner_words, slot_place}
-use Rattle.ist_core.specs.Shapes.{shape, share_from}
-use Rattle.ist_core.specs.Slots.{SlotHolds, in_anchor, in_row}
-use Rattle.ist_core.specs.Snapshots.{Snapshot}
-use Rattle.ist_core.proofs.PlaceLemmas.{anchor_free}
-use Rattle.ist_core.proofs.ShapeLemmas.{shape_many}
+use Rattle.ist_core.specs.WordTerms.{degree, part_len, part_lens, Piece, Inner, unset_word, inner_words, slot_place, shape, share_from, SlotHolds, in_anchor, in_row}
+use Rattle.ist_core.specs.LogTerms.{Snapshot, IsShown}
+use Rattle.ist_core.proofs.AllPlaceLemmas.{anchor_free}
+use Rattle.ist_core.proofs.AllWordLemmas.{shape_many}
 use Rattle.laws_calls.specs.Dividing.{lens_to}
 use Rattle.laws_calls.proofs.PartLemmas.{lens_all}
+use Rattle.ist_rule.specs.RuleTerms.{IsSound, now, Looked}
 use Rattle.ist_rule.specs.declared.view.View.{View}
-use Rattle.ist_rule.specs.Rule.{IsSound}
-use Rattle.ist_rule.specs.Learning.{now, Looked}
-use Rattle.ist_core.specs.Shown.{IsShown}
-use Rattle.ist_rule.proofs.GoingOnLemmas.{looked_goes_on}
+use Rattle.ist_rule.proofs.EventLemmas.{looked_goes_on}
 use Rattle.ist_build.specs.declared.shared.SharedRoot.{SharedRoot}
 use Rattle.ist_build.specs.Calls.{parts_words, root_words}
 use Rattle.ist_build.specs.Left.{left_in, slot_is_set, word_is_set, words_left}
 use Rattle.ist_build.specs.Putting.{IsRowOfDegree, IsSlotSet, PutOn}
 use Rattle.ist_build.proofs.BuiltLemmas.{built_grow, loads_built}
-use Rattle.ist_build.proofs.FewLemmas.{root_few, root_many}
+use Rattle.ist_build.proofs.FewLemmas.{root_few, root_many, many_two}
 use Rattle.ist_build.proofs.FillLemmas.{set_on}
 use Rattle.ist_build.proofs.PartSlotLemmas.{degree_on, slot_holds, slot_shown}
 use Rattle.ist_build.proofs.PartsLemmas.{sizes_next}
-use Rattle.ist_build.proofs.TopLeafLemmas.{many_two}
 
 -- ---- sums
 
 -- no more than all parts take
 pub left_all : (set : ℕ → Bool) (k j : ℕ) → words_left set k j ≤ sum (flat_map shape (lens_to k j))
 left_all set k zero = omega arith
-left_all set k (suc j) =
-    let before = left_all set k j in
-    let one : suc j ≡ j + 1 = omega arith in
+left_all set k (suc j) = let before = left_all set k j in let one : suc j ≡ j + 1 = omega arith in
     let all = ap (λ n. sum (flat_map shape (lens_to k n))) one ∙ ap sum (sizes_next k j)
     ∙ sum_by-append (λ x. x) (flat_map shape (lens_to k j)) (shape (part_len k j)) in
-    let here = at_most (set j) (sum (shape (part_len k j))) in
-    omega arith
+    let here = at_most (set j) (sum (shape (part_len k j))) in omega arith
   where
     at_most : (b : Bool) (n : ℕ) → (if b then 0 else n) ≤ n
     at_most true n = omega arith
@@ -59,33 +48,25 @@ module _ (set more : ℕ → Bool) (on : (i : ℕ) → set i ≡ true → more i
   -- as more slots are set, fewer words are left
   pub left_falls : (j : ℕ) → words_left more k j ≤ words_left set k j
   left_falls zero = omega arith
-  left_falls (suc j) =
-      let before = left_falls j in
-      let here = less (set j) (more j) (sum (shape (part_len k j))) (on j) in
-      omega arith
+  left_falls (suc j) = let before = left_falls j in
+      let here = less (set j) (more j) (sum (shape (part_len k j))) (on j) in omega arith
 
   whole : (b c : Bool) (n : ℕ) → b ≡ false → c ≡ true
       → (if c then 0 else n) + n ≤ (if b then 0 else n)
-  whole b c n e f =
-      let left = ap (λ (x : Bool). if x then 0 else n) e in
-      let right = ap (λ (x : Bool). if x then 0 else n) f in
-      omega arith
+  whole b c n e f = let left = ap (λ (x : Bool). if x then 0 else n) e in
+      let right = ap (λ (x : Bool). if x then 0 else n) f in omega arith
 
   -- a slot that is set meanwhile leaves the words of its part
   pub left_part : (i : ℕ) → set i ≡ false → more i ≡ true → (j : ℕ) → i < j
       → words_left more k j + sum (shape (part_len k i)) ≤ words_left set k j
   left_part i vacant shut zero low = absurd (omega arith)
-  left_part i vacant shut (suc j) low =
-      ⊎_elim
-      (λ under.
-      let before = left_part i vacant shut j under in
+  left_part i vacant shut (suc j) low = ⊎_elim
+      (λ under. let before = left_part i vacant shut j under in
       let here = less (set j) (more j) (sum (shape (part_len k j))) (on j) in
       let h : words_left more k (suc j) + sum (shape (part_len k i)) ≤ words_left set k (suc j)
       = omega arith in
       h)
-      (λ over.
-      let same : i ≡ j = omega arith in
-      let before = left_falls j in
+      (λ over. let same : i ≡ j = omega arith in let before = left_falls j in
       let here = subst (λ n. (if more n then 0 else sum (shape (part_len k n)))
       + sum (shape (part_len k n)) ≤ (if set n then 0 else sum (shape (part_len k n)))) same
       (whole (set i) (more i) (sum (shape (part_len k i))) vacant shut) in
@@ -99,8 +80,7 @@ module _ (set more : ℕ → Bool) (on : (i : ℕ) → set i ≡ true → more i
 pub left_has : (set : ℕ → Bool) (k i : ℕ) → set i ≡ false → (j : ℕ) → i < j
     → sum (shape (part_len k i)) ≤ words_left set k j
 left_has set k i vacant j low =
-    let all = left_part set (λ n. true) (λ n e. refl) k i vacant refl j low in
-    omega arith
+    let all = left_part set (λ n. true) (λ n e. refl) k i vacant refl j low in omega arith
 
 -- ---- slots
 
@@ -161,36 +141,31 @@ module _ (v w : View) (b : PutOn v w) (shared : SharedRoot) (row : InnerRow)
   -- what is set stays set
   stays : (i : ℕ) → slot_is_set ((now v).pieces shared.root) i ≡ true
       → slot_is_set ((now w).pieces shared.root) i ≡ true
-  stays i is =
-      set_shut w b.sound shared.root i row there
+  stays i is = set_shut w b.sound shared.root i row there
       (set_on v w b shared.root i (shut_set (now v) shared.root i is))
 
   -- so no more words are left
   pub left_on : left_in (now w) shared ≤ left_in (now v) shared
-  left_on =
-      left_falls (slot_is_set ((now v).pieces shared.root))
+  left_on = left_falls (slot_is_set ((now v).pieces shared.root))
       (slot_is_set ((now w).pieces shared.root)) stays shared.keys (degree shared.keys)
 
   -- and those of a slot less that is set meanwhile
   pub left_less : (i : ℕ) → i < degree shared.keys
       → slot_is_set ((now v).pieces shared.root) i ≡ false → IsSlotSet (now w) shared.root i
       → left_in (now w) shared + sum (shape (part_len shared.keys i)) ≤ left_in (now v) shared
-  left_less i low vacant set =
-      left_part (slot_is_set ((now v).pieces shared.root))
+  left_less i low vacant set = left_part (slot_is_set ((now v).pieces shared.root))
       (slot_is_set ((now w).pieces shared.root)) stays shared.keys i vacant
       (set_shut w b.sound shared.root i row there set) (degree shared.keys) low
 
 -- at most all that isn't the root's
 pub left_most : (t : Snapshot) (shared : SharedRoot) → share_from ≤ shared.keys
     → left_in t shared ≤ parts_words shared.keys
-left_most t shared many =
-    let k = shared.keys in
+left_most t shared many = let k = shared.keys in
     let most = left_all (slot_is_set (t.pieces shared.root)) k (degree k) in
     let lens = ap (λ xs. sum (flat_map shape xs)) (lens_all k) in
     let all = ap sum (shape_many k (many_two k many))
     ∙ sum_by-cons (λ x. x) (inner_words (degree k)) (flat_map shape (part_lens k)) in
-    let root = root_many k many in
-    omega arith
+    let root = root_many k many in omega arith
 
 -- a load of a slot that holds Unset
 pub slot_open : (v w : View) (node d i place word : ℕ) → IsRowOfDegree (now v) node d → i < d
@@ -210,13 +185,11 @@ slot_open v w node d i place word h less at l is =
 
 -- the root takes no more than the whole
 pub root_most : (k : ℕ) → root_words k ≤ sum (shape k)
-root_most k =
-    ⊎_elim
+root_most k = ⊎_elim
     (λ few. let is = root_few k few in let h : root_words k ≤ sum (shape k) = omega arith in h)
     (λ many.
     let all = ap sum (shape_many k (many_two k many))
     ∙ sum_by-cons (λ x. x) (inner_words (degree k)) (flat_map shape (part_lens k)) in
-    let is = root_many k many in
-    let h : root_words k ≤ sum (shape k) = omega arith in
+    let is = root_many k many in let h : root_words k ≤ sum (shape k) = omega arith in
     h)
     (cases_lt k share_from)

@@ -1,25 +1,20 @@
 -- The leaves of a part of a node, and its first key. Serves `building`.
 use Rattle.std.proofs.Common.{◌≡◌, ◌≢◌, ℕ, zero, suc, ◌+◌, ◌-◌, ◌<◌, ◌≤◌, List, [], ◌∷◌, ◌++◌, length, take, drop, Some, refl, sym, ap, ap₂, ◌∙◌, arith}
 use Rattle.std.proofs.lemmas.List.{take-map, drop-map, length-take-le, length-drop, length-map}
-use Rattle.ist_core.specs.Arithmetic.{degree, part_len, part_start}
-use Rattle.ist_core.specs.Elements.{Each}
-use Rattle.ist_core.specs.Leaves.{PlacedLeaf}
-use Rattle.ist_core.specs.Parts.{first_keys}
-use Rattle.ist_core.specs.Pieces.{Leaf}
-use Rattle.ist_core.specs.RowLayout.{inner_words}
-use Rattle.ist_core.specs.Snapshots.{Snapshot}
-use Rattle.ist_core.proofs.GrowingLemmas.{leaf_there}
-use Rattle.ist_core.proofs.PartLemmas.{part_end-le}
+use Rattle.ist_core.specs.WordTerms.{degree, part_len, part_start, first_keys, Leaf, inner_words}
+use Rattle.ist_core.specs.LogTerms.{Each, Snapshot}
+use Rattle.ist_core.specs.TreeTerms.{PlacedLeaf}
+use Rattle.ist_core.proofs.AllLogLemmas.{leaf_there}
+use Rattle.ist_core.proofs.AllWordLemmas.{part_end-le}
+use Rattle.ist_rule.specs.RuleTerms.{own_at, now}
 use Rattle.ist_rule.specs.declared.view.OwnWord.{OwnWord}
 use Rattle.ist_rule.specs.declared.view.View.{View}
-use Rattle.ist_rule.specs.Rule.{own_at}
-use Rattle.ist_rule.specs.Learning.{now}
 use Rattle.ist_build.specs.Laying.{BuiltOn, ArePlaced}
 use Rattle.laws_calls.specs.Dividing.{parts_to, share_of}
 use Rattle.laws_calls.proofs.PartLemmas.{keys_next}
 use Rattle.ist_build.specs.Midway.{setting, words_at}
 use Rattle.ist_build.proofs.BuiltLemmas.{built_grow}
-use Rattle.ist_build.proofs.OwnWordLemmas.{words_at_more, words_at_same}
+use Rattle.ist_build.proofs.LayingLemmas.{words_at_more, words_at_same}
 use Rattle.ist_build.proofs.RowOpenedLemmas.{at_key}
 
 -- what holds for each element holds for each after the first n
@@ -48,16 +43,15 @@ published_on v w b (leaf ∷ leaves) h = (
 pub part_placed : (v w : View) → BuiltOn v w → (n j : ℕ) (bases : List ℕ)
     (leaves : List PlacedLeaf) → ArePlaced (now v) bases leaves
     → ArePlaced (now w) (share_of n j bases) (share_of n j leaves)
-part_placed v w b n j bases leaves a =
-    record {
-      bases_are = sym (take-map (λ (leaf : PlacedLeaf). leaf.base) (part_len n j)
-          (drop (part_start n j) leaves))
-          ∙ ap (take (part_len n j)) (sym (drop-map (λ (leaf : PlacedLeaf). leaf.base)
-          (part_start n j) leaves) ∙ ap (drop (part_start n j)) a.bases_are);
-      published = published_on v w b (share_of n j leaves)
-          (each_take _ (part_len n j) (drop (part_start n j) leaves)
-          (each_drop _ (part_start n j) leaves a.published));
-    }
+part_placed v w b n j bases leaves a = record {
+  bases_are = sym (take-map (λ (leaf : PlacedLeaf). leaf.base) (part_len n j)
+      (drop (part_start n j) leaves))
+      ∙ ap (take (part_len n j)) (sym (drop-map (λ (leaf : PlacedLeaf). leaf.base)
+      (part_start n j) leaves) ∙ ap (drop (part_start n j)) a.bases_are);
+  published = published_on v w b (share_of n j leaves)
+      (each_take _ (part_len n j) (drop (part_start n j) leaves)
+      (each_drop _ (part_start n j) leaves a.published));
+}
 
 -- the share of child j of an ideal node has `part_len` elements
 pub length-share_of : {A : Type 0} (n j : ℕ) (xs : List A) → length xs ≡ n → j < degree n
@@ -100,17 +94,14 @@ keys_set own c base d j key word less t leaves placed a degree_is some stays bef
     first_part =
         let many = sym (length-map placed (λ (leaf : PlacedLeaf). leaf.base)) ∙ ap length a.bases_are in
         let len = length-share_of (length leaves) j placed many
-        (let q : j < degree (length leaves) = omega (arith, degree_is) in q) in
-        let one = some in
+        (let q : j < degree (length leaves) = omega (arith, degree_is) in q) in let one = some in
         some_first (share_of (length leaves) j placed) (omega arith)
 
     at : (i : ℕ) → i ≡ j → words_at (setting c base d j key word).own (base + 4) (i + 1 - 1)
         ≡ first_keys (λ (leaf : PlacedLeaf). leaf.row.key)
         (drop 1 (parts_to (length leaves) (i + 1) placed))
     at zero e = refl
-    at (suc i) e =
-        let one : 1 ≤ j = omega arith in
-        let it = first_part in
+    at (suc i) e = let one : 1 ≤ j = omega arith in let it = first_part in
         let place : base + 4 + (j - 1) ≡ base + 3 + j = omega arith in
         ap (words_at words (base + 4)) (let q : suc i + 1 - 1 ≡ j - 1 + 1 = omega arith in q)
         ∙ words_at_more words (base + 4) (j - 1)

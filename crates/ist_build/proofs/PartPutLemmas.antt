@@ -4,53 +4,36 @@ use Rattle.std.specs.List.{sum}
 use Rattle.ist_core.specs.declared.events.Event.{Event}
 use Rattle.ist_core.specs.declared.events.Event.TheVariants.{Place, Lose}
 use Rattle.ist_core.specs.declared.ports.Full.{Full}
-use Rattle.ist_core.specs.Arithmetic.{degree, part_len, part_start}
-use Rattle.ist_core.specs.Building.{root_whole}
-use Rattle.ist_core.specs.Leaves.{PlacedLeaf, HasLeaves}
-use Rattle.ist_core.specs.Pieces.{Inner, with_inners}
-use Rattle.ist_core.specs.Rebuilding.{IsFinishedWith}
-use Rattle.ist_core.specs.References.{InnerAt, unset_word, tag_count}
-use Rattle.ist_core.specs.RowLayout.{slot_place}
-use Rattle.ist_core.specs.Shapes.{shape, share_from_fits}
-use Rattle.ist_core.specs.Snapshots.{bases_of, sizes_of}
-use Rattle.ist_core.specs.StartLayout.{start}
-use Rattle.ist_core.specs.Writing.{place_of_slot}
-use Rattle.ist_core.proofs.PlaceLemmas.{placed, claimed_within}
-use Rattle.laws_links.proofs.FinishedLeafLemmas.{finished_leaves}
-use Rattle.ist_rule.specs.declared.view.View.{View}
 use Rattle.ist_core.specs.declared.events.Who.TheVariants.{Caller as CallerOf}
-use Rattle.ist_rule.specs.Conditions.{CanExchangeOrLose}
-use Rattle.ist_rule.specs.Faces.{TokenFace}
-use Rattle.ist_rule.specs.Learning.{now, Logged, LoggedLoad, ExchangedOrLost, GoesOnTo}
-use Rattle.ist_rule.specs.Watching.{number_of}
+use Rattle.ist_core.specs.WordTerms.{degree, part_len, part_start, Inner, with_inners, InnerAt, unset_word, tag_count, slot_place, shape, share_from_fits, start, parts}
+use Rattle.ist_core.specs.TreeTerms.{root_whole, PlacedLeaf, HasLeaves, IsFinishedWith, place_of_slot}
+use Rattle.ist_core.specs.LogTerms.{bases_of, sizes_of}
+use Rattle.ist_core.proofs.AllPlaceLemmas.{placed, claimed_within}
+use Rattle.laws_links.proofs.ContentLemmas.{finished_leaves}
+use Rattle.ist_rule.specs.RuleTerms.{CanExchangeOrLose, TokenFace, now, Logged, LoggedLoad, ExchangedOrLost, GoesOnTo, number_of}
+use Rattle.ist_rule.specs.declared.view.View.{View}
+use Rattle.ist_rows.specs.RowTerms.{IsCaller, IsInBuild, HasRefused, sizes_built, HasRunOut, HasTakenFew, HasTakenFewIn}
 use Rattle.ist_rows.specs.declared.callers.Caller.{Caller}
-use Rattle.ist_rows.specs.Rows.{IsCaller}
-use Rattle.ist_rows.specs.Building.{IsInBuild, HasRefused, sizes_built}
-use Rattle.ist_rows.specs.Taken.{HasRunOut, HasTakenFew, HasTakenFewIn}
 use Rattle.laws_coming.specs.Builds.{IsPartBuilt, WasUnset}
-use Rattle.laws_coming.proofs.PartLemmas.{part_comes_or_loses}
-use Rattle.laws_coming.proofs.PlacedLemmas.{part_sizes}
+use Rattle.laws_coming.proofs.SeenLemmas.{part_comes_or_loses}
+use Rattle.laws_coming.proofs.FilledLemmas.{part_sizes}
 use Rattle.ist_build.specs.Laying.{IsLaid, IsShort}
 use Rattle.ist_build.specs.BuildEvents.{placing, losing, held_rows_from}
 use Rattle.ist_build.specs.declared.shared.SharedRoot.{SharedRoot}
 use Rattle.ist_build.specs.Putting.{IsRowOfDegree, IsShared, IsStopped}
 use Rattle.ist_build.specs.Back.{IsBack, HasBuilt, IsSharedAs, IsPartMade, IsFilledAt}
-use Rattle.ist_build.proofs.BackLemmas.{back_logged, back_lost, back_refused}
-use Rattle.ist_build.proofs.KeptLemmas.{shared_told}
-use Rattle.ist_build.proofs.PutOnLemmas.{put_same, short_stopped}
+use Rattle.ist_build.proofs.BackLemmas.{back_logged, back_lost, back_refused, shared_told}
+use Rattle.ist_build.proofs.BuiltLemmas.{put_same, short_stopped, built_grow, loads_built}
 use Rattle.ist_build.proofs.ShareLemmas.{short_more}
-use Rattle.ist_build.proofs.BuiltLemmas.{built_grow, loads_built}
 use Rattle.laws_calls.specs.Dividing.{share_of}
 use Rattle.laws_calls.proofs.PartLemmas.{part_is}
 use Rattle.ist_build.proofs.PartLeafLemmas.{length-share_of}
 use Rattle.ist_build.proofs.LayingLemmas.{rows_free}
-use Rattle.ist_core.specs.Parts.{parts}
 use Rattle.std.proofs.lemmas.Bool.Decides.{eqb_tells}
 use Rattle.ist_build.proofs.RootReadyLemmas.{IsTopped, root_topped, topped_set}
 use Rattle.ist_build.proofs.RootPutLemmas.{rows_of_topped}
 use Rattle.ist_build.proofs.TopBegunLemmas.{leaves_on}
-use Rattle.ist_build.proofs.UnsetLemmas.{unset_built}
-use Rattle.ist_build.proofs.PartSlotLemmas.{part_lost, part_put, part_two, shared_on, slot_is_place}
+use Rattle.ist_build.proofs.PartSlotLemmas.{unset_built, part_lost, part_put, part_two, shared_on, slot_is_place}
 
 -- ---- what was built
 
@@ -96,57 +79,49 @@ module _ (old mid : Caller) (s : SharedRoot) (i word : ℕ) (m : IsPartMade old 
   h = m.laid some.0 some.1
 
   on : IsShared (now w) s.rebuild s.target s.root s.keys
-  on =
-      shared_on (now v) (now w) (built_grow v w a.built) s.rebuild s.target s.root s.keys sh
+  on = shared_on (now v) (now w) (built_grow v w a.built) s.rebuild s.target s.root s.keys sh
 
   root_low : s.root < (now v).next
   root_low =
       let it = claimed_within v.start v.words v.log s.root _ a.sound.lawful.enabled
       ((placed v.start v.words v.log a.sound.lawful.enabled).published s.root (Inner sh.node.row)
       sh.node.published) in
-      let low = it.below_next in
-      let more = it.some in
-      omega arith
+      let low = it.below_next in let more = it.some in omega arith
 
   abbrev ready : IsPartBuilt (now w) mid.number s.rebuild i word h.rows
-  ready =
-      record {
-        row = on.row;
-        published = on.published;
-        started = on.started;
-        k = s.keys;
-        finished = subst (λ n. IsFinishedWith (now w) n s.keys) (sym on.target_is) on.finished;
-        shared = on.shared;
-        root = s.root;
-        root_is = on.root_is;
-        root_row = on.node.row;
-        root_published = on.node.published;
-        within = subst (λ n. i < n) (sym on.node.degree_is) less;
-        leaves = some.0;
-        reached = subst (λ n. HasLeaves (now w).pieces (Some (InnerAt n)) some.0) (sym on.target_is)
-            (leaves_on v w a.built s.target s.keys sh.finished some.0 some.1);
-        part = part;
-        part_is = subst (λ n. slice_get (parts some.0) i ≡ Some (share_of n i some.0)) some.2
-            (part_is some.0 i (subst (λ n. i < degree n) (sym some.2) less));
-        ref = h.ref;
-        ref_is = h.ref_is;
-        ideal = h.ideal s.root root_low;
-        once = h.owns.once;
-        held = h.owns.held;
-      }
+  ready = record {
+    row = on.row;
+    published = on.published;
+    started = on.started;
+    k = s.keys;
+    finished = subst (λ n. IsFinishedWith (now w) n s.keys) (sym on.target_is) on.finished;
+    shared = on.shared;
+    root = s.root;
+    root_is = on.root_is;
+    root_row = on.node.row;
+    root_published = on.node.published;
+    within = subst (λ n. i < n) (sym on.node.degree_is) less;
+    leaves = some.0;
+    reached = subst (λ n. HasLeaves (now w).pieces (Some (InnerAt n)) some.0) (sym on.target_is)
+        (leaves_on v w a.built s.target s.keys sh.finished some.0 some.1);
+    part = part;
+    part_is = subst (λ n. slice_get (parts some.0) i ≡ Some (share_of n i some.0)) some.2
+        (part_is some.0 i (subst (λ n. i < degree n) (sym some.2) less));
+    ref = h.ref;
+    ref_is = h.ref_is;
+    ideal = h.ideal s.root root_low;
+    once = h.owns.once;
+    held = h.owns.held;
+  }
 
   sizes : sizes_built mid ≡ sizes_built old ++ sizes_of h.rows
-  sizes =
-      m.at.sizes
-      ∙ ap (λ xs. sizes_built old ++ xs)
+  sizes = m.at.sizes ∙ ap (λ xs. sizes_built old ++ xs)
       (ap shape (sym long)
       ∙ sym (part_sizes (now w).pieces h.rows h.ref part s.root h.owns.once
       (rows_free w a.built.sound mid.number h.rows h.owns.held) (h.ideal s.root root_low)))
 
   topped : IsTopped word (bases_of h.rows)
-  topped =
-      let two = part_two s.keys i sh.shared in
-      let fits = share_from_fits in
+  topped = let two = part_two s.keys i sh.shared in let fits = share_from_fits in
       root_topped (with_inners (now w).pieces h.rows) word 0 part s.root (bases_of h.rows)
       (let len = long in omega arith)
       (root_whole h.ref (omega arith) h.ref_is (h.ideal s.root root_low))
@@ -201,10 +176,8 @@ module _ (old mid : Caller) (s : SharedRoot) (i word : ℕ) (m : IsPartMade old 
       where
         hit : Logged w (placing w s.rebuild i word) token.view
             → IsFilledAt old (record mid { token = token }) s.root i
-        hit l =
-            let event = Place mid.number s.rebuild i word h.rows in
-            let logged = subst (λ (e : Event). Logged w e token.view) placing_is l in
-            record {
+        hit l = let event = Place mid.number s.rebuild i word h.rows in
+            let logged = subst (λ (e : Event). Logged w e token.view) placing_is l in record {
               back = back_logged old mid a h.rows h.owns sizes event tt (λ n. refl) (λ t. refl) token
                   logged;
               set = part_put w token.view mid.number s.rebuild i word h.rows s.root on.row on.published
@@ -213,8 +186,7 @@ module _ (old mid : Caller) (s : SharedRoot) (i word : ℕ) (m : IsPartMade old 
 
         miss : found ≢ unset_word → LoggedLoad w (losing w word) place found token.view
             → IsFilledAt old (record mid { token = token }) s.root i
-        miss differs l =
-            let event = Lose mid.number (bases_of h.rows) in
+        miss differs l = let event = Lose mid.number (bases_of h.rows) in
             let lost = subst (λ (e : Event). LoggedLoad w e place found token.view) losing_is l in
             record {
               back = back_lost old mid a h.rows h.owns sizes event tt (λ n. refl) (λ t. refl) token place
@@ -260,8 +232,7 @@ pub slot_built : (old new : Caller) (s : SharedRoot) (i len start words : ℕ) �
 slot_built old new s i len start words b c sh within unset start_is len_is fewer (Ok word) laid at few
     full refused =
     let low = (now old.token.view).next in
-    let two : 2 ≤ len = let t = part_two s.keys i sh.is.shared in omega arith in
-    record {
+    let two : 2 ≤ len = let t = part_two s.keys i sh.is.shared in omega arith in record {
       made = record {
         has_built = b;
         shared = sh;
@@ -281,8 +252,7 @@ slot_built old new s i len start words b c sh within unset start_is len_is fewer
 slot_built old new s i len start words b c sh within unset start_is len_is fewer (Err full) laid at few
     short refused =
     let v = old.token.view in
-    let two : 2 ≤ len = let t = part_two s.keys i sh.is.shared in omega arith in
-    record {
+    let two : 2 ≤ len = let t = part_two s.keys i sh.is.shared in omega arith in record {
       made = tt;
       few = subst (λ n. HasRunOut (sum (shape n)) old new) len_is (few two);
       back = back_refused old new b.number b.rows b.built c refused;

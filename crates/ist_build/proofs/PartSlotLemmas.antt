@@ -1,48 +1,32 @@
 -- The slots of a shared root, and what one holds after an exchange. Serves `filling`.
-use Rattle.std.proofs.Common.{◌≡◌, ◌≢◌, ℕ, ◌+◌, ◌*◌, ◌/◌, ◌%◌, ◌<◌, ◌≤◌, List, length, length-append, Some, get_or, sym, ap, ◌∙◌, subst, ⊎_elim, arith}
-use Rattle.ist_core.specs.declared.events.Event.TheVariants.{Place, Lose}
+use Rattle.std.proofs.Common.{◌≡◌, ◌≢◌, ℕ, ◌+◌, ◌*◌, ◌/◌, ◌%◌, ◌<◌, ◌≤◌, List, length, length-append, Some, get_or, sym, ap, ◌∙◌, subst, ⊎_elim, arith, inl, inr}
+use Rattle.ist_core.specs.declared.events.Event.TheVariants.{Place, Lose, Reserve}
 use Rattle.ist_core.specs.declared.lists.Row.{Row}
 use Rattle.ist_core.specs.declared.pairs.Pair.{Pair}
-use Rattle.ist_core.specs.Logs.{Log}
 use Rattle.ist_core.specs.declared.states.RebuildRow.{RebuildRow}
-use Rattle.ist_core.specs.After.{after}
-use Rattle.ist_core.specs.Arithmetic.{degree, part_len, part_start}
-use Rattle.ist_core.specs.Growing.{AllGrow}
-use Rattle.ist_core.specs.Lawful.{EachEnabled, state_of}
-use Rattle.ist_core.specs.Pieces.{Inner, Rebuild}
-use Rattle.ist_core.specs.References.{InnerAt, ref_of, unset_word}
-use Rattle.ist_core.specs.RowLayout.{slot_place}
-use Rattle.ist_core.specs.Shapes.{share_from, share_from_is}
-use Rattle.ist_core.specs.Slots.{SlotHolds, in_anchor, in_row}
-use Rattle.ist_core.specs.Snapshots.{Snapshot}
-use Rattle.ist_core.specs.StartLayout.{start}
-use Rattle.ist_core.specs.Writing.{place_of_slot}
-use Rattle.ist_core.proofs.FateLemmas.{grow_between}
-use Rattle.ist_core.proofs.GrowingLemmas.{inner_there, rebuild_there}
-use Rattle.ist_core.proofs.ImageLemmas.{get-words_of_slot}
-use Rattle.ist_core.proofs.PartLemmas.{part_len-long, part_len-short}
-use Rattle.ist_core.proofs.RootLemmas.{least_degree-le}
+use Rattle.ist_core.specs.declared.events.Event.{Event}
+use Rattle.ist_core.specs.declared.events.Who.{Who}
+use Rattle.ist_core.specs.declared.events.Who.TheVariants.{Caller}
+use Rattle.ist_core.specs.LogTerms.{Log, after, EachEnabled, state_of, Snapshot, IsShown, shown_row, no_more, one_more, LaterBy}
+use Rattle.ist_core.specs.WordTerms.{degree, part_len, part_start, Inner, Rebuild, InnerAt, ref_of, unset_word, slot_place, share_from, share_from_is, SlotHolds, in_anchor, in_row, start}
+use Rattle.ist_core.specs.TreeTerms.{AllGrow, place_of_slot}
+use Rattle.ist_core.proofs.AllLogLemmas.{grow_between, inner_there, rebuild_there, set_by}
+use Rattle.ist_core.proofs.AllPlaceLemmas.{get-words_of_slot, anchor_free, place_writes}
+use Rattle.ist_core.proofs.AllWordLemmas.{part_len-long, part_len-short, least_degree-le, same_rebuild}
 use Rattle.std.proofs.lemmas.Bool.{cases_lt}
 use Rattle.std.proofs.Math.Nat.{le-div_iff_mul-le}
-use Rattle.ist_core.proofs.PlaceLemmas.{anchor_free}
-use Rattle.ist_core.proofs.SlotStepLemmas.{place_writes}
-use Rattle.ist_core.proofs.SoundLemmas.{sound}
-use Rattle.ist_core.proofs.StartLemmas.{sound_start}
+use Rattle.ist_core.proofs.AllEventLemmas.{sound, sound_start}
 use Rattle.laws_links.proofs.FormLemmas.{finished_with_grows, started_grows}
 use Rattle.laws_links.proofs.ReturnLemmas.{one_inner}
+use Rattle.ist_rule.specs.RuleTerms.{IsSound, now, Looked, Logged, LoggedLoad}
 use Rattle.ist_rule.specs.declared.view.View.{View}
-use Rattle.ist_rule.specs.Rule.{IsSound}
-use Rattle.ist_core.specs.Shown.{IsShown, shown_row}
-use Rattle.ist_core.proofs.OptionLemmas.{same_rebuild}
-use Rattle.ist_core.proofs.SettingLemmas.{set_by}
-use Rattle.ist_rule.specs.Learning.{now, Looked, Logged, LoggedLoad}
-use Rattle.ist_rule.proofs.GoingOnLemmas.{looked_goes_on}
+use Rattle.ist_rule.proofs.EventLemmas.{looked_goes_on}
 use Rattle.ist_rule.proofs.LaterLemmas.{later-goes_on}
 use Rattle.std.proofs.lemmas.Option.{slice_get-get_or}
 use Rattle.ist_dcss.proofs.SlotPlaceLemmas.{has_degree}
 use Rattle.ist_mark.proofs.MarkLemmas.{before_enabled}
-use Rattle.laws_stability.proofs.SlotWordLemmas.{place_of_row}
-use Rattle.laws_coming.specs.Builds.{WasUnset}
+use Rattle.laws_stability.proofs.HoldingLemmas.{place_of_row}
+use Rattle.laws_coming.specs.Builds.{WasUnset, EndsBuild, EndsNone}
 use Rattle.laws_coming.proofs.KnownLemmas.{IsFast, fast_known, in_piece}
 use Rattle.laws_coming.proofs.SeenLemmas.{unset_seen}
 use Rattle.ist_build.specs.Calls.{MayBuild, share_part}
@@ -50,15 +34,16 @@ use Rattle.ist_build.specs.declared.shared.SharedRoot.{SharedRoot}
 use Rattle.ist_build.specs.Putting.{IsRowOfDegree, IsSlotSet, IsShared}
 use Rattle.ist_build.specs.Back.{IsSharedAs}
 use Rattle.ist_build.proofs.BuiltLemmas.{built_grow, loads_built}
-use Rattle.ist_build.proofs.TopLeafLemmas.{degree_small}
+use Rattle.ist_build.proofs.FewLemmas.{degree_small}
+use Rattle.laws_coming.proofs.BeatenLemmas.{others_build}
+use Rattle.ist_build.specs.Laying.{IsReservation, BuiltOn}
 
 -- ---- slots
 
 -- a row keeps its number of slots as pieces grow
 pub degree_on : (t u : Snapshot) → AllGrow t.pieces u.pieces → (node d : ℕ) → IsRowOfDegree t node d
     → IsRowOfDegree u node d
-degree_on t u g node d h =
-    let it = inner_there t.pieces u.pieces g node h.row h.published in
+degree_on t u g node d h = let it = inner_there t.pieces u.pieces g node h.row h.published in
     record { row = it.0; published = it.1; degree_is = it.2.degree ∙ h.degree_is }
 
 -- where a slot lies
@@ -71,19 +56,13 @@ module _ (pairs : List Pair) (words : ℕ) (log : Log) (enabled : EachEnabled (s
   offset = 4 + length h.row.keys + i
 
   at_place : slot_place node d i ≡ node + offset
-  at_place =
-      let it = has_degree pairs words log enabled node h.row h.published in
-      let keys = it.keys in
-      let same = h.degree_is in
-      omega arith
+  at_place = let it = has_degree pairs words log enabled node h.row h.published in
+      let keys = it.keys in let same = h.degree_is in omega arith
 
   -- the row has a slot i
   pub within : i < length h.row.slots
-  within =
-      let it = has_degree pairs words log enabled node h.row h.published in
-      let many = it.slots in
-      let same = h.degree_is in
-      omega arith
+  within = let it = has_degree pairs words log enabled node h.row h.published in
+      let many = it.slots in let same = h.degree_is in omega arith
 
   -- slot i holds the word at i in the row's slots
   pub slot_holds : SlotHolds t node i (get_or h.row.slots i 0)
@@ -91,23 +70,18 @@ module _ (pairs : List Pair) (words : ℕ) (log : Log) (enabled : EachEnabled (s
 
   -- the table shows there what it holds
   pub slot_shown : IsShown t (slot_place node d i) (get_or h.row.slots i 0)
-  slot_shown =
-      subst (λ p. IsShown t p (get_or h.row.slots i 0)) (sym at_place)
+  slot_shown = subst (λ p. IsShown t p (get_or h.row.slots i 0)) (sym at_place)
       (shown_row node (Inner h.row) offset h.published
       (get-words_of_slot h.row i ∙ slice_get-get_or h.row.slots i 0 within))
 
   -- all callers may read the slot's word, after each longer log too
   pub slot_fast : IsFast t (slot_place node d i)
-  slot_fast =
-      let both = length-append h.row.keys h.row.slots in
-      let inside = within in
-      subst (IsFast t) (sym at_place)
-      (in_piece node offset (Inner h.row) h.published (omega arith))
+  slot_fast = let both = length-append h.row.keys h.row.slots in let inside = within in
+      subst (IsFast t) (sym at_place) (in_piece node offset (Inner h.row) h.published (omega arith))
 
   -- the place computed from the degree is the place of the slot
   pub slot_is_place : slot_place node d i ≡ place_of_slot t node i
-  slot_is_place =
-      ap (λ n. slot_place node n i) (sym h.degree_is)
+  slot_is_place = ap (λ n. slot_place node n i) (sym h.degree_is)
       ∙ sym (place_of_row t node i h.row (anchor_free pairs words log enabled) h.published)
 
 -- a load of it gives what it holds
@@ -142,8 +116,7 @@ pub shared_on : (t u : Snapshot) → AllGrow t.pieces u.pieces → (rebuild targ
     → IsShared t rebuild target root k → IsShared u rebuild target root k
 shared_on t u g rebuild target root k h =
     let it = rebuild_there t.pieces u.pieces g rebuild h.row h.published in
-    let set = set_by h.row.root _ h.root_is (λ q. cc) in
-    record {
+    let set = set_by h.row.root _ h.root_is (λ q. cc) in record {
       row = it.0;
       published = it.1;
       target_is = it.2.target ∙ h.target_is;
@@ -161,28 +134,23 @@ shared_slots t s h = subst (IsRowOfDegree t s.root) (sym h.degree_is) h.is.node
 -- each part may be built
 pub shared_share : (t : Snapshot) (s : SharedRoot) (i start len : ℕ) → IsSharedAs t s → i < s.degree
     → start ≡ part_start s.keys i → len ≡ part_len s.keys i → MayBuild t s.target start len
-shared_share t s i start len h less start_is len_is =
-    record {
-      rebuild = s.rebuild;
-      row = h.is.row;
-      published = h.is.published;
-      target_is = h.is.target_is;
-      started = h.is.started;
-      k = s.keys;
-      finished = h.is.finished;
-      share = share_part i h.is.shared (subst (λ n. i < n) h.degree_is less) start_is len_is;
-    }
+shared_share t s i start len h less start_is len_is = record {
+  rebuild = s.rebuild;
+  row = h.is.row;
+  published = h.is.published;
+  target_is = h.is.target_is;
+  started = h.is.started;
+  k = s.keys;
+  finished = h.is.finished;
+  share = share_part i h.is.shared (subst (λ n. i < n) h.degree_is less) start_is len_is;
+}
 
 -- a part has two keys or more
 pub part_two : (k i : ℕ) → share_from ≤ k → 2 ≤ part_len k i
-part_two k i many =
-    let number = share_from_is in
-    let half = degree_small k (omega arith) in
-    let two : 2 ≤ k / degree k = twice_div k (degree k) (least_degree-le k) half in
-    ⊎_elim
+part_two k i many = let number = share_from_is in let half = degree_small k (omega arith) in
+    let two : 2 ≤ k / degree k = twice_div k (degree k) (least_degree-le k) half in ⊎_elim
     (λ long. let is = part_len-long k i long in omega arith)
-    (λ short. let is = part_len-short k i short in omega arith)
-    (cases_lt i (k % degree k))
+    (λ short. let is = part_len-short k i short in omega arith) (cases_lt i (k % degree k))
   where
     twice_div : (n d : ℕ) → 2 ≤ d → 2 * d ≤ n → 2 ≤ n / d
     twice_div n d some le = (le-div_iff_mul-le (omega arith)).1 le
@@ -194,8 +162,7 @@ pub part_put : (v w : View) (number rebuild i word : ℕ) (rows : List Row) (roo
     → (now v).pieces rebuild ≡ Some (Rebuild row) → ref_of row.root ≡ Some (InnerAt root)
     → word ≢ unset_word → Logged v (Place number rebuild i word rows) w → IsSlotSet (now w) root i
 part_put v w number rebuild i word rows root row e root_is set l =
-    let event = Place number rebuild i word rows in
-    let b = state_of v.start v.words l.before in
+    let event = Place number rebuild i word rows in let b = state_of v.start v.words l.before in
     let enabled = before_enabled v event w l in
     let can = (subst (λ (x : View). EachEnabled (start x.start x.words) x.log) l.view
     l.sound.lawful.enabled).1 in
@@ -208,8 +175,7 @@ part_put v w number rebuild i word rows root row e root_is set l =
     let write = place_writes b number rebuild i word rows can
     (sound (start v.start v.words) l.before (sound_start v.start v.words) enabled)
     (anchor_free v.start v.words l.before enabled) in
-    let now_is : now w ≡ after b event = ap (λ x. now x) l.view in
-    record {
+    let now_is : now w ≡ after b event = ap (λ x. now x) l.view in record {
       word = word;
       holds = subst (λ t. SlotHolds t root i word) (sym now_is)
           (subst (λ n. SlotHolds (after b event) n i word) same write.now);
@@ -230,8 +196,7 @@ part_lost v w number place found bases root d i h less at set l =
     (subst (λ p. IsShown b p (get_or on.row.slots i 0)) (sym at)
     (slot_shown v.start v.words l.before enabled root d i on less)) in
     let there = slot_holds v.start v.words l.before enabled root d i on less in
-    let now_is : now w ≡ after b (Lose number bases) = ap (λ x. now x) l.view in
-    record {
+    let now_is : now w ≡ after b (Lose number bases) = ap (λ x. now x) l.view in record {
       word = get_or on.row.slots i 0;
       holds = subst (λ t. SlotHolds t root i (get_or on.row.slots i 0)) (sym now_is)
           (lose_holds b number bases root i (get_or on.row.slots i 0) there);
@@ -242,3 +207,32 @@ part_lost v w number place found bases root d i h less at set l =
         → SlotHolds (after t (Lose caller bs)) node j x
     lose_holds t caller bs node j x (in_anchor a e f) = in_anchor a e f
     lose_holds t caller bs node j x (in_row r e g) = in_row r e g
+
+-- ---- a place that was seen Unset was seen so still when a build has been laid. Serves the calls that
+-- put one in place.
+
+-- a reserving ends no build
+reserving_ends : (caller : ℕ) (event : Event) → IsReservation event → ¬ (EndsBuild caller event)
+reserving_ends caller (Reserve c base size) is = λ e. e
+reserving_ends caller _ is = absurd is
+
+without_reserving : (caller : ℕ) {who : Who} {a b c : Log} → who ≡ Caller caller
+    → EndsNone caller a b → LaterBy who IsReservation b c → EndsNone caller a c
+without_reserving caller mine g no_more = g
+without_reserving caller mine g (one_more event k (inl other)) =
+    one_more event (without_reserving caller mine g k)
+    (others_build caller event (λ e. other (e ∙ sym mine)))
+without_reserving caller mine g (one_more event k (inr is)) =
+    one_more event (without_reserving caller mine g k) (reserving_ends caller event is)
+
+-- so a place that was seen Unset before a build counts as seen Unset after it
+pub unset_built : (v w : View) (caller place : ℕ) → v.who ≡ Caller caller → BuiltOn v w
+    → WasUnset v caller place → WasUnset w caller place
+unset_built v w caller place mine b was = record {
+  prefix = was.prefix;
+  since = without_reserving caller mine was.since b.later;
+  shown = subst (λ p. IsShown (state_of p w.words was.prefix) place unset_word)
+      (sym (ap (λ x. x.start) b.same))
+      (subst (λ n. IsShown (state_of v.start n was.prefix) place unset_word)
+      (sym (ap (λ x. x.words) b.same)) was.shown);
+}

@@ -3,7 +3,7 @@ use Rattle.std.proofs.Common.{◌≡◌, ℕ, zero, suc, ◌+◌, ◌-◌, ◌<�
 use Rattle.std.proofs.lemmas.Bool.{cases_lt}
 use Rattle.std.proofs.lemmas.Bool.Decides.{nat_tests}
 use Rattle.std.proofs.lemmas.List.{drop_all, length-take-le, take_more_set, length-set}
-use Rattle.ist_core.specs.Leaves.{PlacedLeaf}
+use Rattle.ist_core.specs.TreeTerms.{PlacedLeaf}
 use Rattle.ist_build.specs.declared.reading.Cursor.{Cursor}
 use Rattle.ist_build.specs.Reading.{Progress, read_one, read_all, progress_of, HasRead}
 
@@ -45,9 +45,7 @@ full_one room x p full = cases (nat_lt 0 p.skip) (nat_lt (length p.got) room) re
 full_all : (room : ℕ) (xs : List PlacedLeaf) (p : Progress) → room ≤ length p.got
     → (read_all room xs p).got ≡ p.got
 full_all room [] p full = refl
-full_all room (x ∷ xs) p full =
-    let one = full_one room x p full in
-    let many = ap length one in
+full_all room (x ∷ xs) p full = let one = full_one room x p full in let many = ap length one in
     full_all room xs (read_one room x p) (omega arith) ∙ one
 
 take_none : (n : ℕ) (xs : List ℕ) → length xs ≡ 0 → take n xs ≡ []
@@ -76,8 +74,7 @@ read_is room (x ∷ xs) zero got le =
   where
     full : room ≤ length got → (read_all room (x ∷ xs) record { skip = 0; got = got }).got
         ≡ got ++ take (room - length got) (map (λ (y : PlacedLeaf). y.base) (x ∷ xs))
-    full h =
-        full_all room (x ∷ xs) record { skip = 0; got = got } h
+    full h = full_all room (x ∷ xs) record { skip = 0; got = got } h
         ∙ sym (ap (λ n. got ++ take n (map (λ (y : PlacedLeaf). y.base) (x ∷ xs)))
         (let q : room - length got ≡ 0 = omega arith in q) ∙ append-nil got)
 
@@ -85,8 +82,7 @@ read_is room (x ∷ xs) zero got le =
         ≡ g ++ take (room - length g) (map (λ (y : PlacedLeaf). y.base) (drop 0 xs)))
         → length got < room → (read_all room (x ∷ xs) record { skip = 0; got = got }).got
         ≡ got ++ take (room - length got) (map (λ (y : PlacedLeaf). y.base) (x ∷ xs))
-    more again h =
-        let test : nat_lt (length got) room ≡ true = grind (arith, nat_tests) in
+    more again h = let test : nat_lt (length got) room ≡ true = grind (arith, nat_tests) in
         let long = length-append got (x.base ∷ []) in
         ap (λ b. (read_all room xs (if b then record { skip = 0; got = got ++ x.base ∷ [] }
         else record { skip = 0; got = got })).got) test
@@ -107,12 +103,9 @@ read_none old at le = record { size = refl; within = le; got = refl; skip = λ l
 -- two readings, one after another, are one reading
 pub read_more : (old mid new : List ℕ) (from via to : Cursor) (xs ys : List PlacedLeaf)
     → HasRead old from xs mid via → HasRead mid via ys new to → HasRead old from (xs ++ ys) new to
-read_more old mid new from via to xs ys a b =
-    let room = length old in
-    let p = progress_of from old in
-    let q = read_all room xs p in
-    let whole = read_both room xs ys p in
-    ⊎_elim
+read_more old mid new from via to xs ys a b = let room = length old in
+    let p = progress_of from old in let q = read_all room xs p in
+    let whole = read_both room xs ys p in ⊎_elim
     (λ (low : via.count < length mid).
     let same : progress_of via mid ≡ q =
     ap₂ (λ n g. record { skip = n; got = g }) (a.skip low) a.got in
@@ -125,16 +118,12 @@ read_more old mid new from via to xs ys a b =
       skip = λ more. b.skip more ∙ ap (λ x. x.skip) there ∙ ap (λ x. x.skip) (sym whole);
     })
     (λ (full : length mid ≤ via.count).
-    let count = a.within in
-    let size = a.size in
-    let more = b.size in
+    let count = a.within in let size = a.size in let more = b.size in
     let long = length-take-le via.count mid count in
     let all : room ≤ length q.got = let e = ap length a.got in omega arith in
     let stays : take to.count new ≡ take via.count mid =
     b.got ∙ full_all (length mid) ys (progress_of via mid) (omega arith) in
-    let top = length-take-le to.count new b.within in
-    let same = ap length stays in
-    record {
+    let top = length-take-le to.count new b.within in let same = ap length stays in record {
       size = b.size ∙ a.size;
       within = b.within;
       got = stays ∙ a.got ∙ sym (full_all room ys q all) ∙ ap (λ x. x.got) (sym whole);
@@ -147,8 +136,7 @@ pub read_left_out : (old : List ℕ) (from to : Cursor) (leaves : List PlacedLea
     → from.count ≤ length old → length leaves ≤ from.skip → to.count ≡ from.count
     → to.skip ≡ from.skip - length leaves → HasRead old from leaves old to
 read_left_out old from to leaves le out count skip =
-    let is = read_skipped (length old) leaves from.skip (take from.count old) out in
-    record {
+    let is = read_skipped (length old) leaves from.skip (take from.count old) out in record {
       size = refl;
       within = subst (λ n. n ≤ length old) (sym count) le;
       got = ap (λ n. take n old) count ∙ sym (ap (λ p. p.got) is);
@@ -158,14 +146,10 @@ read_left_out old from to leaves le out count skip =
 -- no room is left
 pub read_full : (old new : List ℕ) (from to : Cursor) (xs ys : List PlacedLeaf)
     → HasRead old from xs new to → to.count ≡ length new → HasRead old from (xs ++ ys) new to
-read_full old new from to xs ys h full =
-    let room = length old in
-    let p = progress_of from old in
-    let q = read_all room xs p in
-    let size = h.size in
+read_full old new from to xs ys h full = let room = length old in let p = progress_of from old in
+    let q = read_all room xs p in let size = h.size in
     let long = length-take-le to.count new h.within in
-    let all : room ≤ length q.got = let e = ap length h.got in omega arith in
-    record {
+    let all : room ≤ length q.got = let e = ap length h.got in omega arith in record {
       size = h.size;
       within = h.within;
       got = h.got ∙ sym (full_all room ys q all) ∙ ap (λ x. x.got) (sym (read_both room xs ys p));
@@ -183,8 +167,7 @@ one_left_out old from to leaf le some count skip =
 pub one_taken : (old : List ℕ) (from : Cursor) (to : Cursor) (leaf : PlacedLeaf)
     → from.count < length old → from.skip ≤ 0 → to.count ≡ from.count + 1 → to.skip ≡ 0
     → HasRead old from (leaf ∷ []) (slice_set old from.count leaf.base) to
-one_taken old from to leaf low none count skip =
-    let room = length old in
+one_taken old from to leaf low none count skip = let room = length old in
     let first : nat_lt 0 from.skip ≡ false = grind (arith, nat_tests) in
     let long = length-take-le from.count old (omega arith) in
     let second : nat_lt (length (take from.count old)) room ≡ true =
@@ -197,8 +180,7 @@ one_taken old from to leaf low none count skip =
     else progress_of from old)) first
     ∙ ap (λ b. if b then record { skip = 0; got = take from.count old ++ leaf.base ∷ [] }
     else progress_of from old) second in
-    let size = length-set old from.count leaf.base in
-    record {
+    let size = length-set old from.count leaf.base in record {
       size = size;
       within = omega arith;
       got = ap (λ n. take n (slice_set old from.count leaf.base)) count

@@ -2,28 +2,22 @@
 use Rattle.std.proofs.Common.{◌≡◌, ℕ, zero, suc, ◌+◌, ◌<◌, ◌≤◌, List, [], ◌∷◌, ◌++◌, length, drop, slice_get, get_or, Option, Some, None, refl, sym, ap, ◌∙◌, subst, append-nil, append_assoc, arith}
 use Rattle.std.proofs.lemmas.Option.{slice_get-get_or}
 use Rattle.std.proofs.lemmas.List.{length-drop, drop_more, drop_all}
-use Rattle.ist_core.specs.Leaves.{PlacedLeaf, HasLeaves, SlotsHaveLeaves, none_here, leaf_here, row_here, no_slot, one_slot}
-use Rattle.ist_core.specs.Pieces.{Piece, Pieces, Inner, Leaf, Rebuild}
-use Rattle.ist_core.specs.Rebuilding.{IsFinishedWith}
-use Rattle.ist_core.specs.References.{Ref, Empty, LeafAt, InnerAt, RebuildAt, ref_of}
-use Rattle.ist_core.specs.Slots.{SlotHolds, in_row, logical, past_rebuild, rebuild_reads}
-use Rattle.ist_core.proofs.FrozenLemmas.{frozen_reads}
-use Rattle.ist_core.proofs.GrowingLemmas.{inner_there, rebuild_there, leaf_there}
-use Rattle.ist_core.proofs.KeepingLemmas.{finished_leaves_stay}
-use Rattle.ist_core.proofs.LeafLemmas.{reached, slots_reached}
-use Rattle.ist_core.proofs.OptionLemmas.{same_inner}
+use Rattle.ist_core.specs.TreeTerms.{PlacedLeaf, HasLeaves, SlotsHaveLeaves, none_here, leaf_here, row_here, no_slot, one_slot, IsFinishedWith}
+use Rattle.ist_core.specs.WordTerms.{Piece, Pieces, Inner, Leaf, Rebuild, Ref, Empty, LeafAt, InnerAt, RebuildAt, ref_of, SlotHolds, in_row, logical, past_rebuild, rebuild_reads}
+use Rattle.ist_core.proofs.AllLogLemmas.{frozen_reads, inner_there, rebuild_there, leaf_there, finished_leaves_stay}
+use Rattle.ist_core.proofs.AllPlaceLemmas.{reached, slots_reached}
+use Rattle.ist_core.proofs.AllWordLemmas.{same_inner}
 use Rattle.laws_links.specs.Linking.{IsFinished}
 use Rattle.laws_links.proofs.FinishedLemmas.{finished_slot}
 use Rattle.laws_links.proofs.NumberLemmas.{number_is}
+use Rattle.ist_rule.specs.RuleTerms.{IsSound, now, GoesOnTo}
 use Rattle.ist_rule.specs.declared.view.View.{View}
-use Rattle.ist_rule.specs.Rule.{IsSound}
-use Rattle.ist_rule.specs.Learning.{now, GoesOnTo}
 use Rattle.ist_dcss.proofs.SlotPlaceLemmas.{has_degree}
 use Rattle.ist_rule.proofs.WentOnLemmas.{goes_on_went, went_now, went_lawful, later_by-goes_on, goes_on_grow}
 use Rattle.ist_build.specs.declared.reading.Cursor.{Cursor}
 use Rattle.ist_build.specs.Laying.{IsReservation}
 use Rattle.ist_build.specs.Reading.{HasSlots, SlotReads, HasRead, SlotsFrom, IsReading}
-use Rattle.ist_build.proofs.SlotLemmas.{slots_on, slots_finished, slot_some, frozen_on, child_finished}
+use Rattle.ist_build.proofs.PlaceLemmas.{slots_on, slots_finished, slot_some, frozen_on, child_finished}
 use Rattle.ist_build.proofs.ReadLemmas.{read_full, read_more, read_none}
 
 -- ---- leaves stay
@@ -37,8 +31,7 @@ ref_leaves_on v w s g _ _ done (leaf_here {base = base} r e) =
     leaf_here r (leaf_there (now v).pieces (now w).pieces
     (goes_on_grow v w g) base r e)
 ref_leaves_on v w s g _ leaves done (row_here {base = base} r e slots) =
-    let b = goes_on_went IsReservation v w g in
-    let f = done base refl in
+    let b = goes_on_went IsReservation v w g in let f = done base refl in
     subst (λ t. HasLeaves t.pieces (Some (InnerAt base)) leaves) (sym (went_now IsReservation v w b))
     (finished_leaves_stay v.start v.words s.lawful.opens v.log w.log (later_by-goes_on b.later)
     (went_lawful IsReservation v w b).enabled base leaves f (row_here r e slots))
@@ -46,14 +39,12 @@ ref_leaves_on v w s g _ leaves done (row_here {base = base} r e slots) =
 -- what was passed reads as the same later
 past_later : (v w : View) → GoesOnTo v w → (o : Option Ref) (ref : Ref)
     → past_rebuild (now v).pieces o ≡ Some ref → past_rebuild (now w).pieces o ≡ Some ref
-past_later v w g (Some (RebuildAt base)) ref e =
-    at ((now v).pieces base) refl e
+past_later v w g (Some (RebuildAt base)) ref e = at ((now v).pieces base) refl e
   where
     at : (o : Option Piece) → (now v).pieces base ≡ o → rebuild_reads o ≡ Some ref
         → rebuild_reads ((now w).pieces base) ≡ Some ref
     at (Some (Rebuild r)) there is =
-        let it = rebuild_there (now v).pieces (now w).pieces
-        (goes_on_grow v w g) base r there in
+        let it = rebuild_there (now v).pieces (now w).pieces (goes_on_grow v w g) base r there in
         ap rebuild_reads it.1 ∙ ap (λ n. Some (InnerAt n)) it.2.target ∙ is
     at (Some (Inner r)) there is = cc
     at (Some (Leaf r)) there is = cc
@@ -113,8 +104,7 @@ module _ (v w : View) (s : IsSound v) (g : GoesOnTo v w) (node degree : ℕ)
   slots_leaves_on i _ [] _ same within a b (one_slot has more) = absurd (omega arith)
   slots_leaves_on i _ (other ∷ others) _ same within a b
       (one_slot {word = word} {words = words} {here = here} {rest = rest} has more) =
-      let first : i + 0 ≡ i = omega arith in
-      one_slot
+      let first : i + 0 ≡ i = omega arith in one_slot
       (slot_leaves_on v w s g node degree i h (omega arith) word here
       (subst (λ k. SlotHolds (now v) node k word) first (a 0 word refl)) has other
       (subst (λ k. SlotHolds (now w) node k other) first (b 0 other refl)))
@@ -131,17 +121,13 @@ module _ (v w : View) (s : IsSound v) (g : GoesOnTo v w) (node degree : ℕ)
       (goes_on_grow v w g) node f.row f.published in
       let d = has_degree v.start v.words v.log s.lawful.enabled node f.row f.published in
       let same_row = same_inner ((now v).pieces node) f.row h.row f.published h.published in
-      let deg = ap (λ r. r.degree) same_row ∙ h.degree_is in
-      let many = d.slots in
-      let one = length-drop i f.row.slots in
-      let two = length-drop i it.0.slots in
-      let same = it.2.slots in
-      record {
+      let deg = ap (λ r. r.degree) same_row ∙ h.degree_is in let many = d.slots in
+      let one = length-drop i f.row.slots in let two = length-drop i it.0.slots in
+      let same = it.2.slots in record {
         row = it.0;
         published = it.1;
         slots = slots_leaves_on i (drop i f.row.slots) (drop i it.0.slots) leaves (omega arith)
-            (omega arith)
-            (λ k x e. in_row f.row f.published (sym (get_drop i f.row.slots k) ∙ e))
+            (omega arith) (λ k x e. in_row f.row f.published (sym (get_drop i f.row.slots k) ∙ e))
             (λ k x e. in_row it.0 it.1 (sym (get_drop i it.0.slots k) ∙ e)) f.slots;
       }
 
@@ -152,8 +138,7 @@ pub reading_first : (leaves : List PlacedLeaf) (into : List ℕ) (at : Cursor) (
     → at.count ≤ length into → HasLeaves (now v).pieces (Some (InnerAt node)) leaves
     → IsReading leaves into at v node 0 into at
 reading_first leaves into at v node le has =
-    let it = reached (now v).pieces (Some (InnerAt node)) leaves has in
-    record {
+    let it = reached (now v).pieces (Some (InnerAt node)) leaves has in record {
       seen = [];
       rest = leaves;
       both = refl;
@@ -166,14 +151,13 @@ pub reading_on : (leaves : List PlacedLeaf) (old : List ℕ) (from : Cursor) (v 
     (node degree i : ℕ) (new : List ℕ) (to : Cursor) → IsSound v → GoesOnTo v w
     → HasSlots v node degree → i ≤ degree → IsReading leaves old from v node i new to
     → IsReading leaves old from w node i new to
-reading_on leaves old from v w node degree i new to s g h le r =
-    record {
-      seen = r.seen;
-      rest = r.rest;
-      both = r.both;
-      following = from_on v w s g node degree h i r.rest le r.following;
-      read = r.read;
-    }
+reading_on leaves old from v w node degree i new to s g h le r = record {
+  seen = r.seen;
+  rest = r.rest;
+  both = r.both;
+  following = from_on v w s g node degree h i r.rest le r.following;
+  read = r.read;
+}
 
 -- the reading after one more slot
 pub reading_more : (leaves : List PlacedLeaf) (old : List ℕ) (from : Cursor) (v w : View)
@@ -187,10 +171,8 @@ reading_more leaves old from v w node degree i mid via new to s g h less r one =
     let f = r.following in
     let d = has_degree v.start v.words v.log s.lawful.enabled node f.row f.published in
     let same_row = same_inner ((now v).pieces node) f.row h.row f.published h.published in
-    let deg = ap (λ x. x.degree) same_row ∙ h.degree_is in
-    let many = d.slots in
-    let within : i < length f.row.slots = omega arith in
-    let word = get_or f.row.slots i 0 in
+    let deg = ap (λ x. x.degree) same_row ∙ h.degree_is in let many = d.slots in
+    let within : i < length f.row.slots = omega arith in let word = get_or f.row.slots i 0 in
     let parts = slots_reached (now v).pieces (word ∷ drop (i + 1) f.row.slots) r.rest
     (subst (λ ws. SlotsHaveLeaves (now v).pieces ws r.rest) (drop_more f.row.slots i 0 within) f.slots) in
     let slot : SlotHolds (now v) node i word =
@@ -216,12 +198,10 @@ reading_full leaves old from v node i new to r full =
 pub reading_last : (leaves : List PlacedLeaf) (old : List ℕ) (from : Cursor) (v : View)
     (node degree i : ℕ) (new : List ℕ) (to : Cursor) → IsSound v → HasSlots v node degree
     → degree ≤ i → IsReading leaves old from v node i new to → HasRead old from leaves new to
-reading_last leaves old from v node degree i new to s h all r =
-    let f = r.following in
+reading_last leaves old from v node degree i new to s h all r = let f = r.following in
     let d = has_degree v.start v.words v.log s.lawful.enabled node f.row f.published in
     let same_row = same_inner ((now v).pieces node) f.row h.row f.published h.published in
-    let deg = ap (λ x. x.degree) same_row ∙ h.degree_is in
-    let many = d.slots in
+    let deg = ap (λ x. x.degree) same_row ∙ h.degree_is in let many = d.slots in
     let none : drop i f.row.slots ≡ [] = drop_all i f.row.slots (omega arith) in
     let rest : r.rest ≡ [] =
     slots_reached (now v).pieces [] r.rest

@@ -3,31 +3,19 @@ use Rattle.std.proofs.Common.{◌≡◌, ◌≢◌, ℕ, ◌+◌, ◌-◌, ◌<�
 use Rattle.std.proofs.lemmas.Bool.Decides.{eqb_tells}
 use Rattle.ist_core.specs.declared.events.Event.{Event}
 use Rattle.ist_core.specs.declared.events.Event.TheVariants.{Root}
-use Rattle.ist_core.specs.Building.{IsRoot, root_whole, root_top}
-use Rattle.ist_core.specs.Elements.{Each}
-use Rattle.ist_core.specs.Ideals.{IsIdeal, of_none, of_one}
-use Rattle.ist_core.specs.Leaves.{PlacedLeaf, HasLeaves}
-use Rattle.ist_core.specs.Marking.{HasTarget}
-use Rattle.ist_core.specs.Pieces.{Pieces, Rebuild, Leaf}
-use Rattle.ist_core.specs.Rebuilding.{IsFinishedWith}
-use Rattle.ist_core.specs.References.{Ref, Empty, LeafAt, InnerAt, Unset, IsGoodBase, ref_of, word_of, unset_word}
-use Rattle.ist_core.specs.RowLayout.{rebuild_root_offset}
-use Rattle.ist_core.specs.Shapes.{share_from, share_from_fits}
-use Rattle.ist_core.proofs.ReferenceLemmas.{ref_of-unset, ref_of-word_of}
-use Rattle.laws_links.proofs.FinishedLemmas.{target_grows}
-use Rattle.ist_rule.specs.declared.view.View.{View}
 use Rattle.ist_core.specs.declared.events.Who.TheVariants.{Caller as CallerOf}
-use Rattle.ist_core.proofs.DrawLemmas.{finished_once}
-use Rattle.ist_rule.specs.Conditions.{CanExchange}
-use Rattle.ist_rule.specs.Faces.{TokenFace}
-use Rattle.ist_rule.specs.Rule.{IsSound}
-use Rattle.ist_rule.specs.Learning.{now, Looked, Logged, Exchanged, GoesOnTo}
-use Rattle.ist_rule.specs.Watching.{number_of}
-use Rattle.ist_rule.proofs.GoingOnLemmas.{looked_goes_on, goes_on_same, goes_on_more, goes_on_who}
+use Rattle.ist_core.specs.TreeTerms.{IsRoot, root_whole, root_top, PlacedLeaf, HasLeaves, HasTarget, IsFinishedWith}
+use Rattle.ist_core.specs.LogTerms.{Each}
+use Rattle.ist_core.specs.WordTerms.{IsIdeal, of_none, of_one, Pieces, Rebuild, Leaf, Ref, Empty, LeafAt, InnerAt, Unset, IsGoodBase, ref_of, word_of, unset_word, rebuild_root_offset, share_from, share_from_fits}
+use Rattle.ist_core.proofs.AllWordLemmas.{ref_of-unset, ref_of-word_of}
+use Rattle.laws_links.proofs.FinishedLemmas.{target_grows, leaves_stand}
+use Rattle.ist_rule.specs.RuleTerms.{CanExchange, TokenFace, IsSound, now, Looked, Logged, Exchanged, GoesOnTo, number_of}
+use Rattle.ist_rule.specs.declared.view.View.{View}
+use Rattle.ist_core.proofs.AllLogLemmas.{finished_once}
+use Rattle.ist_rule.proofs.EventLemmas.{looked_goes_on, goes_on_same, goes_on_more, goes_on_who}
 use Rattle.ist_dcss.proofs.FieldLemmas.{row_low, good_base}
+use Rattle.ist_rows.specs.RowTerms.{sizes_built, TakesNoWords}
 use Rattle.ist_rows.specs.declared.callers.Caller.{Caller}
-use Rattle.ist_rows.specs.Building.{sizes_built}
-use Rattle.ist_rows.specs.Taken.{TakesNoWords}
 use Rattle.ist_rows.proofs.FewStepLemmas.{none_loads}
 use Rattle.laws_coming.specs.Builds.{IsRootBuilt, WasUnset}
 use Rattle.laws_coming.proofs.RootLemmas.{root_comes}
@@ -35,14 +23,12 @@ use Rattle.ist_build.specs.Laying.{BuiltOn, IsRootLaid, IsTarget, IsLeaf}
 use Rattle.ist_build.specs.BuildEvents.{rooting_few}
 use Rattle.ist_build.specs.Calls.{IsTold}
 use Rattle.ist_build.proofs.BuiltLemmas.{built_grow, loads_built, leaf_goes_on}
-use Rattle.ist_build.proofs.FewLemmas.{none_then}
+use Rattle.ist_build.proofs.FewLemmas.{none_then, leaf_there}
 use Rattle.ist_build.proofs.ReadingLemmas.{leaves_number}
-use Rattle.laws_links.proofs.FinishedLeafLemmas.{finished_leaves}
-use Rattle.laws_links.proofs.FewLeafLemmas.{leaves_stand}
+use Rattle.laws_links.proofs.ContentLemmas.{finished_leaves}
 use Rattle.laws_links.specs.Linking.{IsFinished}
 use Rattle.ist_build.proofs.TopBegunLemmas.{sizes_on}
-use Rattle.ist_build.proofs.TopLeafLemmas.{leaf_there}
-use Rattle.ist_build.proofs.UnsetLemmas.{unset_built}
+use Rattle.ist_build.proofs.PartSlotLemmas.{unset_built}
 use Rattle.ist_build.specs.Back.{IsFreeToBuild, IsBack, HasPutRoot}
 use Rattle.ist_build.proofs.BackLemmas.{back_logged, back_loads}
 use Rattle.ist_build.proofs.RootReadyLemmas.{told_on, told_target, root_looked, root_put, root_ready}
@@ -51,8 +37,7 @@ use Rattle.ist_build.proofs.RootReadyLemmas.{told_on, told_target, root_looked, 
 
 -- over no key, the Empty word is a root
 pub none_root : (v : View) → IsSound v → (target k word : ℕ) → IsFinishedWith (now v) target k → k ≡
-    0
-    → word ≡ word_of Empty → (ps : Pieces) (leaves : List PlacedLeaf)
+    0 → word ≡ word_of Empty → (ps : Pieces) (leaves : List PlacedLeaf)
     → HasLeaves (now v).pieces (Some (InnerAt target)) leaves → IsRoot ps word k leaves target []
 none_root v s target k word f none is ps leaves has =
     at leaves (leaves_number v s target k f leaves has)
@@ -74,8 +59,7 @@ pub one_key_good : (v : View) → IsSound v → (target k base : ℕ) → IsFini
     → ((leaves : List PlacedLeaf) → HasLeaves (now v).pieces (Some (InnerAt target)) leaves
     → map (λ l. l.base) (take 1 (drop 0 leaves)) ≡ base ∷ [])
     → IsGoodBase base
-one_key_good v s target k base f some told =
-    leaf_good v s base
+one_key_good v s target k base f some told = leaf_good v s base
     (leaf_there v v s (goes_on_same v s) target 0 base
     record { k = k; finished = f; enough = omega arith } told)
 
@@ -99,15 +83,13 @@ one_root v w s g target k base word f small some told good is leaves has =
         → IsRoot (now w).pieces word k ls target []
     at [] e first all = absurd (omega arith)
     at (x ∷ y ∷ ls) e first all = absurd (omega arith)
-    at (x ∷ []) e first all =
-        let same : x.base ≡ base = cc in
+    at (x ∷ []) e first all = let same : x.base ≡ base = cc in
         root_whole (LeafAt base) few (ap ref_of is ∙ ref_of-word_of (LeafAt base) good)
         (of_one same (ap (now w).pieces (sym same) ∙ leaf_goes_on v w g x.base x.row all.0))
 
 -- the event that an exchange for such a word names
 pub rooting_few_is : (v : View) (number rebuild place word : ℕ) → v.who ≡ CallerOf number
-    → place ≡ rebuild + rebuild_root_offset
-    → rooting_few v place word ≡ Root number rebuild word []
+    → place ≡ rebuild + rebuild_root_offset → rooting_few v place word ≡ Root number rebuild word []
 rooting_few_is v number rebuild place word mine at =
     ap₂ (λ n o. Root n o word []) (ap number_of mine)
     (let q : place - rebuild_root_offset ≡ rebuild = omega arith in q)
@@ -144,20 +126,17 @@ module _ (old : Caller) (token : TokenFace) (r : IsFreeToBuild old)
   t = told_target (now old.token.view) rebuild target k told g
 
   some : (leaves : List PlacedLeaf) × HasLeaves (now old.token.view).pieces (Some (InnerAt target))
-      leaves
-      × (length leaves ≡ k)
-  some =
-      finished_leaves old.token.view.start old.token.view.words s.lawful.opens old.token.view.log
+      leaves × (length leaves ≡ k)
+  some = finished_leaves old.token.view.start old.token.view.words s.lawful.opens old.token.view.log
       s.lawful.enabled target k t.finished
 
   few_laid : IsRootLaid old mid target k word some.0
-  few_laid =
-      record {
-        rows = [];
-        owns = record { stored = tt; held = tt; once = tt; rising = tt; high = tt };
-        root = root some.0 some.1;
-        sizes = sizes_on old token r.caller gone ∙ sym (append-nil (sizes_built old));
-      }
+  few_laid = record {
+    rows = [];
+    owns = record { stored = tt; held = tt; once = tt; rising = tt; high = tt };
+    root = root some.0 some.1;
+    sizes = sizes_on old token r.caller gone ∙ sym (append-nil (sizes_built old));
+  }
 
   ready : IsRootBuilt (now token.view) old.number rebuild word []
   unfolding few_laid
@@ -169,8 +148,7 @@ module _ (old : Caller) (token : TokenFace) (r : IsFreeToBuild old)
   -- an exchange of the Unset root for this word may be made, and is a Root without rows
   few_allowed : (unset : ℕ) → unset ≡ unset_word
       → CanExchange token.view place unset word (rooting_few token.view place word)
-  few_allowed unset is =
-      subst (λ (e : Event). CanExchange token.view place unset word e)
+  few_allowed unset is = subst (λ (e : Event). CanExchange token.view place unset word e)
       (sym (rooting_few_is token.view old.number rebuild place word mine at))
       (subst (λ q. CanExchange token.view q unset word (Root old.number rebuild word [])) (sym at)
       (subst (λ q. CanExchange token.view (rebuild + rebuild_root_offset) q word
@@ -194,8 +172,7 @@ module _ (old : Caller) (token : TokenFace) (r : IsFreeToBuild old)
   -- if it was made, the rebuild has this word as its root
   few_hit : (last : TokenFace) → Logged token.view (rooting_few token.view place word) last.view
       → HasPutRoot old (record old { token = last }) rebuild word
-  few_hit last l =
-      let event = Root old.number rebuild word [] in
+  few_hit last l = let event = Root old.number rebuild word [] in
       let logged = subst (λ (e : Event). Logged token.view e last.view)
       (rooting_few_is token.view old.number rebuild place word mine at) l in
       record {
@@ -211,14 +188,12 @@ module _ (old : Caller) (token : TokenFace) (r : IsFreeToBuild old)
   few_missed : (last : TokenFace) (found : ℕ) → found ≢ unset_word
       → Looked token.view place found last.view
       → HasPutRoot old (record old { token = last }) rebuild found
-  few_missed last found set l =
-      record {
-        back = back_loads old last r
-            (goes_on_more old.token.view token.view last.view gone
-            (looked_goes_on token.view place found last.view l));
-        root = root_looked token.view last.view rebuild place found ready.row ready.published at l
-            set;
-      }
+  few_missed last found set l = record {
+    back = back_loads old last r
+        (goes_on_more old.token.view token.view last.view gone
+        (looked_goes_on token.view place found last.view l));
+    root = root_looked token.view last.view rebuild place found ready.row ready.published at l set;
+  }
 
   -- the place of the root word lies in the table
   few_low : place < token.view.words
@@ -231,8 +206,7 @@ module _ (old : Caller) (token : TokenFace) (r : IsFreeToBuild old)
   few_none : (last : TokenFace) (unset found : ℕ)
       → Exchanged token.view (rooting_few token.view place word) place unset found last.view
       → TakesNoWords old (record old { token = last })
-  few_none last unset found x =
-      ⊎_elim
+  few_none last unset found x = ⊎_elim
       (λ same. none_then old token last r.caller.mine gone (rooting_few token.view place word)
       (x.0 same.1) refl)
       (λ other. none_loads old last r.caller.mine (goes_on_more old.token.view token.view last.view gone
@@ -266,16 +240,14 @@ pub found_so : (old : Caller) (token last : TokenFace) → IsFreeToBuild old
     → (rebuild target k n : ℕ) → IsTold (now old.token.view) rebuild k
     → HasTarget (now token.view) rebuild target → IsFinishedWith (now last.view) target n
     → IsFound old (record old { token = last }) rebuild target n
-found_so old token last r first second rebuild target k n told h f =
-    let v = old.token.view in
+found_so old token last r first second rebuild target k n told h f = let v = old.token.view in
     let goes = goes_on_more v token.view last.view first second in
     let on = told_on (now v) (now last.view) (built_grow v last.view (loads_built v last.view goes))
     rebuild k told in
     let there = target_grows (now token.view) (now last.view)
     (built_grow token.view last.view (loads_built token.view last.view second)) rebuild target h in
     let t = told_target (now last.view) rebuild target k on there in
-    let same : k ≡ n = finished_once (now last.view) target k n t.finished f in
-    record {
+    let same : k ≡ n = finished_once (now last.view) target k n t.finished f in record {
       back = back_loads old last r goes;
       seen = goes;
       told = subst (IsTold (now last.view) rebuild) same on;
@@ -286,8 +258,7 @@ found_so old token last r first second rebuild target k n told h f =
 pub found_unset : (old new : Caller) (place : ℕ) → IsBack old new
     → GoesOnTo old.token.view new.token.view → WasUnset old.token.view old.number place
     → WasUnset new.token.view new.number place
-found_unset old new place b g was =
-    subst (λ n. WasUnset new.token.view n place) (sym b.number)
+found_unset old new place b g was = subst (λ n. WasUnset new.token.view n place) (sym b.number)
     (unset_built old.token.view new.token.view old.number place
     (sym (goes_on_who g) ∙ b.ready.caller.mine ∙ ap CallerOf b.number)
     (loads_built old.token.view new.token.view g) was)

@@ -3,30 +3,22 @@ use Rattle.std.proofs.Common.{◌≡◌, ◌≢◌, ℕ, ◌+◌, ◌-◌, ◌/�
 use Rattle.ist_core.specs.declared.events.Event.{Event}
 use Rattle.ist_core.specs.declared.events.Event.TheVariants.{Root, Lose}
 use Rattle.ist_core.specs.declared.lists.Row.{Row}
-use Rattle.ist_core.specs.Elements.{Each}
-use Rattle.ist_core.specs.Leaves.{PlacedLeaf, HasLeaves}
-use Rattle.ist_core.specs.Pieces.{Rebuild}
-use Rattle.ist_core.specs.References.{InnerAt, unset_word, tag_count}
-use Rattle.ist_core.specs.RowLayout.{rebuild_root_offset}
-use Rattle.ist_core.specs.Snapshots.{bases_of, sizes_of}
 use Rattle.ist_core.specs.declared.events.Who.TheVariants.{Caller as CallerOf}
-use Rattle.ist_rule.specs.Conditions.{CanExchangeOrLose}
-use Rattle.ist_rule.specs.Faces.{TokenFace}
-use Rattle.ist_rule.specs.Rule.{IsSound}
-use Rattle.ist_rule.specs.Learning.{now, Logged, LoggedLoad}
-use Rattle.ist_rule.specs.Watching.{number_of}
+use Rattle.ist_core.specs.LogTerms.{Each, bases_of, sizes_of}
+use Rattle.ist_core.specs.TreeTerms.{PlacedLeaf, HasLeaves}
+use Rattle.ist_core.specs.WordTerms.{Rebuild, InnerAt, unset_word, tag_count, rebuild_root_offset}
+use Rattle.ist_rule.specs.RuleTerms.{CanExchangeOrLose, TokenFace, IsSound, now, Logged, LoggedLoad, number_of}
 use Rattle.ist_dcss.proofs.FieldLemmas.{row_low}
+use Rattle.ist_rows.specs.RowTerms.{IsCaller, spares_of, build_sizes, sizes_built}
 use Rattle.ist_rows.specs.declared.callers.Caller.{Caller}
-use Rattle.ist_rows.specs.Rows.{IsCaller, spares_of, build_sizes}
-use Rattle.ist_rows.specs.Building.{sizes_built}
 use Rattle.laws_coming.specs.Builds.{IsRootBuilt, WasUnset}
 use Rattle.laws_coming.proofs.RootLemmas.{root_comes_or_loses}
 use Rattle.ist_build.specs.Laying.{BuiltOn, OwnsRows, IsRootLaid, IsTarget}
 use Rattle.ist_build.specs.BuildEvents.{rooting, losing, held_rows_from}
 use Rattle.ist_build.specs.Back.{HasBuilt, IsRootMade, HasPutRoot}
 use Rattle.ist_build.proofs.HeldBeforeLemmas.{rows_named}
-use Rattle.laws_links.proofs.FinishedLeafLemmas.{finished_leaves}
-use Rattle.ist_build.proofs.UnsetLemmas.{unset_built}
+use Rattle.laws_links.proofs.ContentLemmas.{finished_leaves}
+use Rattle.ist_build.proofs.PartSlotLemmas.{unset_built}
 use Rattle.ist_build.proofs.BackLemmas.{back_logged, back_lost}
 use Rattle.ist_build.proofs.RootReadyLemmas.{IsTopped, first_least, root_lost, root_put, root_ready, root_topped, told_target, topped_base, topped_set}
 
@@ -72,8 +64,7 @@ module _ (old new : Caller) (c : IsCaller old) (s : IsSound old.token.view)
 
   -- the rows that the exchange names are those that were built
   pub root_named : held_rows_from new.token.view (word / tag_count) ≡ h.rows
-  root_named =
-      let base_is = topped_base word (bases_of h.rows) topped in
+  root_named = let base_is = topped_base word (bases_of h.rows) topped in
       rows_named old c s new.token.view b (sizes_of h.rows) sizes_old h.rows owns_old refl
       (word / tag_count)
       (subst (λ x. (now old.token.view).next ≤ x) (sym base_is)
@@ -105,10 +96,8 @@ module _ (old new : Caller) (c : IsCaller old) (s : IsSound old.token.view)
 
   -- at least one row was built
   root_some : h.rows ≢ []
-  root_some e =
-      let none : bases_of h.rows ≡ [] = ap bases_of e in
-      let long = ap length (sym topped.bases_are ∙ none) in
-      absurd (omega arith)
+  root_some e = let none : bases_of h.rows ≡ [] = ap bases_of e in
+      let long = ap length (sym topped.bases_are ∙ none) in absurd (omega arith)
 
   -- the word of the root isn't Unset
   root_set : word ≢ unset_word
@@ -169,8 +158,7 @@ module _ (old mid : Caller) (rebuild word : ℕ) (m : IsRootMade old mid rebuild
   root_allowed : (unset : ℕ) → unset ≡ unset_word
       → CanExchangeOrLose mid.token.view place unset word (rooting mid.token.view place word)
       (losing mid.token.view word)
-  root_allowed unset is =
-      let w = mid.token.view in
+  root_allowed unset is = let w = mid.token.view in
       let there : WasUnset w mid.number (rebuild + rebuild_root_offset) =
       subst (λ n. WasUnset w n (rebuild + rebuild_root_offset)) (sym a.number)
       (unset_built old.token.view w old.number (rebuild + rebuild_root_offset) a.ready.caller.mine
@@ -191,11 +179,8 @@ module _ (old mid : Caller) (rebuild word : ℕ) (m : IsRootMade old mid rebuild
   -- it was the Root
   root_hit : (token : TokenFace) → Logged mid.token.view (rooting mid.token.view place word) token.view
       → HasPutRoot old (record mid { token = token }) rebuild word
-  root_hit token l =
-      let w = mid.token.view in
-      let event = Root mid.number rebuild word h.rows in
-      let logged = subst (λ (e : Event). Logged w e token.view) root_is l in
-      record {
+  root_hit token l = let w = mid.token.view in let event = Root mid.number rebuild word h.rows in
+      let logged = subst (λ (e : Event). Logged w e token.view) root_is l in record {
         back = back_logged old mid a h.rows h.owns h.sizes event tt (λ n. refl) (λ x. refl) token logged;
         root = root_put w token.view mid.number rebuild word h.rows
             (root_set old mid a.ready.caller a.sound a.number a.rows a.built m.target m.keys word
@@ -207,11 +192,9 @@ module _ (old mid : Caller) (rebuild word : ℕ) (m : IsRootMade old mid rebuild
   root_missed : (token : TokenFace) (found : ℕ) → found ≢ unset_word
       → LoggedLoad mid.token.view (losing mid.token.view word) place found token.view
       → HasPutRoot old (record mid { token = token }) rebuild found
-  root_missed token found set l =
-      let w = mid.token.view in
+  root_missed token found set l = let w = mid.token.view in
       let event = Lose mid.number (bases_of h.rows) in
-      let lost = subst (λ (e : Event). LoggedLoad w e place found token.view) lose_is l in
-      record {
+      let lost = subst (λ (e : Event). LoggedLoad w e place found token.view) lose_is l in record {
         back = back_lost old mid a h.rows h.owns h.sizes event tt (λ n. refl) (λ x. refl) token place
             found lost;
         root = root_lost w token.view mid.number rebuild place found (bases_of h.rows) ready.row
@@ -227,5 +210,4 @@ module _ (old mid : Caller) (rebuild word : ℕ) (m : IsRootMade old mid rebuild
 
   -- a root that was made may be put in place
   pub may_root : MayRoot old mid rebuild word place
-  may_root =
-      record { low = root_low; allowed = root_allowed; hit = root_hit; missed = root_missed }
+  may_root = record { low = root_low; allowed = root_allowed; hit = root_hit; missed = root_missed }

@@ -4,42 +4,22 @@ use Rattle.std.proofs.lemmas.List.{take_all}
 use Rattle.ist_core.specs.declared.events.Event.TheVariants.{Root, Lose}
 use Rattle.ist_core.specs.declared.lists.Row.{Row}
 use Rattle.ist_core.specs.declared.states.RebuildRow.{RebuildRow}
-use Rattle.ist_core.specs.Arithmetic.{degree}
-use Rattle.ist_core.specs.Building.{IsRoot, root_whole, root_top}
-use Rattle.ist_core.specs.Elements.{Among}
-use Rattle.ist_core.specs.Growing.{AllGrow}
-use Rattle.ist_core.specs.Ideals.{IsIdeal, of_none, of_one, of_more}
-use Rattle.ist_core.specs.Lawful.{EachEnabled, state_of}
-use Rattle.ist_core.specs.Leaves.{PlacedLeaf, HasLeaves}
-use Rattle.ist_core.specs.Marking.{HasTarget}
-use Rattle.ist_core.specs.Pieces.{Piece, Pieces, Rebuild, Inner, with_inners, with_root}
-use Rattle.ist_core.specs.Rebuilding.{IsFinishedWith}
-use Rattle.ist_core.specs.References.{Ref, InnerAt, Unset, ref_of, unset_word, tag_count}
-use Rattle.ist_core.specs.RowLayout.{inner_words, rebuild_root_offset}
-use Rattle.ist_core.specs.Shapes.{shape, share_from}
-use Rattle.ist_core.specs.Snapshots.{Snapshot, bases_of, sizes_of}
-use Rattle.ist_core.specs.StartLayout.{start}
-use Rattle.ist_core.proofs.AddingLemmas.{held_free}
-use Rattle.ist_core.proofs.ElementLemmas.{each-among}
-use Rattle.ist_core.proofs.FateLemmas.{grow_between}
-use Rattle.ist_core.proofs.GrowingLemmas.{rebuild_there}
-use Rattle.ist_core.proofs.PlaceLemmas.{placed, claimed_within}
-use Rattle.ist_core.proofs.ReferenceLemmas.{ref_of-unset, word_of-ref_of}
-use Rattle.ist_core.proofs.RowLemmas.{changed_at-same, with_inners-other}
-use Rattle.ist_core.proofs.SoundLemmas.{sound}
-use Rattle.ist_core.proofs.StartLemmas.{sound_start}
+use Rattle.ist_core.specs.WordTerms.{degree, IsIdeal, of_none, of_one, of_more, Piece, Pieces, Rebuild, Inner, with_inners, with_root, Ref, InnerAt, Unset, ref_of, unset_word, tag_count, inner_words, rebuild_root_offset, shape, share_from, start}
+use Rattle.ist_core.specs.TreeTerms.{IsRoot, root_whole, root_top, AllGrow, PlacedLeaf, HasLeaves, HasTarget, IsFinishedWith}
+use Rattle.ist_core.specs.LogTerms.{Among, EachEnabled, state_of, Snapshot, bases_of, sizes_of, IsShown, shown_row}
+use Rattle.ist_core.proofs.AllEventLemmas.{held_free, sound, sound_start}
+use Rattle.ist_core.proofs.AllWordLemmas.{each-among, ref_of-unset, word_of-ref_of, changed_at-same, with_inners-other, no_value}
+use Rattle.ist_core.proofs.AllLogLemmas.{grow_between, rebuild_there}
+use Rattle.ist_core.proofs.AllPlaceLemmas.{placed, claimed_within}
 use Rattle.laws_links.proofs.FormLemmas.{finished_with_grows, started_grows}
+use Rattle.ist_rule.specs.RuleTerms.{IsSound, now, Looked, Logged, LoggedLoad}
 use Rattle.ist_rule.specs.declared.view.View.{View}
-use Rattle.ist_rule.specs.Rule.{IsSound}
-use Rattle.ist_core.specs.Shown.{IsShown, shown_row}
-use Rattle.ist_core.proofs.OptionLemmas.{no_value}
-use Rattle.ist_rule.specs.Learning.{now, Looked, Logged, LoggedLoad}
-use Rattle.ist_rule.proofs.GoingOnLemmas.{looked_goes_on}
+use Rattle.ist_rule.proofs.EventLemmas.{looked_goes_on}
 use Rattle.ist_rule.proofs.LaterLemmas.{later-goes_on}
 use Rattle.ist_dcss.proofs.FieldLemmas.{looked_row}
 use Rattle.ist_mark.proofs.MarkLemmas.{before_enabled}
+use Rattle.ist_rows.specs.RowTerms.{IsInBuild, sizes_built}
 use Rattle.ist_rows.specs.declared.callers.Caller.{Caller}
-use Rattle.ist_rows.specs.Building.{IsInBuild, sizes_built}
 use Rattle.laws_coming.specs.Builds.{IsRootBuilt}
 use Rattle.laws_coming.proofs.SizeLemmas.{IsRootSizes, of_whole, of_top, root_sizes}
 use Rattle.ist_build.specs.Calls.{IsTold}
@@ -55,8 +35,7 @@ use Rattle.ist_build.proofs.TopBegunLemmas.{leaves_on}
 -- what is known of a rebuild stays true
 pub told_on : (t u : Snapshot) → AllGrow t.pieces u.pieces → (rebuild k : ℕ) → IsTold t rebuild k
     → IsTold u rebuild k
-told_on t u g rebuild k h =
-    let it = rebuild_there t.pieces u.pieces g rebuild h.row h.published in
+told_on t u g rebuild k h = let it = rebuild_there t.pieces u.pieces g rebuild h.row h.published in
     record {
       row = it.0;
       published = it.1;
@@ -87,8 +66,7 @@ told_target t rebuild target k h g =
 pub root_looked : (v w : View) (rebuild place word : ℕ) (row : RebuildRow)
     → (now v).pieces rebuild ≡ Some (Rebuild row) → place ≡ rebuild + rebuild_root_offset
     → Looked v place word w → word ≢ unset_word → HasRoot (now w) rebuild word
-root_looked v w rebuild place word row e at l set =
-    let g = looked_goes_on v place word w l in
+root_looked v w rebuild place word row e at l set = let g = looked_goes_on v place word w l in
     let grow = grow_between w.start w.words v.log w.log l.sound.lawful.enabled (later-goes_on l.later) in
     let same : state_of w.start w.words v.log ≡ now v =
     ap₂ (λ p n. state_of p n v.log) (ap (λ x. x.start) g.same) (ap (λ x. x.words) g.same) in
@@ -104,10 +82,8 @@ root_looked v w rebuild place word row e at l set =
 -- after a Root the rebuild has this root
 pub root_put : (v w : View) (number rebuild word : ℕ) (rows : List Row) → word ≢ unset_word
     → Logged v (Root number rebuild word rows) w → HasRoot (now w) rebuild word
-root_put v w number rebuild word rows set l =
-    let event = Root number rebuild word rows in
-    let b = state_of v.start v.words l.before in
-    let enabled = before_enabled v event w l in
+root_put v w number rebuild word rows set l = let event = Root number rebuild word rows in
+    let b = state_of v.start v.words l.before in let enabled = before_enabled v event w l in
     let can = (subst (λ (x : View). EachEnabled (start x.start x.words) x.log) l.view
     l.sound.lawful.enabled).1 in
     let s = sound (start v.start v.words) l.before (sound_start v.start v.words) enabled in
@@ -150,9 +126,7 @@ published_low : (v : View) → IsSound v → (node k : ℕ) → IsFinishedWith (
 published_low v s node k f =
     let it = claimed_within v.start v.words v.log node _ s.lawful.enabled
     ((placed v.start v.words v.log s.lawful.enabled).published node (Inner f.row) f.published) in
-    let low = it.below_next in
-    let some = it.some in
-    omega arith
+    let low = it.below_next in let some = it.some in omega arith
 
 module _ (old new : Caller) (target k word : ℕ) (s : IsSound old.token.view) (number : new.number ≡ old.number)
     (b : BuiltOn old.token.view new.token.view) (t : IsTarget (now old.token.view) target k)
@@ -170,8 +144,7 @@ module _ (old new : Caller) (target k word : ℕ) (s : IsSound old.token.view) (
   sizes_fit : (rows : List Row) → OwnsRows new.token.view new.number (now old.token.view).next rows
       → IsRoot (with_inners (now new.token.view).pieces rows) word k leaves target (bases_of rows)
       → IsRootSizes k (sizes_of rows)
-  sizes_fit rows o root =
-      root_sizes (now new.token.view).pieces rows word k leaves target o.once
+  sizes_fit rows o root = root_sizes (now new.token.view).pieces rows word k leaves target o.once
       (rows_free new.token.view b.sound new.number rows o.held) many root
 
   -- an ideal subtree over all leaves of a target with few keys is a root for it
@@ -181,8 +154,7 @@ module _ (old new : Caller) (target k word : ℕ) (s : IsSound old.token.view) (
   whole_laid few h at =
       let root = root_whole h.ref few h.ref_is
       (subst (λ xs. IsIdeal (with_inners (now new.token.view).pieces h.rows) h.ref xs target (bases_of h.rows))
-      (take_all k leaves (let m = many in omega arith)) (h.ideal target low)) in
-      record {
+      (take_all k leaves (let m = many in omega arith)) (h.ideal target low)) in record {
         rows = h.rows;
         owns = h.owns;
         root = root;
@@ -199,8 +171,7 @@ module _ (old new : Caller) (target k word : ℕ) (s : IsSound old.token.view) (
       → sizes_built new ≡ sizes_built old ++ inner_words (degree k) ∷ []
       → IsRootLaid old new target k word leaves
   top_root more h is =
-      let root = root_top h.base h.row more h.ref_is (h.top target low) h.unset h.one in
-      record {
+      let root = root_top h.base h.row more h.ref_is (h.top target low) h.unset h.one in record {
         rows = h.rows;
         owns = h.owns;
         root = root;
@@ -219,10 +190,8 @@ pub root_ready : (old new : Caller) (rebuild target k word : ℕ) → IsSound ol
     → (h : IsRootLaid old new target k word leaves)
     → IsRootBuilt (now new.token.view) new.number rebuild word h.rows
 unfolding told_target
-root_ready old new rebuild target k word s b told g leaves has h =
-    let v = old.token.view in
-    let w = new.token.view in
-    let on = told_on (now v) (now w) (built_grow v w b) rebuild k told in
+root_ready old new rebuild target k word s b told g leaves has h = let v = old.token.view in
+    let w = new.token.view in let on = told_on (now v) (now w) (built_grow v w b) rebuild k told in
     let t = told_target (now v) rebuild target k told g in
     let it = rebuild_there (now v).pieces (now w).pieces (built_grow v w b) rebuild t.row t.published in
     let same : on.row.target ≡ target =
@@ -272,15 +241,12 @@ root_topped ps word k leaves target bases two (root_top base row all e top unset
 
 -- the word of a row is its base and the tag
 pub topped_base : (word : ℕ) (bases : List ℕ) (h : IsTopped word bases) → word / tag_count ≡ h.base
-topped_base word bases h =
-    let it = word_of-ref_of word (InnerAt h.base) h.ref_is in
-    let is = it.same_word in
-    omega arith
+topped_base word bases h = let it = word_of-ref_of word (InnerAt h.base) h.ref_is in
+    let is = it.same_word in omega arith
 
 -- a word that names a row isn't Unset
 pub topped_set : (word : ℕ) (bases : List ℕ) (h : IsTopped word bases) → word ≢ unset_word
-topped_set word bases h e =
-    no (sym (ap ref_of e ∙ ref_of-unset) ∙ h.ref_is)
+topped_set word bases h e = no (sym (ap ref_of e ∙ ref_of-unset) ∙ h.ref_is)
   where
     no : Some Unset ≡ Some (InnerAt h.base) → ⊥
     no f = cc
@@ -290,7 +256,5 @@ pub first_least : (bases : List ℕ) (base : ℕ) (rest : List ℕ) → bases �
     → (b : ℕ) → Among b bases → base ≤ b
 first_least [] base rest e rising b i = absurd i
 first_least (x ∷ xs) base rest e rising b (inl f) = let same : x ≡ base = cc in omega arith
-first_least (x ∷ xs) base rest e rising b (inr i) =
-    let same : x ≡ base = cc in
-    let less = each-among (λ y. x < y) b xs rising.0 i in
-    omega arith
+first_least (x ∷ xs) base rest e rising b (inr i) = let same : x ≡ base = cc in
+    let less = each-among (λ y. x < y) b xs rising.0 i in omega arith

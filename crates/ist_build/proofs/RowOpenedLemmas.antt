@@ -2,30 +2,23 @@
 use Rattle.std.proofs.Common.{◌≡◌, ◌≢◌, ℕ, ◌+◌, ◌<◌, ◌≤◌, List, [], ◌∷◌, ◌++◌, length, nat_lt, Bool, true, false, if◌then◌else◌, refl, sym, ap, ◌∙◌, subst, inl, arith}
 use Rattle.std.proofs.lemmas.Bool.Decides.{nat_tests}
 use Rattle.std.specs.List.{flat_map}
-use Rattle.ist_core.specs.Arithmetic.{degree}
-use Rattle.ist_core.specs.Lawful.{state_of}
-use Rattle.ist_core.specs.RowLayout.{inner_words}
-use Rattle.ist_core.specs.Shapes.{shape}
-use Rattle.ist_core.specs.Snapshots.{HoldsRow}
-use Rattle.ist_core.proofs.ElementLemmas.{among_right}
-use Rattle.ist_core.proofs.ShapeLemmas.{shape_many}
+use Rattle.ist_core.specs.WordTerms.{degree, inner_words, shape}
+use Rattle.ist_core.specs.LogTerms.{state_of, HoldsRow}
+use Rattle.ist_core.proofs.AllWordLemmas.{among_right, shape_many}
+use Rattle.ist_rule.specs.RuleTerms.{IsSound, own_at, now, storing}
 use Rattle.ist_rule.specs.declared.view.View.{View}
 use Rattle.ist_rule.specs.declared.view.OwnWord.{OwnWord}
 use Rattle.ist_core.specs.declared.events.Who.TheVariants.{Caller as CallerOf}
-use Rattle.ist_rule.specs.Rule.{IsSound, own_at}
-use Rattle.ist_rule.specs.Learning.{now, storing}
 use Rattle.ist_rule.proofs.WentOnLemmas.{later_by}
+use Rattle.ist_rows.specs.RowTerms.{spares_of, IsCaller, Reserved, HoldsPlace, IsInBuild, HasTaken}
 use Rattle.ist_rows.specs.declared.callers.Caller.{Caller}
-use Rattle.ist_rows.specs.Rows.{spares_of, IsCaller, Reserved, HoldsPlace}
-use Rattle.ist_rows.specs.Building.{IsInBuild, HasTaken}
 use Rattle.ist_rows.proofs.BuildingCallLemmas.{at_storing}
 use Rattle.ist_rows.proofs.ReserveLemmas.{took}
 use Rattle.ist_build.specs.Laying.{IsReservation}
 use Rattle.laws_calls.specs.Dividing.{lens_to}
 use Rattle.ist_rule.proofs.StoreLemmas.{own_here, own_else}
 use Rattle.ist_build.specs.Midway.{lens_from, IsOpened, IsMidway, opening, setting}
-use Rattle.ist_build.proofs.BuiltLemmas.{reserved_built, rewritten_built}
-use Rattle.ist_build.proofs.LaidOnLemmas.{next_between}
+use Rattle.ist_build.proofs.BuiltLemmas.{reserved_built, rewritten_built, next_between}
 use Rattle.ist_build.proofs.JoinedSubtreeLemmas.{are_laid_none}
 use Rattle.ist_build.proofs.PartsLemmas.{lens_first}
 
@@ -47,8 +40,7 @@ pub record LiesFresh (v : View) (number base size : ℕ) (w : View) : Type 0 whe
 -- a reserved row is a fresh row
 pub fresh_row : (v : View) → IsSound v → (number base size : ℕ) (w : View)
     → Reserved v number base size w → LiesFresh v number base size w
-fresh_row v s number base size w r =
-    let it = took v number base size w r in
+fresh_row v s number base size w r = let it = took v number base size w r in
     let up = next_between v.start v.words v.who IsReservation v.log it.before it.lawful.enabled.0
     (later_by it.later) in
     let at_next = it.lawful.enabled.1.base_is in
@@ -74,8 +66,7 @@ reserved_held old new s number base size r =
 -- ---- the first row
 
 module _ (old new : Caller) (leaves : List ℕ) (base : ℕ) (s : IsSound old.token.view)
-    (mine : old.token.view.who ≡ CallerOf old.number)
-    (two : 2 ≤ length leaves)
+    (mine : old.token.view.who ≡ CallerOf old.number) (two : 2 ≤ length leaves)
     (number : new.number ≡ old.number) (rows : spares_of new ≡ spares_of old)
     (r : Reserved old.token.view old.number base (inner_words (degree (length leaves))) new.token.view)
     (taken : HasTaken old (inner_words (degree (length leaves)) ∷ []) new) where
@@ -93,9 +84,7 @@ module _ (old new : Caller) (leaves : List ℕ) (base : ℕ) (s : IsSound old.to
 
   -- its first words are stored
   pub opened : IsOpened view.own base d (length leaves)
-  opened =
-      let o = new.token.view.own in
-      let first = record { place = base + 2; word = d } ∷ o in
+  opened = let o = new.token.view.own in let first = record { place = base + 2; word = d } ∷ o in
       record {
         status = own_else first (base + 3) (length leaves) base (λ e. omega arith)
             ∙ own_else o (base + 2) d base (λ e. omega arith) ∙ fresh.zero_words base (omega arith);
@@ -122,24 +111,22 @@ module _ (old new : Caller) (leaves : List ℕ) (base : ℕ) (s : IsSound old.to
 
   -- no part of it is built yet
   pub midway_first : IsCaller who → IsSound view → IsMidway old leaves base d 0 who
-  midway_first caller sound =
-      let high = fresh.high in
-      record {
-        caller = caller;
-        number = number;
-        rows = rows;
-        built = rewritten_built old.token.view new.token.view view.own
-            (reserved_built old.token.view old.number base (inner_words d) new.token.view r) sound
-            (λ p low. own_else (record { place = base + 2; word = d } ∷ new.token.view.own)
-            (base + 3) (length leaves) p (λ e. omega arith)
-            ∙ own_else new.token.view.own (base + 2) d p (λ e. omega arith));
-        high = fresh.high;
-        held = subst (λ n. HoldsRow (now new.token.view) n base (inner_words d)) (sym number) fresh.held;
-        opened = opened;
-        laid = λ placed a. are_laid_none view new.number (base + inner_words d) base;
-        keys = λ placed a. refl;
-        due = due_first;
-      }
+  midway_first caller sound = let high = fresh.high in record {
+    caller = caller;
+    number = number;
+    rows = rows;
+    built = rewritten_built old.token.view new.token.view view.own
+        (reserved_built old.token.view old.number base (inner_words d) new.token.view r) sound
+        (λ p low. own_else (record { place = base + 2; word = d } ∷ new.token.view.own)
+        (base + 3) (length leaves) p (λ e. omega arith)
+        ∙ own_else new.token.view.own (base + 2) d p (λ e. omega arith));
+    high = fresh.high;
+    held = subst (λ n. HoldsRow (now new.token.view) n base (inner_words d)) (sym number) fresh.held;
+    opened = opened;
+    laid = λ placed a. are_laid_none view new.number (base + inner_words d) base;
+    keys = λ placed a. refl;
+    due = due_first;
+  }
 
 -- ---- after a load
 
@@ -147,13 +134,12 @@ module _ (old new : Caller) (leaves : List ℕ) (base : ℕ) (s : IsSound old.to
 pub opened_on : (a b : List OwnWord) (base d size : ℕ)
     → ((p : ℕ) → p < base + 4 → own_at b p ≡ own_at a p)
     → IsOpened a base d size → IsOpened b base d size
-opened_on a b base d size same o =
-    record {
-      status = same base (omega arith) ∙ o.status;
-      count = same (base + 1) (omega arith) ∙ o.count;
-      degree_is = same (base + 2) (omega arith) ∙ o.degree_is;
-      size_is = same (base + 3) (omega arith) ∙ o.size_is;
-    }
+opened_on a b base d size same o = record {
+  status = same base (omega arith) ∙ o.status;
+  count = same (base + 1) (omega arith) ∙ o.count;
+  degree_is = same (base + 2) (omega arith) ∙ o.degree_is;
+  size_is = same (base + 3) (omega arith) ∙ o.size_is;
+}
 
 -- ---- after a part
 
@@ -202,14 +188,12 @@ module _ (v : View) (base d j key word : ℕ) (less : j < d) where
       cases : (b : Bool) → nat_lt 0 j ≡ b
           → own_at (if b then storing (storing v (base + (3 + d + j)) word) (base + (3 + j)) key
           else storing v (base + (3 + d + j)) word).own p ≡ own_at v.own p
-      cases true e =
-          let some : 1 ≤ j = let pos : 0 < j = grind (arith, nat_tests) in omega arith in
+      cases true e = let some : 1 ≤ j = let pos : 0 < j = grind (arith, nat_tests) in omega arith in
           own_else (record { place = base + (3 + d + j); word = word } ∷ v.own) (base + (3 + j)) key p
           (λ f. nk some (let q : p ≡ base + 3 + j = omega arith in q))
           ∙ own_else v.own (base + (3 + d + j)) word p
           (λ f. ne (let q : p ≡ base + 3 + d + j = omega arith in q))
-      cases false e =
-          own_else v.own (base + (3 + d + j)) word p
+      cases false e = own_else v.own (base + (3 + d + j)) word p
           (λ f. ne (let q : p ≡ base + 3 + d + j = omega arith in q))
 
   -- the view is the old one but for its words

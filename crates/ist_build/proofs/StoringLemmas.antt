@@ -1,27 +1,18 @@
 -- What `lay` begins with: no leaf, one leaf, and the first row of a block.
 use Rattle.std.proofs.Common.{◌≡◌, ◌≢◌, ℕ, ◌+◌, ◌*◌, ◌<◌, ◌≤◌, List, [], ◌∷◌, length, slice_index_or, refl, sym, ap, ◌∙◌, subst, arith}
 use Rattle.std.specs.List.{sum, flat_map}
-use Rattle.ist_core.specs.Arithmetic.{degree}
-use Rattle.ist_core.specs.Ideals.{no_part, of_none, of_one}
-use Rattle.ist_core.specs.Leaves.{PlacedLeaf}
-use Rattle.ist_core.specs.Pieces.{Leaf}
-use Rattle.ist_core.specs.References.{Empty, LeafAt, ref_of, word_of}
-use Rattle.ist_core.specs.RowLayout.{inner_words}
-use Rattle.ist_core.specs.Shapes.{shape}
-use Rattle.ist_core.specs.Snapshots.{Snapshot, HoldsRow}
-use Rattle.ist_core.proofs.RootLemmas.{least_degree-le}
-use Rattle.ist_core.proofs.ReferenceLemmas.{ref_of-word_of}
-use Rattle.ist_core.proofs.ShapeLemmas.{shape_few, shape_many}
+use Rattle.ist_core.specs.WordTerms.{degree, no_part, of_none, of_one, Leaf, Empty, LeafAt, ref_of, word_of, inner_words, shape}
+use Rattle.ist_core.specs.TreeTerms.{PlacedLeaf}
+use Rattle.ist_core.specs.LogTerms.{Snapshot, HoldsRow}
+use Rattle.ist_core.proofs.AllWordLemmas.{least_degree-le, ref_of-word_of, shape_few, shape_many}
+use Rattle.ist_rule.specs.RuleTerms.{IsSound, own_at, now}
 use Rattle.ist_rule.specs.declared.view.View.{View}
 use Rattle.ist_rule.specs.declared.view.OwnWord.{OwnWord}
-use Rattle.ist_rule.specs.Rule.{IsSound, own_at}
-use Rattle.ist_rule.specs.Learning.{now}
 use Rattle.ist_rule.proofs.StoreLemmas.{own_here, own_else}
+use Rattle.ist_rows.specs.RowTerms.{IsCaller, HoldsBlock}
 use Rattle.ist_rows.specs.declared.callers.Caller.{Caller}
-use Rattle.ist_rows.specs.Rows.{IsCaller}
 use Rattle.ist_rows.proofs.ReserveLemmas.{next_low}
 use Rattle.ist_dcss.proofs.FieldLemmas.{good_base}
-use Rattle.ist_rows.specs.Block.{HoldsBlock}
 use Rattle.ist_build.specs.Laying.{ArePlaced, IsLaidBelow}
 use Rattle.ist_build.specs.Midway.{lens_from, IsLaying, opening}
 use Rattle.ist_build.proofs.LayingLemmas.{row_within}
@@ -35,17 +26,16 @@ small_end n next few = let e : sum (shape n) ≡ 0 = ap sum (shape_few n few) in
 pub none_below : (v : View) (number low word : ℕ) (leaves : List ℕ) → length leaves ≡ 0
     → word ≡ word_of Empty → (placed : List PlacedLeaf) → ArePlaced (now v) leaves placed
     → IsLaidBelow v number low low word placed
-none_below v number low word leaves none is [] a =
-    record {
-      laid = record {
-        rows = [];
-        owns = record { stored = tt; held = tt; once = tt; rising = tt; high = tt };
-        ref = Empty;
-        ref_is = ap ref_of is ∙ ref_of-word_of Empty tt;
-        ideal = λ above less. of_none;
-      };
-      ends = tt;
-    }
+none_below v number low word leaves none is [] a = record {
+  laid = record {
+    rows = [];
+    owns = record { stored = tt; held = tt; once = tt; rising = tt; high = tt };
+    ref = Empty;
+    ref_is = ap ref_of is ∙ ref_of-word_of Empty tt;
+    ideal = λ above less. of_none;
+  };
+  ends = tt;
+}
 none_below v number low word leaves none is (leaf ∷ more) a =
     absurd (let all = ap length a.bases_are in omega arith)
 
@@ -85,8 +75,7 @@ block_first t number base n two h =
 
 -- ---- the row
 
-module _ (old : Caller) (leaves : List ℕ) (base d : ℕ) (s : IsSound old.token.view)
-    (some : 1 ≤ d)
+module _ (old : Caller) (leaves : List ℕ) (base d : ℕ) (s : IsSound old.token.view) (some : 1 ≤ d)
     (held : HoldsRow (now old.token.view) old.number base (inner_words d))
     (rest : HoldsBlock (now old.token.view) old.number (base + inner_words d)
     (flat_map shape (lens_from (length leaves) 0)))
@@ -114,10 +103,7 @@ module _ (old : Caller) (leaves : List ℕ) (base d : ℕ) (s : IsSound old.toke
   pub laying_first : IsCaller who → IsSound view → IsLaying old leaves base d 0 (base + (2 * d + 3)) who
   laying_first caller sound =
       let inside = (row_within old.token.view s old.number base (inner_words d) held).0 in
-      let low = next_low old.token.view s in
-      let free = low.0 in
-      let all = low.1 in
-      record {
+      let low = next_low old.token.view s in let free = low.0 in let all = low.1 in record {
         written = record {
           same = refl;
           caller = caller;
@@ -159,8 +145,7 @@ pub laying_opened : (old last : Caller) (leaves : List ℕ) (base d : ℕ) → I
     → IsCaller last → IsSound last.token.view
     → IsLaying old leaves base d 0 (base + (2 * d + 3)) last
 laying_opened old last leaves base d s two d_is held fresh is caller sound =
-    let t = now old.token.view in
-    let it = block_first t old.number base (length leaves) two held in
+    let t = now old.token.view in let it = block_first t old.number base (length leaves) two held in
     let some = least_degree-le (length leaves) in
     subst (IsLaying old leaves base d 0 (base + (2 * d + 3))) (sym is)
     (laying_first old leaves base d s (omega arith)

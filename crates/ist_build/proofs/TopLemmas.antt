@@ -2,24 +2,15 @@
 use Rattle.std.proofs.Common.{◌≡◌, ℕ, zero, suc, ◌+◌, ◌-◌, ◌<◌, ◌≤◌, List, [], ◌∷◌, ◌++◌, length, take, drop, replicate, Some, refl, sym, ap, ap₂, ◌∙◌, subst, arith}
 use Rattle.ist_core.specs.declared.lists.Row.{Row}
 use Rattle.ist_core.specs.declared.states.InnerRow.{InnerRow}
-use Rattle.ist_core.specs.Arithmetic.{degree, part_len, part_start}
-use Rattle.ist_core.specs.Leaves.{PlacedLeaf, HasLeaves}
-use Rattle.ist_core.specs.Parts.{parts, first_keys}
-use Rattle.ist_core.specs.Pieces.{Inner, inner_of, with_row}
-use Rattle.ist_core.specs.Rebuilding.{IsFinishedWith}
-use Rattle.ist_core.specs.References.{InnerAt, ref_of, word_of, unset_word}
-use Rattle.ist_core.specs.RowLayout.{inner_words}
-use Rattle.ist_core.specs.Snapshots.{HoldsRow}
-use Rattle.ist_core.proofs.ReferenceLemmas.{ref_of-word_of}
-use Rattle.ist_core.proofs.RootLemmas.{least_degree-le}
-use Rattle.ist_core.proofs.RowLemmas.{with_row-same}
+use Rattle.ist_core.specs.WordTerms.{degree, part_len, part_start, parts, first_keys, Inner, inner_of, with_row, InnerAt, ref_of, word_of, unset_word, inner_words}
+use Rattle.ist_core.specs.TreeTerms.{PlacedLeaf, HasLeaves, IsFinishedWith}
+use Rattle.ist_core.specs.LogTerms.{HoldsRow}
+use Rattle.ist_core.proofs.AllWordLemmas.{ref_of-word_of, least_degree-le, with_row-same}
+use Rattle.ist_rule.specs.RuleTerms.{IsSound, own_at, now}
 use Rattle.ist_rule.specs.declared.view.View.{View}
 use Rattle.ist_rule.specs.declared.view.OwnWord.{OwnWord}
-use Rattle.ist_rule.specs.Rule.{IsSound, own_at}
-use Rattle.ist_rule.specs.Learning.{now}
+use Rattle.ist_rows.specs.RowTerms.{IsCaller, sizes_built}
 use Rattle.ist_rows.specs.declared.callers.Caller.{Caller}
-use Rattle.ist_rows.specs.Rows.{IsCaller}
-use Rattle.ist_rows.specs.Building.{sizes_built}
 use Rattle.ist_build.specs.Laying.{BuiltOn, IsTopLaid}
 use Rattle.laws_calls.specs.Dividing.{parts_to, share_of}
 use Rattle.laws_calls.proofs.PartLemmas.{parts_all, keys_next}
@@ -28,7 +19,7 @@ use Rattle.ist_build.proofs.BuiltLemmas.{rewritten_built}
 use Rattle.ist_build.proofs.BuildingLemmas.{held_good}
 use Rattle.ist_build.proofs.RowOpenedLemmas.{opened_on, at_slot, at_key, elsewhere, setting_is}
 use Rattle.ist_build.proofs.PartLeafLemmas.{some_first, length-share_of}
-use Rattle.ist_build.proofs.OwnWordLemmas.{length-words_at, get-words_at, words_at_same, words_at_more, row_of_words, words_of_row, inner_of_row}
+use Rattle.ist_build.proofs.LayingLemmas.{length-words_at, get-words_at, words_at_same, words_at_more, row_of_words, words_of_row, inner_of_row}
 use Rattle.ist_build.proofs.ReadingLemmas.{leaves_number}
 use Rattle.ist_build.proofs.TopBegunLemmas.{leaves_on}
 
@@ -36,8 +27,7 @@ use Rattle.ist_build.proofs.TopBegunLemmas.{leaves_on}
 
 replicate_more : (n x : ℕ) → replicate n x ++ x ∷ [] ≡ replicate (n + 1) x
 replicate_more zero x = refl
-replicate_more (suc n) x =
-    ap (λ xs. x ∷ xs) (replicate_more n x)
+replicate_more (suc n) x = ap (λ xs. x ∷ xs) (replicate_more n x)
     ∙ ap (λ m. replicate m x) (let q : suc (n + 1) ≡ suc n + 1 = omega arith in q)
 
 -- the first of some elements
@@ -68,23 +58,18 @@ module _ (old who : Caller) (target k base d j key : ℕ) (s : IsSound old.token
   set = record who { token = record who.token { view = w } }
 
   slots_more : words_at words (base + 3 + d) (j + 1) ≡ replicate (j + 1) unset_word
-  slots_more =
-      words_at_more words (base + 3 + d) j
-      ∙ ap₂ (λ xs x. xs ++ x ∷ [])
+  slots_more = words_at_more words (base + 3 + d) j ∙ ap₂ (λ xs x. xs ++ x ∷ [])
       (words_at_same words v.own (base + 3 + d) j
       (λ p low high. elsewhere v base d j key unset_word less p (λ e. omega arith)
       (λ one e. omega arith)) ∙ m.slots)
-      (at_slot v base d j key unset_word less)
-      ∙ replicate_more j unset_word
+      (at_slot v base d j key unset_word less) ∙ replicate_more j unset_word
 
   first_part : (leaves : List PlacedLeaf)
       → HasLeaves (now old.token.view).pieces (Some (InnerAt target)) leaves
       → (leaf : PlacedLeaf) × (others : List PlacedLeaf) × (share_of k j leaves ≡ leaf ∷ others)
-  first_part leaves has =
-      let many = leaves_number old.token.view s target k finished leaves has in
+  first_part leaves has = let many = leaves_number old.token.view s target k finished leaves has in
       let len = length-share_of k j leaves many (let q : j < degree k = omega (arith, d_is) in q) in
-      let one = some in
-      some_first (share_of k j leaves) (omega arith)
+      let one = some in some_first (share_of k j leaves) (omega arith)
 
   keys_more : (leaves : List PlacedLeaf)
       → HasLeaves (now old.token.view).pieces (Some (InnerAt target)) leaves
@@ -95,9 +80,7 @@ module _ (old who : Caller) (target k base d j key : ℕ) (s : IsSound old.token
       at : (i : ℕ) → i ≡ j → words_at words (base + 4) (i + 1 - 1)
           ≡ first_keys (λ (leaf : PlacedLeaf). leaf.row.key) (drop 1 (parts_to k (i + 1) leaves))
       at zero e = refl
-      at (suc i) e =
-          let one : 1 ≤ j = omega arith in
-          let it = first_part leaves has in
+      at (suc i) e = let one : 1 ≤ j = omega arith in let it = first_part leaves has in
           let place : base + 4 + (j - 1) ≡ base + 3 + j = omega arith in
           ap (words_at words (base + 4)) (let q : suc i + 1 - 1 ≡ j - 1 + 1 = omega arith in q)
           ∙ words_at_more words (base + 4) (j - 1)
@@ -113,24 +96,22 @@ module _ (old who : Caller) (target k base d j key : ℕ) (s : IsSound old.token
           (drop 1 (parts_to k (n + 1) leaves))) (sym e)
 
   top_more : IsCaller set → IsSound w → IsTopMidway old target k base d (j + 1) set
-  top_more caller sound =
-      let up_first = m.high in
-      record {
-        caller = caller;
-        number = m.number;
-        rows = m.rows;
-        built = rewritten_built old.token.view v words m.built sound
-            (λ p low. elsewhere v base d j key unset_word less p (λ e. omega arith)
-            (λ one e. omega arith));
-        high = m.high;
-        held = m.held;
-        opened = opened_on v.own words base d k
-            (λ p low. elsewhere v base d j key unset_word less p (λ e. omega arith)
-            (λ one e. omega arith)) m.opened;
-        slots = slots_more;
-        keys = keys_more;
-        sizes = m.sizes;
-      }
+  top_more caller sound = let up_first = m.high in record {
+    caller = caller;
+    number = m.number;
+    rows = m.rows;
+    built = rewritten_built old.token.view v words m.built sound
+        (λ p low. elsewhere v base d j key unset_word less p (λ e. omega arith)
+        (λ one e. omega arith));
+    high = m.high;
+    held = m.held;
+    opened = opened_on v.own words base d k
+        (λ p low. elsewhere v base d j key unset_word less p (λ e. omega arith)
+        (λ one e. omega arith)) m.opened;
+    slots = slots_more;
+    keys = keys_more;
+    sizes = m.sizes;
+  }
 
   -- when slot j is set to Unset with its key, the half-built top row has one slot more
   pub top_set : (last : Caller) (word : ℕ) → word ≡ unset_word
@@ -181,8 +162,7 @@ module _ (w : View) (number low base word : ℕ) (leaves : List PlacedLeaf)
   top_row = record { base = base; words = words_at w.own base (inner_words d) }
 
   read : inner_of top_row.words ≡ Some (Inner r)
-  read =
-      ap inner_of (words_of_row w.own base d (least_degree-le (length leaves)) opened.degree_is)
+  read = ap inner_of (words_of_row w.own base d (least_degree-le (length leaves)) opened.degree_is)
       ∙ inner_of_row r (length-words_at w.own (base + 4) (d - 1))
 
   size_is : length top_row.words ≡ inner_words d
@@ -190,36 +170,35 @@ module _ (w : View) (number low base word : ℕ) (leaves : List PlacedLeaf)
 
   -- when all slots are Unset, with their keys, the word is the top row over the leaves
   pub top_laid : IsTopLaid w number low word leaves
-  top_laid =
-      record {
-        rows = top_row ∷ [];
-        owns = record {
-          stored = (
-            (λ n less. get-words_at w.own base (inner_words d) n (subst (λ m. n < m) size_is less)),
-            tt,
-          );
-          held = (subst (HoldsRow (now w) number base) (sym size_is) held, tt);
-          once = ((λ i. i), tt);
-          rising = (tt, tt);
-          high = (le, tt);
-        };
-        base = base;
-        row = r;
-        ref_is = is;
-        top = λ above less. record {
-          published = ap (λ o. with_row (now w).pieces base o base) read
-              ∙ with_row-same (now w).pieces base (Inner r);
-          two = two;
-          higher = omega arith;
-          status = opened.status;
-          count = opened.count;
-          degree = refl;
-          size = opened.size_is;
-          keys = keys;
-        };
-        unset = slots;
-        one = refl;
-      }
+  top_laid = record {
+    rows = top_row ∷ [];
+    owns = record {
+      stored = (
+        (λ n less. get-words_at w.own base (inner_words d) n (subst (λ m. n < m) size_is less)),
+        tt,
+      );
+      held = (subst (HoldsRow (now w) number base) (sym size_is) held, tt);
+      once = ((λ i. i), tt);
+      rising = (tt, tt);
+      high = (le, tt);
+    };
+    base = base;
+    row = r;
+    ref_is = is;
+    top = λ above less. record {
+      published = ap (λ o. with_row (now w).pieces base o base) read
+          ∙ with_row-same (now w).pieces base (Inner r);
+      two = two;
+      higher = omega arith;
+      status = opened.status;
+      count = opened.count;
+      degree = refl;
+      size = opened.size_is;
+      keys = keys;
+    };
+    unset = slots;
+    one = refl;
+  }
 
 -- all slots are Unset, by the number of leaves
 record Facts (who : Caller) (base : ℕ) (leaves : List PlacedLeaf) (n : ℕ) : Type 0 where
@@ -251,8 +230,7 @@ all_top old who target k base d j word s f two m d_is all is leaves has =
     })
   where
     good : ref_of word ≡ Some (InnerAt base)
-    good =
-        ap ref_of is ∙ ref_of-word_of (InnerAt base)
+    good = ap ref_of is ∙ ref_of-word_of (InnerAt base)
         (held_good who.token.view m.built.sound who.number base (inner_words d) m.held)
 
     by_length : Facts who base leaves (length leaves)

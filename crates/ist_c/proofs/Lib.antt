@@ -1,10 +1,4 @@
 pub mod CallLemmas
-pub mod CloseLemmas
-pub mod ConditionLemmas
 pub mod KindLemmas
-pub mod LeftLemmas
-pub mod NoteLemmas
-pub mod OpenLemmas
 pub mod PassLemmas
 pub mod ReadLemmas
-pub mod ShotLemmas

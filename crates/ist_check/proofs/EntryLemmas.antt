@@ -21,8 +21,7 @@ module _ {X : Type 0} where
 
   -- the keys of an ordered tree's entries are strictly increasing
   pub rising : {V E : Type 0} (r : Result V E) (items : V → List (ℕ × X)) (t : BTreeMap ℕ X)
-      → tree.IsOrdered nat_cmp t
-      → IfOk r (λ v. items v ≡ t.entries)
+      → tree.IsOrdered nat_cmp t → IfOk r (λ v. items v ≡ t.entries)
       → IfOk r (λ v. IsStrictlyIncreasing (map (λ e. e.0) (items v)))
   rising (Ok v) items t ordered is = subst (λ es. IsStrictlyIncreasing (map (λ e. e.0) es)) (sym is)
       (IsStrictlyIncreasing-from_sorted _ ordered)

@@ -2,8 +2,5 @@ pub mod TellLemmas
 pub mod FinishedLemmas
 pub mod EntryLemmas
 pub mod StandingLemmas
-pub mod OpeningLemmas
 pub mod RoomLemmas
 pub mod ReasonLemmas
-pub mod CheckingLemmas
-pub mod KindLemmas

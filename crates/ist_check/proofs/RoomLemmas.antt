@@ -9,25 +9,18 @@ use Rattle.ist_core.specs.declared.lists.HeldRow.{HeldRow}
 use Rattle.ist_core.specs.declared.lists.Row.{Row}
 use Rattle.ist_core.specs.declared.events.Event.{Event}
 use Rattle.ist_core.specs.declared.events.Event.TheVariants.{Enter, Reserve, Install, Count, Finish, Draw}
-use Rattle.ist_core.specs.Elements.{Among, Each}
-use Rattle.ist_core.specs.Pieces.{with_status, row_at, Change}
-use Rattle.ist_core.specs.Snapshots.{HoldsRow}
-use Rattle.ist_core.specs.Statuses.{finished_word}
-use Rattle.ist_core.specs.StartLayout.{start}
-use Rattle.ist_core.specs.Logs.{Log}
-use Rattle.ist_core.specs.Installing.{CanInstall}
-use Rattle.ist_core.specs.Lawful.{Lawful, state_of}
-use Rattle.ist_core.proofs.RoomLemmas.{words_same, held_good}
-use Rattle.ist_core.proofs.RowLemmas.{changed_at-same}
-use Rattle.ist_core.proofs.SoundLemmas.{sound}
-use Rattle.ist_core.proofs.StartLemmas.{sound_start}
-use Rattle.ist_core.proofs.YesLemmas.{count_low}
-use Rattle.laws_links.proofs.FinishedLeafLemmas.{finished_few}
-use Rattle.laws_links.proofs.DrawWordLemmas.{draw_low}
+use Rattle.ist_core.specs.LogTerms.{Among, Each, HoldsRow, Log, Lawful, state_of}
+use Rattle.ist_core.specs.WordTerms.{with_status, row_at, Change, finished_word, start}
+use Rattle.ist_core.specs.TreeTerms.{CanInstall}
+use Rattle.ist_core.proofs.AllLogLemmas.{words_same, held_good, count_low}
+use Rattle.ist_core.proofs.AllWordLemmas.{changed_at-same}
+use Rattle.ist_core.proofs.AllEventLemmas.{sound, sound_start}
+use Rattle.laws_links.proofs.ContentLemmas.{finished_few}
+use Rattle.laws_links.proofs.ResolvedLemmas.{draw_low}
 use Rattle.check_events.specs.declared.replicas.Replica.{Replica}
 use Rattle.check_events.specs.Holding.{by_base, LiesBelow}
 use Rattle.check_events.specs.Mirroring.{Mirrors}
-use Rattle.check_events.proofs.MirrorLemmas.{inner_stands, rebuild_stands}
+use Rattle.check_events.proofs.DecisionLemmas.{inner_stands, rebuild_stands}
 use Rattle.check_state.specs.Room.{HasRoom}
 
 -- rows that lie below a base do so by their bases too
@@ -52,38 +45,28 @@ module _ (pairs : List Pair) (words : ℕ) (log : Log) (replica : Replica)
   -- what a caller reserves lies within the table
   reserve_low : (caller base size : ℕ) → Lawful pairs words (Reserve caller base size ∷ log)
       → base + size < 2 ^ 64
-  reserve_low caller base size lawful =
-      let can = lawful.enabled.1 in
-      let same = words_same pairs words lawful.opens log in
-      let within = lawful.opens.within in
-      let room = can.room in
-      let is = can.base_is in
-      omega arith
+  reserve_low caller base size lawful = let can = lawful.enabled.1 in
+      let same = words_same pairs words lawful.opens log in let within = lawful.opens.within in
+      let room = can.room in let is = can.base_is in omega arith
 
   -- and above all that is held
   reserve_above : (caller base size : ℕ) → Lawful pairs words (Reserve caller base size ∷ log)
       → LiesBelow replica.held base
   reserve_above caller base size lawful =
       let rows = sound (start pairs words) log (sound_start pairs words) lawful.enabled.0 in
-      let is = lawful.enabled.1.base_is in
-      subst (Each (λ e. e.0 < base)) (sym mirrors.held.rows)
+      let is = lawful.enabled.1.base_is in subst (Each (λ e. e.0 < base)) (sym mirrors.held.rows)
       (each_below base (state_of pairs words log).held
       (λ h i. let low = rows.held_below h i in omega arith))
 
   -- a caller's number is low
   enter_low : (caller : ℕ) → Lawful pairs words (Enter caller ∷ log) → replica.callers + 1 < 2 ^ 64
-  enter_low caller lawful =
-      let can = lawful.enabled.1 in
-      let low = can.below_limit in
-      let is = can.number in
-      let same = mirrors.callers in
-      omega arith
+  enter_low caller lawful = let can = lawful.enabled.1 in let low = can.below_limit in
+      let is = can.number in let same = mirrors.callers in omega arith
 
   -- a finished row has no more keys than the table has places
   finish_low : (caller node keys : ℕ) → Lawful pairs words (Finish caller node keys ∷ log)
       → keys < 2 ^ 61
-  finish_low caller node keys lawful =
-      let can = lawful.enabled.1 in
+  finish_low caller node keys lawful = let can = lawful.enabled.1 in
       let is = changed_at-same (state_of pairs words log).pieces node
       (with_status (finished_word keys)) ∙ ap (option_map (with_status (finished_word keys)))
       can.published in

@@ -20,10 +20,8 @@ pub tells : (xs : List Tested) (ss : List Stated) (o : Option Condition) → Tes
 tells [] [] None t f = tt
 tells [] [] (Some c) t f = f
 tells (x ∷ xs) (s ∷ ss) None t f = (t.1.0 f.0, tells xs ss None t.2 f.1)
-tells (x ∷ xs) (s ∷ ss) (Some c) t f =
-    ⊎_elim
+tells (x ∷ xs) (s ∷ ss) (Some c) t f = ⊎_elim
     (λ here. inl (here.0 ∙ t.0, λ holds. here.1 (t.1.1 holds)))
-    (λ rest. inr (t.1.0 rest.0, tells xs ss (Some c) t.2 rest.1))
-    f
+    (λ rest. inr (t.1.0 rest.0, tells xs ss (Some c) t.2 rest.1)) f
 tells [] (s ∷ ss) o t f = absurd t
 tells (x ∷ xs) [] o t f = absurd t

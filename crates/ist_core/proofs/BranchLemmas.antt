@@ -1,13 +1,11 @@
 -- In a tree that lists each of its rows once, each row hangs in one slot. Serves the conjunct
 -- `one_home`.
-use Rattle.std.proofs.Common.{◌≡◌, ℕ, zero, suc, ◌⊎◌, List, [], ◌∷◌, ◌++◌, slice_get, Some, refl, sym, ap, ◌∙◌, subst, inl, inr, ⊎_elim}
-use Rattle.ist_core.specs.declared.states.InnerRow.{InnerRow}
-use Rattle.ist_core.specs.References.{Ref, InnerAt, ref_of}
-use Rattle.ist_core.specs.Elements.{Among, Distinct}
-use Rattle.ist_core.specs.Pieces.{Pieces, Inner}
-use Rattle.ist_core.proofs.ElementLemmas.{among-append, among_left, among_right}
+use Rattle.std.proofs.Common.{◌≡◌, ℕ, zero, suc, ◌⊎◌, List, [], ◌∷◌, ◌++◌, slice_get, Some, refl, sym, ap, ◌∙◌, subst, inl, inr, ⊎_elim, arith}
+use Rattle.ist_core.specs.Types.{InnerRow}
+use Rattle.ist_core.specs.WordTerms.{Ref, InnerAt, ref_of, Pieces, Inner}
+use Rattle.ist_core.specs.LogTerms.{Among, Distinct}
+use Rattle.ist_core.proofs.OptionLemmas.{among-append, among_left, among_right, same_inner}
 use Rattle.ist_core.proofs.TreeLemmas.{IsTree, AreTrees, tree_none, tree_unset, tree_leaf, tree_row, no_tree, one_tree}
-use Rattle.ist_core.proofs.OptionLemmas.{same_inner}
 
 -- ---- lists without an element twice
 
@@ -24,8 +22,7 @@ distinct_right (x ∷ xs) ys h = distinct_right xs ys h.1
 -- if a joined list has no element twice, its parts share none
 pub distinct_apart : (xs ys : List ℕ) (m : ℕ) → Distinct (xs ++ ys) → Among m xs → Among m ys → ⊥
 distinct_apart [] ys m h a b = a
-distinct_apart (x ∷ xs) ys m h (inl e) b = h.0
-    (subst (λ y. Among y (xs ++ ys)) e (among_right m xs ys b))
+distinct_apart (x ∷ xs) ys m h (inl e) b = grind (arith, among_right)
 distinct_apart (x ∷ xs) ys m h (inr a) b = distinct_apart xs ys m h.1 a b
 
 -- all but the first
@@ -51,15 +48,7 @@ pub record NamesIn (ps : Pieces) (rows : List ℕ) (node i child : ℕ) : Type 0
 -- a row that is named among some rows is named among others that have its node
 within : (ps : Pieces) (rows more : List ℕ) (node i child : ℕ) → NamesIn ps rows node i child
     → Among node more → NamesIn ps more node i child
-within ps rows more node i child h a = record {
-  among = a;
-  row = h.row;
-  published = h.published;
-  word = h.word;
-  in_slot = h.in_slot;
-  reads =
-      h.reads;
-}
+within ps rows more node i child h a = grind arith
 
 -- the row that a tree hangs by is its first
 named_first : (ps : Pieces) (ref : Ref) (above : ℕ) (rows : List ℕ) (child : ℕ)
@@ -72,8 +61,7 @@ named_first ps _ above _ child (tree_row {base = base} {rows = rows} r p higher 
 
 named_among : (ps : Pieces) (ref : Ref) (above : ℕ) (rows : List ℕ) (child : ℕ)
     → IsTree ps ref above rows → ref ≡ InnerAt child → Among child rows
-named_among ps ref above rows child t e = let it = named_first ps ref above rows child t e in subst
-    (λ xs. Among child xs) (sym it.1) (inl refl)
+named_among ps ref above rows child t e = grind (arith, named_first)
 
 -- what a slot of the list names is one of its rows
 slot_among : (ps : Pieces) (words : List ℕ) (above : ℕ) (rows : List ℕ) (i word child : ℕ)
@@ -82,9 +70,7 @@ slot_among : (ps : Pieces) (words : List ℕ) (above : ℕ) (rows : List ℕ) (i
 slot_among ps _ above _ i word child no_tree e k = absurd (cc)
 slot_among ps _ above _ zero word child
     (one_tree {word = w} {here = here} {rest = rest} ref is first more) e k =
-    let same : w ≡ word = cc in
-    among_left child here rest (named_among ps ref above here child first
-    (cc (ap ref_of same ∙ k)))
+    grind (arith, among_left, named_among)
 slot_among ps _ above _ (suc i) word child
     (one_tree {words = words} {here = here} {rest = rest} ref is first more) e k =
     among_right child here rest (slot_among ps words above rest i word child more e k)
@@ -134,14 +120,11 @@ first_apart ps ref above rows node i child t d e h =
 -- the row that a slot of the list names is named by none of the trees' rows
 slots_apart : (ps : Pieces) (words : List ℕ) (above : ℕ) (rows : List ℕ) (j word node i child : ℕ)
     → AreTrees ps words above rows → Distinct rows → slice_get words j ≡ Some word
-    → ref_of word ≡ Some (InnerAt child)
-    → NamesIn ps rows node i child → ⊥
+    → ref_of word ≡ Some (InnerAt child) → NamesIn ps rows node i child → ⊥
 slots_apart ps _ above _ j word node i child no_tree d e k h = absurd h.among
 slots_apart ps _ above _ zero word node i child
     (one_tree {word = w} {words = words} {here = here} {rest = rest} ref is first more) d e k h =
-    let same : w ≡ word = cc in
-    let named : ref ≡ InnerAt child = cc (ap ref_of same ∙ k) in
-    ⊎_elim
+    let same : w ≡ word = cc in let named : ref ≡ InnerAt child = cc (ap ref_of same ∙ k) in ⊎_elim
     (λ a. first_apart ps ref above here node i child first (distinct_left here rest d) named
     (within ps (here ++ rest) here node i child h a))
     (λ a. distinct_apart here rest child d (named_among ps ref above here child first named)
@@ -257,19 +240,16 @@ HangsIn ps parent at ref rows node i child = ((node ≡ parent) × (i ≡ at) ×
 pub hangs_among : (ps : Pieces) (parent at : ℕ) (ref : Ref) (above : ℕ) (rows : List ℕ)
     (node i child : ℕ)
     → IsTree ps ref above rows → HangsIn ps parent at ref rows node i child → Among child rows
-hangs_among ps parent at ref above rows node i child t (inl h) = named_among ps ref above rows child
-    t h.2
+hangs_among ps parent at ref above rows node i child t (inl h) = grind (arith, named_among)
 hangs_among ps parent at ref above rows node i child t (inr h) = among_after rows child
     (below_first ps ref above rows node i child t h)
 
 -- what hangs in a tree hangs in only one slot of it
 pub hangs_once : (ps : Pieces) (parent at : ℕ) (ref : Ref) (above : ℕ) (rows : List ℕ)
-    (n i k j child : ℕ)
-    → IsTree ps ref above rows → Distinct rows
+    (n i k j child : ℕ) → IsTree ps ref above rows → Distinct rows
     → HangsIn ps parent at ref rows n i child → HangsIn ps parent at ref rows k j child
     → (n ≡ k) × (i ≡ j)
-hangs_once ps parent at ref above rows n i k j child t d (inl h) (inl l) =
-    (h.0 ∙ sym l.0, h.1 ∙ sym l.1)
+hangs_once ps parent at ref above rows n i k j child t d (inl h) (inl l) = grind arith
 hangs_once ps parent at ref above rows n i k j child t d (inl h) (inr l) = absurd
     (first_apart ps ref above rows k j child t d h.2 l)
 hangs_once ps parent at ref above rows n i k j child t d (inr h) (inl l) = absurd

@@ -1,15 +1,8 @@
 -- Callers are only added, and only by Enters. Serves each law about known callers.
-use Rattle.std.proofs.Common.{List, None, Option, Some, [], arith, inl, inr, refl, ℕ, ⊎_elim, ◌+◌, ◌<◌, ◌∷◌, ◌≡◌, ◌⊎◌}
-use Rattle.ist_core.specs.declared.events.Event.TheVariants.{Enter, Install, Resolve}
-use Rattle.ist_core.specs.declared.events.Event.{Event}
-use Rattle.ist_core.specs.declared.events.Who.TheVariants.{Maker}
-use Rattle.ist_core.specs.declared.lists.Row.{Row}
-use Rattle.ist_core.specs.declared.states.ChangeRow.{ChangeRow}
-use Rattle.ist_core.specs.After.{installed, resolved, with_change}
-use Rattle.ist_core.specs.Authors.{whose}
-use Rattle.ist_core.specs.Logs.{Log, state}
-use Rattle.ist_core.specs.Pieces.{as_change, change_of}
-use Rattle.ist_core.specs.Snapshots.{Snapshot}
+use Rattle.std.proofs.Common.{List, None, Option, Some, [], arith, inl, inr, refl, ℕ, ◌+◌, ◌<◌, ◌∷◌, ◌≡◌, ◌⊎◌}
+use Rattle.ist_core.specs.Types.{Enter, Install, Resolve, Event, Maker, Row, ChangeRow}
+use Rattle.ist_core.specs.LogTerms.{installed, resolved, with_change, whose, Log, state, Snapshot}
+use Rattle.ist_core.specs.WordTerms.{change_of}
 
 -- a change that is published adds no caller
 callers-with_change : (t : Snapshot) (base : ℕ) (fresh : List Row) (change : Option ChangeRow)
@@ -35,16 +28,11 @@ pub callers_step : (first : Snapshot) (log : Log) (event : Event)
     × ((state first (event ∷ log)).callers ≡ (state first log).callers + 1))
     ⊎ ((state first (event ∷ log)).callers ≡ (state first log).callers)
 callers_step first log (Enter caller) = inl (refl, refl)
-callers_step first log (Install caller base rows) =
-    inr (callers-installed (state first log) base rows)
-callers_step first log (Resolve caller base) =
-    inr (callers-resolved (state first log) (as_change ((state first log).pieces base)))
+callers_step first log (Install caller base rows) = grind (arith, callers-installed)
+callers_step first log (Resolve caller base) = grind (arith, callers-resolved)
 callers_step first log _ = inr refl
 
 -- a known caller stays known over an event
 pub known_step : (first : Snapshot) (log : Log) (event : Event) (caller : ℕ)
-    → caller < (state first log).callers
-    → caller < (state first (event ∷ log)).callers
-known_step first log event caller low =
-    ⊎_elim (λ more. let le = more.1 in omega arith) (λ same. omega arith)
-    (callers_step first log event)
+    → caller < (state first log).callers → caller < (state first (event ∷ log)).callers
+known_step first log event caller low = grind (arith, callers_step)

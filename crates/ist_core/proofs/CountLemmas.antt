@@ -1,21 +1,12 @@
 -- A row counts at most what was decided yes, so no count reaches the end of a word. Serves
 -- `laws.counts_are_low`.
-use Rattle.std.proofs.Common.{◌≡◌, ◌≢◌, ℕ, ◌+◌, ◌≤◌, ◌⊎◌, ◌==◌, if◌then◌else◌, Bool, true, false, not, List, [], ◌∷◌, ◌++◌, length, filter, Option, Some, None, refl, sym, ap, ◌∙◌, subst, inl, inr, arith, length-append}
+use Rattle.std.proofs.Common.{◌≡◌, ◌≢◌, ℕ, ◌+◌, ◌≤◌, ◌⊎◌, ◌==◌, if◌then◌else◌, Bool, true, false, not, List, [], ◌∷◌, ◌++◌, length, filter, Option, Some, None, sym, subst, inl, inr, arith, length-append}
 use Rattle.std.proofs.lemmas.Bool.Decides.{nat_tests, eqb_tells}
-use Rattle.ist_core.specs.declared.pairs.Pair.{Pair}
-use Rattle.ist_core.specs.declared.states.ChangeRow.{ChangeRow}
-use Rattle.ist_core.specs.declared.events.Event.{Event}
-use Rattle.ist_core.specs.declared.events.Event.TheVariants.{Enter, Reserve, Install, Okay, Decide, Resolve, Count, Mark, Pass, Finish, Root, Draw, Place, Lose}
-use Rattle.ist_core.specs.Elements.{Among}
-use Rattle.ist_core.specs.Pieces.{Piece, Leaf, Inner, Change, Rebuild}
-use Rattle.ist_core.specs.Snapshots.{Snapshot}
-use Rattle.ist_core.specs.StartLayout.{start}
-use Rattle.ist_core.specs.Logs.{Log, state, Happened, Counts, GoesOn, same_log, one_event}
-use Rattle.ist_core.specs.Deciding.{CanCount}
-use Rattle.ist_core.specs.Growing.{ChangeGrows}
-use Rattle.ist_core.specs.Lawful.{EachEnabled, state_of}
-use Rattle.ist_core.specs.Limits.{decided_yes_in}
-use Rattle.ist_core.proofs.ElementLemmas.{among_filter, among_left, among_right}
+use Rattle.ist_core.specs.Types.{Pair, ChangeRow, Event, Enter, Reserve, Install, Okay, Decide, Resolve, Count, Mark, Pass, Finish, Root, Draw, Place, Lose}
+use Rattle.ist_core.specs.LogTerms.{Among, Snapshot, Log, state, Happened, Counts, GoesOn, same_log, one_event, EachEnabled, state_of}
+use Rattle.ist_core.specs.WordTerms.{Piece, Leaf, Inner, Change, Rebuild, start, decided_yes_in}
+use Rattle.ist_core.specs.TreeTerms.{CanCount, ChangeGrows}
+use Rattle.ist_core.proofs.OptionLemmas.{among_filter, among_left, among_right}
 use Rattle.ist_core.proofs.GrowingLemmas.{change_there}
 use Rattle.ist_core.proofs.FateLemmas.{enabled_before, grow_between}
 use Rattle.ist_core.proofs.PrefixLemmas.{goes_on_more, goes_on-append}
@@ -65,31 +56,22 @@ drop_one x (y ∷ ys) i = at (λ j. drop_one x ys j) (y == x) (eqb_tells y x) i
     at : (Among x ys → length (drop_all x ys) + 1 ≤ length ys) → (v : Bool)
         → (((y == x) ≡ true) × (y ≡ x)) ⊎ (((y == x) ≡ false) × (y ≢ x)) → Among x (y ∷ ys)
         → length (drop_all x (y ∷ ys)) + 1 ≤ length (y ∷ ys)
-    at again v (inl k) j =
-        let rest = drop_shorter x ys in
+    at again v (inl k) j = let rest = drop_shorter x ys in
         subst (λ b. length (if not b then y ∷ drop_all x ys else drop_all x ys) + 1 ≤ length
         (y ∷ ys)) (sym k.0) (omega arith)
     at again v (inr k) (inl e) = absurd (k.1 (sym e))
-    at again v (inr k) (inr j) =
-        let rest = again j in
+    at again v (inr k) (inr j) = let rest = again j in
         subst (λ b. length (if not b then y ∷ drop_all x ys else drop_all x ys) + 1 ≤ length
         (y ∷ ys)) (sym k.0) (omega arith)
 
 -- another number stays
 drop_keeps : (x c : ℕ) (xs : List ℕ) → c ≢ x → Among c xs → Among c (drop_all x xs)
-drop_keeps x c xs ne i = among_filter (λ y. not (y == x)) c xs i (other (c == x) refl)
-  where
-    other : (v : Bool) → (c == x) ≡ v → not (c == x) ≡ true
-    other true e = absurd (ne (grind (arith, nat_tests)))
-    other false e = ap not e
+drop_keeps x c xs ne i = grind (arith, among_filter, nat_tests)
 
 -- a change that grew is still the caller's
 same_owner : (o : Option Piece) (old r s : ChangeRow) (caller : ℕ) → ChangeGrows old r
-    → o ≡ Some (Change r)
-    → o ≡ Some (Change s) → s.owner ≡ caller → old.owner ≡ caller
-same_owner o old r s caller grows e f owned =
-    let one : r ≡ s = cc in
-    sym (ap (λ c. c.owner) grows.others) ∙ ap (λ c. c.owner) one ∙ owned
+    → o ≡ Some (Change r) → o ≡ Some (Change s) → s.owner ≡ caller → old.owner ≡ caller
+same_owner o old r s caller grows e f owned = grind arith
 
 -- ---- each Count has a change of its own
 
@@ -99,23 +81,8 @@ module _ (pairs : List Pair) (words : ℕ) (node : ℕ) where
       → Among caller (waiting (start pairs words) node log)
       → Among caller (waiting (start pairs words) node (event ∷ log))
   unfolding waiting
-  waiting_on log (Decide c base true) caller none i =
-      among_right caller (owner_of ((state_of pairs words log).pieces base))
-      (waiting (start pairs words) node log) i
-  waiting_on log (Count c at) caller none i = here (at == node) (eqb_tells at node)
-    where
-      here : (v : Bool)
-          → (((at == node) ≡ true) × (at ≡ node)) ⊎ (((at == node) ≡ false) × (at ≢ node))
-          → Among caller
-          (if at == node then drop_all c (waiting (start pairs words) node log) else waiting
-          (start pairs words) node log)
-      here v (inl k) =
-          subst (λ b. Among caller (if b then drop_all c (waiting (start pairs words) node log) else
-          waiting (start pairs words) node log)) (sym k.0)
-          (drop_keeps c caller (waiting (start pairs words) node log) (λ e. none (sym e, k.1)) i)
-      here v (inr k) =
-          subst (λ b. Among caller (if b then drop_all c (waiting (start pairs words) node log) else
-          waiting (start pairs words) node log)) (sym k.0) i
+  waiting_on log (Decide c base true) caller none i = grind (arith, among_right)
+  waiting_on log (Count c at) caller none i = grind (arith, eqb_tells, drop_keeps)
   waiting_on log _ caller none i = i
 
   -- a caller whose last change wasn't counted here is waiting
@@ -124,9 +91,7 @@ module _ (pairs : List Pair) (words : ℕ) (node : ℕ) where
       → Among caller (owner_of ((state_of pairs words earlier).pieces base))
       → Among caller (waiting (start pairs words) node (later ++ Decide by base true ∷ earlier))
   unfolding waiting
-  waits [] by base earlier caller none i = among_left caller
-      (owner_of ((state_of pairs words earlier).pieces base))
-      (waiting (start pairs words) node earlier) i
+  waits [] by base earlier caller none i = grind (arith, among_left)
   waits (event ∷ later) by base earlier caller none i =
       waiting_on (later ++ Decide by base true ∷ earlier) event caller (λ k. none (inl k))
       (waits later by base earlier caller (λ k. none (inr k)) i)
@@ -135,8 +100,7 @@ module _ (pairs : List Pair) (words : ℕ) (node : ℕ) where
   counter_waits : (log : Log) (caller : ℕ) → EachEnabled (start pairs words) log
       → CanCount (start pairs words) log caller node
       → Among caller (waiting (start pairs words) node log)
-  counter_waits log caller h can =
-      let earlier = can.earlier in
+  counter_waits log caller h can = let earlier = can.earlier in
       let whole = Decide can.by can.base true ∷ earlier in
       let on : GoesOn whole log = subst (λ l. GoesOn whole l) (sym can.log_is)
       (goes_on-append can.later whole) in
@@ -165,8 +129,7 @@ module _ (pairs : List Pair) (words : ℕ) (node : ℕ) where
       (decided_yes_in log)
   unfolding counts waiting
   counts_few [] h = omega arith
-  counts_few (Decide c base true ∷ log) h =
-      let before = counts_few log h.0 in
+  counts_few (Decide c base true ∷ log) h = let before = counts_few log h.0 in
       let few = owner_few ((state_of pairs words log).pieces base) in
       let both = length-append (owner_of ((state_of pairs words log).pieces base))
       (waiting (start pairs words) node log) in
@@ -187,8 +150,7 @@ module _ (pairs : List Pair) (words : ℕ) (node : ℕ) where
           + length (if at == node then drop_all c (waiting (start pairs words) node log) else
           waiting (start pairs words) node log)
           ≤ length (decided_yes_in log)
-      here before less v (inl k) =
-          let one = less k.1 in
+      here before less v (inl k) = let one = less k.1 in
           subst (λ b. (if b then counts node log + 1 else counts node log)
           + length (if b then drop_all c (waiting (start pairs words) node log) else waiting
           (start pairs words) node log)

@@ -1,27 +1,14 @@
 -- Each caller draws past the last part once. Serves `laws.draws_are_low`.
 use Rattle.std.proofs.Common.{◌≡◌, ◌≢◌, ℕ, ◌+◌, ◌<◌, ◌≤◌, ◌⊎◌, ◌==◌, nat_le, if◌then◌else◌, true, false, List, [], ◌∷◌, Some, refl, sym, ap, ◌∙◌, subst, inl, inr, ⊎_elim, arith}
 use Rattle.std.proofs.lemmas.Bool.Decides.{eqb_tells, leb_tells}
-use Rattle.ist_core.specs.declared.pairs.Pair.{Pair}
-use Rattle.ist_core.specs.declared.states.RebuildRow.{RebuildRow}
-use Rattle.ist_core.specs.declared.events.Event.{Event}
-use Rattle.ist_core.specs.declared.events.Event.TheVariants.{Enter, Reserve, Install, Okay, Decide, Resolve, Count, Mark, Pass, Finish, Root, Draw, Place, Lose}
-use Rattle.ist_core.specs.Arithmetic.{degree}
-use Rattle.ist_core.specs.Statuses.{finished_word}
-use Rattle.ist_core.specs.Elements.{Among, Each, Distinct}
-use Rattle.ist_core.specs.Pieces.{Rebuild, as_change}
-use Rattle.ist_core.specs.Snapshots.{Snapshot}
-use Rattle.ist_core.specs.StartLayout.{start}
-use Rattle.ist_core.specs.Logs.{Log, state, Happened, Draws}
-use Rattle.ist_core.specs.Rebuilding.{IsFinishedWith}
-use Rattle.ist_core.specs.Building.{CanDraw}
-use Rattle.ist_core.specs.Enabled.{Enabled, caller_limit}
-use Rattle.ist_core.specs.Growing.{StatusGoesOn, status_stays, is_marked, is_finished, is_closed, AllGrow}
-use Rattle.ist_core.specs.Lawful.{EachEnabled, state_of}
+use Rattle.ist_core.specs.Types.{Pair, RebuildRow, Event, Enter, Reserve, Install, Okay, Decide, Resolve, Count, Mark, Pass, Finish, Root, Draw, Place, Lose}
+use Rattle.ist_core.specs.WordTerms.{degree, finished_word, Rebuild, start}
+use Rattle.ist_core.specs.LogTerms.{Among, Each, Distinct, Snapshot, Log, state, Happened, Draws, Enabled, caller_limit, EachEnabled, state_of}
+use Rattle.ist_core.specs.TreeTerms.{IsFinishedWith, CanDraw, StatusGoesOn, status_stays, is_marked, is_finished, is_closed, AllGrow}
 use Rattle.ist_core.proofs.CallerLemmas.{callers-installed, callers-resolved}
 use Rattle.ist_core.proofs.SoundLemmas.{sound}
-use Rattle.ist_core.proofs.StartLemmas.{sound_start}
+use Rattle.ist_core.proofs.StepLemmas.{sound_start, grow_step}
 use Rattle.ist_core.proofs.GrowingLemmas.{inner_there, rebuild_there}
-use Rattle.ist_core.proofs.StepLemmas.{grow_step}
 use Rattle.ist_core.proofs.YesLemmas.{distinct_below}
 use Rattle.ist_core.proofs.DrawnLemmas.{past, drawn_at_most}
 use Rattle.ist_core.proofs.OptionLemmas.{same_inner, same_rebuild}
@@ -38,27 +25,16 @@ callers_same t u e = record { more = omega arith; few = λ h. subst (λ n. n ≤
 
 callers_go_on : (first : Snapshot) (log : Log) (event : Event) → Enabled first log event
     → CallersOnlyGrow (state first log) (state first (event ∷ log))
-callers_go_on first log (Enter caller) h = let is = h.number in let low = h.below_limit in record
-    { more = omega arith; few = λ k. below (state first log).callers caller is low }
-  where
-    below : (n caller : ℕ) → caller ≡ n → caller < caller_limit → n + 1 ≤ caller_limit
-    below n caller e l = subst (λ m. m + 1 ≤ caller_limit) e (next_le caller caller_limit l)
-      where
-        next_le : (a b : ℕ) → a < b → a + 1 ≤ b
-        next_le a b l = omega arith
+callers_go_on first log (Enter caller) h = grind arith
 callers_go_on first log (Install caller base rows) h = callers_same _ _
     (callers-installed (state first log) base rows)
-callers_go_on first log (Resolve caller base) h = callers_same _ _
-    (callers-resolved (state first log) (as_change ((state first log).pieces base)))
+callers_go_on first log (Resolve caller base) h = grind (arith, callers_same, callers-resolved)
 callers_go_on first log _ h = callers_same _ _ refl
 
 -- there are at most as many callers as the limit
 pub callers_low : (pairs : List Pair) (words : ℕ) (log : Log) → EachEnabled (start pairs words) log
     → (state_of pairs words log).callers ≤ caller_limit
-callers_low pairs words [] h = none caller_limit
-  where
-    none : (n : ℕ) → 0 ≤ n
-    none n = omega arith
+callers_low pairs words [] h = grind arith
 callers_low pairs words (event ∷ log) h = (callers_go_on (start pairs words) log event h.1).few
     (callers_low pairs words log h.0)
 
@@ -72,37 +48,24 @@ finished_on k status (is_closed n e f) = absurd (omega arith)
 
 -- a row that is finished with k keys stays so as rows grow
 pub finished_grows : (t u : Snapshot) (node k : ℕ) → AllGrow t.pieces u.pieces → IsFinishedWith t
-    node k
-    → IsFinishedWith u node k
-finished_grows t u node k g h =
-    let it = inner_there t.pieces u.pieces g node h.row h.published in
-    record {
-      row = it.0;
-      published = it.1;
-      status = finished_on k it.0.status
-          (subst (λ s. StatusGoesOn s it.0.status) h.status it.2.status);
-    }
+    node k → IsFinishedWith u node k
+finished_grows t u node k g h = grind (arith, inner_there, finished_on)
 
 -- a row is finished with one number
 pub finished_once : (t : Snapshot) (node j k : ℕ) → IsFinishedWith t node j → IsFinishedWith t node k
     → j ≡ k
-finished_once t node j k h l =
-    let same = same_inner (t.pieces node) h.row l.row h.published l.published in
-    let words : finished_word j ≡ finished_word k = sym h.status ∙ ap (λ r. r.status) same ∙ l.status in
-    omega arith
+finished_once t node j k h l = grind (arith, same_inner)
 
 module _ (pairs : List Pair) (words rebuild last : ℕ) where
   -- whenever the rebuild's target is finished, the last part is the one for its number of keys
   LastIs : Log → Type 0
   LastIs log = (row : RebuildRow) (k : ℕ) → (state_of pairs words log).pieces rebuild ≡ Some
-      (Rebuild row)
-      → IsFinishedWith (state_of pairs words log) row.target k → degree k ≡ last
+      (Rebuild row) → IsFinishedWith (state_of pairs words log) row.target k → degree k ≡ last
 
   last_before : (log : Log) (event : Event) → EachEnabled (start pairs words) (event ∷ log)
       → LastIs (event ∷ log) → LastIs log
   unfolding LastIs
-  last_before log event h is row k e f =
-      let t = state_of pairs words log in
+  last_before log event h is row k e f = let t = state_of pairs words log in
       let u = state_of pairs words (event ∷ log) in
       let grows = grow_step (start pairs words) log event h.1
       (sound (start pairs words) log (sound_start pairs words) h.0) in
@@ -123,8 +86,7 @@ module _ (pairs : List Pair) (words rebuild last : ℕ) where
           → (((at == rebuild) ≡ true) × (at ≡ rebuild)) ⊎
           (((at == rebuild) ≡ false) × (at ≢ rebuild))
           → ((nat_le last part ≡ true) × (last ≤ part)) ⊎
-          ((nat_le last part ≡ false) × (part < last))
-          → Among caller
+          ((nat_le last part ≡ false) × (part < last)) → Among caller
           (if at == rebuild then (if nat_le last part then c ∷ past rebuild last log else past
           rebuild last log) else past rebuild last log)
           → (p : ℕ) × Happened (Draws caller rebuild p) (Draw c at part ∷ log) × (last ≤ p)
@@ -140,9 +102,7 @@ module _ (pairs : List Pair) (words rebuild last : ℕ) where
           (if nat_le last part then c ∷ past rebuild last log else past rebuild last log) else
           past rebuild last log)) k.0 j)) in
           (it.0, inr it.1, it.2)
-      here again (inl k) (inl l) j =
-          ⊎_elim
-          (λ e. (part, inl (sym e, k.1, refl), l.1))
+      here again (inl k) (inl l) j = ⊎_elim (λ e. (part, inl (sym e, k.1, refl), l.1))
           (λ m. let it = again m in (it.0, inr it.1, it.2))
           (subst (λ b. Among caller (if b then c ∷ past rebuild last log else past rebuild last
           log)) l.0
@@ -180,14 +140,12 @@ module _ (pairs : List Pair) (words rebuild last : ℕ) where
   past_draw log c at part can is once = here (eqb_tells at rebuild) (leb_tells last part)
     where
       fresh : at ≡ rebuild → ¬ (Among c (past rebuild last log))
-      fresh e i =
-          let it = past_drew log c i in
+      fresh e i = let it = past_drew log c i in
           let below = can.not_past it.0 (subst (λ o. Happened (Draws c o it.0) log) (sym e) it.1) in
           let same = is can.row can.k (subst
           (λ b. (state_of pairs words log).pieces b ≡ Some (Rebuild can.row)) e can.published)
           can.finished in
-          let past_it = it.2 in
-          omega arith
+          let past_it = it.2 in omega arith
 
       Both : List ℕ → Type 0
       Both xs = Each (λ x. x < (state_of pairs words log).callers) xs × Distinct xs
@@ -216,8 +174,7 @@ module _ (pairs : List Pair) (words rebuild last : ℕ) where
       → past rebuild last (event ∷ log) ≡ past rebuild last log → PastOnce log
       → PastOnce (event ∷ log)
   unfolding PastOnce
-  past_on log event h same once =
-      let go = callers_go_on (start pairs words) log event h in
+  past_on log event h same once = let go = callers_go_on (start pairs words) log event h in
       subst (λ xs. Each (λ c. c < (state_of pairs words (event ∷ log)).callers) xs × Distinct xs)
       (sym same) (
         each_wider (state_of pairs words log).callers (state_of pairs words (event ∷ log)).callers
@@ -263,8 +220,7 @@ module _ (pairs : List Pair) (words rebuild last : ℕ) where
       → IsFinishedWith (state_of pairs words log) row.target k → degree k ≡ last
       → row.draw ≤ last + (state_of pairs words log).callers
   unfolding LastIs PastOnce
-  few_draws log h row k e f is =
-      let ps = (state_of pairs words log).pieces in
+  few_draws log h row k e f is = let ps = (state_of pairs words log).pieces in
       let last_is : LastIs log = λ other j g l.
       let same = same_rebuild (ps rebuild) other row g e in
       ap degree (finished_once (state_of pairs words log) row.target j k
@@ -272,5 +228,4 @@ module _ (pairs : List Pair) (words rebuild last : ℕ) where
       let once = past_once log h last_is in
       let few = distinct_below (state_of pairs words log).callers (past rebuild last log) once.1
       once.0 in
-      let most = drawn_at_most rebuild last pairs words log h (Rebuild row) e in
-      omega arith
+      let most = drawn_at_most rebuild last pairs words log h (Rebuild row) e in omega arith

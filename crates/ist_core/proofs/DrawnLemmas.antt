@@ -2,20 +2,12 @@
 -- `laws.draws_are_low`.
 use Rattle.std.proofs.Common.{◌≡◌, ◌≢◌, ℕ, ◌+◌, ◌<◌, ◌≤◌, ◌⊎◌, ◌==◌, nat_le, if◌then◌else◌, true, false, List, [], ◌∷◌, length, Some, option_map, refl, sym, ap, ◌∙◌, subst, inl, inr, ⊎_elim, arith}
 use Rattle.std.proofs.lemmas.Bool.Decides.{eqb_tells, leb_tells}
-use Rattle.ist_core.specs.declared.pairs.Pair.{Pair}
-use Rattle.ist_core.specs.declared.states.RebuildRow.{RebuildRow}
-use Rattle.ist_core.specs.declared.events.Event.{Event}
-use Rattle.ist_core.specs.declared.events.Event.TheVariants.{Count, Mark, Finish, Root, Draw}
-use Rattle.ist_core.specs.Pieces.{Pieces, Piece, Rebuild, changed_at, drawn}
-use Rattle.ist_core.specs.StartLayout.{start}
-use Rattle.ist_core.specs.Logs.{Log}
-use Rattle.ist_core.specs.Lawful.{EachEnabled, state_of}
-use Rattle.ist_core.proofs.RowLemmas.{changed_at-same, changed_at-some}
-use Rattle.ist_core.proofs.RowNumberLemmas.{NumberAtMost, number_in, number_kept, start_fresh}
-use Rattle.ist_core.proofs.FieldLemmas.{LeavesField}
-use Rattle.ist_core.proofs.RowFieldLemmas.{status_same, root_same, count_same}
-use Rattle.ist_core.specs.Statuses.{marked_word, finished_word}
-use Rattle.ist_core.proofs.OptionLemmas.{same_value}
+use Rattle.ist_core.specs.Types.{Pair, RebuildRow, Event, Count, Mark, Finish, Root, Draw}
+use Rattle.ist_core.specs.WordTerms.{Pieces, Piece, Rebuild, changed_at, drawn, start}
+use Rattle.ist_core.specs.LogTerms.{Log, EachEnabled, state_of}
+use Rattle.ist_core.proofs.OptionLemmas.{changed_at-same, changed_at-some, same_value}
+use Rattle.ist_core.proofs.ParentLemmas.{NumberAtMost, number_in, number_kept, start_fresh}
+use Rattle.ist_core.proofs.FieldLemmas.{LeavesField, status_same, root_same, count_same}
 
 -- the draw word of a row, or 0 if it isn't a rebuild
 abbrev draw_in : Piece → ℕ
@@ -48,15 +40,13 @@ module _ (rebuild last : ℕ) where
           ((nat_le last part ≡ false) × (part < last))
           → draw_in q ≤ last + length
           (if at == rebuild then (if nat_le last part then caller ∷ others else others) else others)
-      here (inr k) l =
-          let it = changed_at-some ps at rebuild drawn q e in
+      here (inr k) l = let it = changed_at-some ps at rebuild drawn q e in
           let before = old it.0 it.1 in
           subst (λ b. draw_in q ≤ last + length
           (if b then (if nat_le last part then caller ∷ others else others) else others))
           (sym k.0)
           (⊎_elim (λ m. let same = ap draw_in m in omega arith) (λ m. absurd (k.1 (sym m.0))) it.2)
-      here (inl k) l =
-          let at_rebuild = subst (λ b. ps b ≡ Some (Rebuild r)) k.1 there in
+      here (inl k) l = let at_rebuild = subst (λ b. ps b ≡ Some (Rebuild r)) k.1 there in
           let before = old (Rebuild r) at_rebuild in
           let now = changed_at-same ps at drawn ∙ ap (option_map drawn) there in
           let same = ap draw_in (same_value (changed_at ps at drawn at) q (drawn (Rebuild r))
@@ -86,12 +76,9 @@ module _ (rebuild last : ℕ) where
   unfolding past
   most_step ps w (Draw c at part) log h = most_drawn (state_of ps w log).pieces at part c (past log)
       h.1.row h.1.published h.1.part_is
-  most_step ps w (Count c at) log h = kept ps w (Count c at) log
-      (count_same (λ _ _. 0) (λ _ n. n) 0 (λ _ _. refl)) h
-  most_step ps w (Mark c at) log h = kept ps w (Mark c at) log
-      (status_same (λ _ _. 0) (λ _ n. n) 0 (λ _ _ _. refl) marked_word) h
-  most_step ps w (Finish c at keys) log h = kept ps w (Finish c at keys) log
-      (status_same (λ _ _. 0) (λ _ n. n) 0 (λ _ _ _. refl) (finished_word keys)) h
+  most_step ps w (Count c at) log h = grind (arith, kept, count_same)
+  most_step ps w (Mark c at) log h = grind (arith, kept, status_same)
+  most_step ps w (Finish c at keys) log h = grind (arith, kept, status_same)
   most_step ps w (Root c r word rows) log h = kept ps w (Root c r word rows) log
       (root_same (λ _ _. 0) (λ _ n. n) 0 (λ _ _ _. refl) word) h
   most_step ps w event log h = kept ps w event log tt h

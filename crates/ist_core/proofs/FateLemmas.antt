@@ -1,27 +1,16 @@
 -- A row that was lost is gone for good, and published rows grow. Serves `laws.fates_are_one` and
 -- `laws.rows_grow`.
-use Rattle.std.proofs.Common.{◌≡◌, ◌≢◌, ℕ, ◌<◌, List, [], ◌∷◌, None, refl, sym, ap, subst, inl, inr, ⊎_elim, arith}
-use Rattle.ist_core.specs.declared.pairs.Pair.{Pair}
-use Rattle.ist_core.specs.declared.lists.HeldRow.{HeldRow}
-use Rattle.ist_core.specs.declared.events.Event.{Event}
-use Rattle.ist_core.specs.declared.events.Event.TheVariants.{Reserve, Lose}
-use Rattle.ist_core.specs.Elements.{Among}
-use Rattle.ist_core.specs.Snapshots.{Snapshot, HoldsRow}
-use Rattle.ist_core.specs.StartLayout.{start}
-use Rattle.ist_core.specs.After.{after}
-use Rattle.ist_core.specs.Logs.{Log, state, Happened, Loses, GoesOn, same_log, one_event}
-use Rattle.ist_core.specs.Building.{HoldsSizes, CanLose, LosesPair, LosesBuild}
-use Rattle.ist_core.specs.Enabled.{Enabled}
-use Rattle.ist_core.specs.Lawful.{EachEnabled, Lawful, state_of}
-use Rattle.ist_core.specs.Growing.{AllGrow}
-use Rattle.ist_core.proofs.ElementLemmas.{among-append}
+use Rattle.std.proofs.Common.{◌≡◌, ◌≢◌, ℕ, ◌<◌, List, [], ◌∷◌, None, refl, sym, ap, subst, inl, inr, ⊎_elim, arith, Some}
+use Rattle.ist_core.specs.Types.{Pair, HeldRow, Event, Reserve, Lose, ChangeRow, Okay}
+use Rattle.ist_core.specs.LogTerms.{Among, Snapshot, HoldsRow, after, Log, state, Happened, Loses, GoesOn, same_log, one_event, Enabled, EachEnabled, Lawful, state_of, Okays}
+use Rattle.ist_core.specs.WordTerms.{start, Change}
+use Rattle.ist_core.specs.TreeTerms.{HoldsSizes, CanLose, LosesPair, LosesBuild, AllGrow}
+use Rattle.ist_core.proofs.OptionLemmas.{among-append, no_value}
 use Rattle.ist_core.proofs.MoveLemmas.{HeldLieApart, Moves, without-kept}
 use Rattle.ist_core.proofs.SoundLemmas.{IsReserve, moves_or_reserves, sound}
-use Rattle.ist_core.proofs.StartLemmas.{sound_start}
-use Rattle.ist_core.proofs.GrowingLemmas.{all_grow_same, all_grow_on}
-use Rattle.ist_core.proofs.StepLemmas.{grow_step}
+use Rattle.ist_core.proofs.StepLemmas.{sound_start, grow_step}
+use Rattle.ist_core.proofs.GrowingLemmas.{all_grow_same, all_grow_on, change_there}
 use Rattle.ist_core.proofs.PlaceLemmas.{absent}
-use Rattle.ist_core.proofs.OptionLemmas.{no_value}
 
 -- no row lies at the base, none is held there, and none will be reserved there
 record IsGoneForGood (t : Snapshot) (base : ℕ) : Type 0 where
@@ -54,8 +43,7 @@ gone_now : (first : Snapshot) (log : Log) (event : Event) (base : ℕ) → Enabl
     → HeldLieApart (state first log) → Loses base event → IsGoneForGood (state first (event ∷ log)) base
 gone_now first log (Lose caller bases) base h s l =
     let it = lost_held (state first log) log caller base bases h l in
-    let row : HeldRow = record { caller = caller; base = base; size = it.0 } in
-    record {
+    let row : HeldRow = record { caller = caller; base = base; size = it.0 } in record {
       unpublished = s.unpublished row it.1;
       unheld = λ g i e. (without-kept bases (state first log).held g i).1
           (subst (λ b. Among b bases) (sym e) l);
@@ -66,42 +54,33 @@ gone_now first log _ base h s l = absurd l
 -- what is gone stays gone
 gone_moves : (t u : Snapshot) (event : Event) (base : ℕ) → Moves t u event → IsGoneForGood t base
     → IsGoneForGood u base
-gone_moves t u event base m g =
-    record {
-      unpublished = absent (u.pieces base) (λ p e.
-          ⊎_elim (λ q. no_value (t.pieces base) q.0 g.unpublished q.1) (λ h. g.unheld h.0 h.1 h.2)
-          (m.from base p e));
-      unheld = λ h i. g.unheld h (m.kept h i);
-      used = subst (λ n. base < n) (sym m.next) g.used;
-    }
+gone_moves t u event base m g = record {
+  unpublished = absent (u.pieces base) (λ p e.
+      ⊎_elim (λ q. no_value (t.pieces base) q.0 g.unpublished q.1) (λ h. g.unheld h.0 h.1 h.2)
+      (m.from base p e));
+  unheld = λ h i. g.unheld h (m.kept h i);
+  used = subst (λ n. base < n) (sym m.next) g.used;
+}
 
 gone_reserve : (first : Snapshot) (log : Log) (event : Event) (r : IsReserve first log event)
-    (base : ℕ)
-    → IsGoneForGood (state first log) base
+    (base : ℕ) → IsGoneForGood (state first log) base
     → IsGoneForGood (after (state first log) (Reserve r.caller r.base r.size)) base
-gone_reserve first log event r base g =
-    let is = r.can.base_is in
-    let low = g.used in
-    record {
-      unpublished = g.unpublished;
-      unheld = λ h i e.
-          ⊎_elim
-          (λ a. g.unheld h a e)
-          (λ a. ⊎_elim (λ f. let here : h.base ≡ r.base = ap (λ x. x.base) f in absurd
-          (omega arith)) (λ n. absurd n) a)
-          (among-append h (state first log).held
-          (record { caller = r.caller; base = r.base; size = r.size } ∷ []) i);
-      used = omega arith;
-    }
+gone_reserve first log event r base g = let is = r.can.base_is in let low = g.used in record {
+  unpublished = g.unpublished;
+  unheld = λ h i e. ⊎_elim (λ a. g.unheld h a e)
+      (λ a. ⊎_elim (λ f. let here : h.base ≡ r.base = ap (λ x. x.base) f in absurd
+      (omega arith)) (λ n. absurd n) a)
+      (among-append h (state first log).held
+      (record { caller = r.caller; base = r.base; size = r.size } ∷ []) i);
+  used = omega arith;
+}
 
 gone : (first : Snapshot) (log : Log) (base : ℕ) → HeldLieApart first → EachEnabled first log
     → Happened (Loses base) log → IsGoneForGood (state first log) base
 gone first [] base s h l = absurd l
 gone first (event ∷ log) base s h (inl now) = gone_now first log event base h.1
     (sound first log s h.0) now
-gone first (event ∷ log) base s h (inr before) =
-    let g = gone first log base s h.0 before in
-    ⊎_elim
+gone first (event ∷ log) base s h (inr before) = let g = gone first log base s h.0 before in ⊎_elim
     (λ m. gone_moves (state first log) (state first (event ∷ log)) event base m g)
     (λ r. subst (λ e. IsGoneForGood (after (state first log) e) base) (sym r.is)
     (gone_reserve first log event r base g))
@@ -110,8 +89,7 @@ gone first (event ∷ log) base s h (inr before) =
 -- no row is published at the base of a lost row
 pub lost_unpublished : (pairs : List Pair) (words : ℕ) (log : Log) → Lawful pairs words log
     → (base : ℕ) → Happened (Loses base) log → (state_of pairs words log).pieces base ≡ None
-lost_unpublished pairs words log h base l =
-    (gone (start pairs words) log base (sound_start pairs words) h.enabled l).unpublished
+lost_unpublished pairs words log h base l = grind (arith, gone, sound_start)
 
 -- a lost row isn't held
 pub lost_unheld : (pairs : List Pair) (words : ℕ) (log : Log) → Lawful pairs words log
@@ -142,5 +120,17 @@ grow_between pairs words earlier _ h (one_event {log = log} event g) =
 pub grow_after : (pairs : List Pair) (words : ℕ) (log : Log) (event : Event)
     → EachEnabled (start pairs words) (event ∷ log)
     → AllGrow (state_of pairs words log).pieces (state_of pairs words (event ∷ log)).pieces
-grow_after pairs words log event h = grow_step (start pairs words) log event h.1
-    (sound (start pairs words) log (sound_start pairs words) h.0)
+grow_after pairs words log event h = grind (arith, grow_step, sound, sound_start)
+
+-- ---- a change that got an Okay is a published row. Serves the frozen-slot law.
+
+-- a change with an Okay is published
+pub okay_published : (first : Snapshot) (log : Log) (base : ℕ) → HeldLieApart first
+    → EachEnabled first log → Happened (Okays base) log
+    → (r : ChangeRow) × ((state first log).pieces base ≡ Some (Change r))
+okay_published first [] base s h k = absurd k
+okay_published first (event ∷ log) base s h (inl now) = grind arith
+okay_published first (event ∷ log) base s h (inr before) =
+    let it = okay_published first log base s h.0 before in
+    let there = change_there (state first log).pieces (state first (event ∷ log)).pieces
+    (grow_step first log event h.1 (sound first log s h.0)) base it.0 it.1 in (there.0, there.1)

@@ -1,30 +1,16 @@
 -- A field of rows that few events write: its value after any other event is its value before.
 -- Serves the order law.
-use Rattle.std.proofs.Common.{◌≡◌, ◌≢◌, ℕ, ◌⊎◌, List, ◌∷◌, Some, sym, ap, ◌∙◌, subst, inl, inr, ⊎_elim}
-use Rattle.ist_core.specs.declared.lists.Row.{Row}
-use Rattle.ist_core.specs.declared.states.InnerRow.{InnerRow}
-use Rattle.ist_core.specs.declared.states.ChangeRow.{ChangeRow}
-use Rattle.ist_core.specs.declared.events.Event.{Event}
-use Rattle.ist_core.specs.declared.events.Event.TheVariants.{Install, Decide, Resolve, Count, Mark, Finish, Root, Draw, Place}
-use Rattle.ist_core.specs.References.{ChangeAt, word_of}
-use Rattle.ist_core.specs.Statuses.{open_word, marked_word, finished_word}
-use Rattle.ist_core.specs.Leaves.{PlacedLeaf}
-use Rattle.ist_core.specs.Ideals.{IsTop}
-use Rattle.ist_core.specs.Elements.{Among, Each}
-use Rattle.ist_core.specs.Pieces.{Pieces, Piece, Inner, with_inners, changed_at, with_slot, with_status, counted, with_decision, with_root, drawn}
-use Rattle.ist_core.specs.Snapshots.{Snapshot, bases_of}
-use Rattle.ist_core.specs.After.{after, decision_word, side_of}
-use Rattle.ist_core.specs.Logs.{Log, state}
-use Rattle.ist_core.specs.Installing.{FitsKind}
-use Rattle.ist_core.specs.Building.{CanRoot}
-use Rattle.ist_core.specs.Enabled.{Enabled}
-use Rattle.ist_core.proofs.ElementLemmas.{each-among}
-use Rattle.ist_core.proofs.RowLemmas.{changed_at-some}
+use Rattle.std.proofs.Common.{◌≡◌, ◌≢◌, ℕ, ◌⊎◌, List, ◌∷◌, Some, subst, inl, inr, ⊎_elim, ◌+◌, refl, arith}
+use Rattle.ist_core.specs.Types.{Row, InnerRow, ChangeRow, Event, Install, Decide, Resolve, Count, Mark, Finish, Root, Draw, Place, Pair}
+use Rattle.ist_core.specs.WordTerms.{ChangeAt, word_of, open_word, marked_word, finished_word, IsTop, Pieces, Piece, Inner, with_inners, changed_at, with_slot, with_status, counted, with_decision, with_root, drawn, unset_word, Leaf, Change, Rebuild, rows_within}
+use Rattle.ist_core.specs.TreeTerms.{PlacedLeaf, FitsKind, CanRoot}
+use Rattle.ist_core.specs.LogTerms.{Among, Each, Snapshot, bases_of, after, Log, state, Enabled}
+use Rattle.ist_core.proofs.OptionLemmas.{each-among, changed_at-some}
 use Rattle.ist_core.proofs.MoveLemmas.{HeldLieApart}
 use Rattle.ist_core.proofs.InstallLemmas.{with_installed}
-use Rattle.ist_core.proofs.AddingLemmas.{IsInstalledWith, adds_install, adds-with_inners}
-use Rattle.ist_core.proofs.StepLemmas.{rows_resolved, rows_placed, holds_installed, known}
-use Rattle.ist_core.proofs.TopRowLemmas.{ideal_rows, root_rows}
+use Rattle.ist_core.proofs.StepLemmas.{IsInstalledWith, adds_install, adds-with_inners, installed_has, rows_resolved, rows_placed, holds_installed, known}
+use Rattle.ist_core.proofs.SplitLemmas.{ideal_rows, root_rows}
+use Rattle.ist_core.proofs.ShapedLemmas.{rows_have}
 
 -- what the event writes of a row that was there before leaves the field; a word in a slot and a
 -- decision leave it anyway
@@ -60,35 +46,27 @@ module _ (field : Piece → ℕ) (none : ℕ) (rare : IsRare field none) where
   pub has_changed : (ps : Pieces) (at : ℕ) (f : Piece → Piece)
       → ((p : Piece) → field (f p) ≡ field p) → (base value : ℕ)
       → Has (changed_at ps at f) base value → Has ps base value
-  has_changed ps at f same base value h =
-      let it = changed_at-some ps at base f h.0 h.1 in
-      ⊎_elim (λ k. (it.0, it.1, sym (ap field k) ∙ h.2))
-      (λ k. (it.0, it.1, sym (same it.0) ∙ sym (ap field k.1) ∙ h.2)) it.2
+  has_changed ps at f same base value h = grind (arith, changed_at-some)
 
   has_added : (ps qs : Pieces)
       → ((base : ℕ) (p : Piece) → qs base ≡ Some p → (ps base ≡ Some p) ⊎ (field p ≡ none))
       → (base value : ℕ) → value ≢ none → Has qs base value → Has ps base value
-  has_added ps qs from base value set h = ⊎_elim (λ k. (h.0, k, h.2))
-      (λ k. absurd (set (sym h.2 ∙ k))) (from base h.0 h.1)
+  has_added ps qs from base value set h = grind arith
 
   top_none : (ps : Pieces) (base : ℕ) (r : InnerRow) (leaves : List PlacedLeaf) (above : ℕ)
       → IsTop ps base r leaves above → Has ps base none
-  top_none ps base r leaves above top =
-      (Inner r, top.published, rare.inner r top.status top.count)
+  top_none ps base r leaves above top = (Inner r, top.published, rare.inner r top.status top.count)
 
   tree_none : (ps : Pieces) (rows : List ℕ) (base : ℕ) (p : Piece)
       → Each (λ b. Has ps b none) rows → Among base rows → ps base ≡ Some p → field p ≡ none
-  tree_none ps rows base p all i e =
-      let it = each-among (λ b. Has ps b none) base rows all i in
-      known (λ x. field x ≡ none) (ps base) p it.0 e it.1 it.2
+  tree_none ps rows base p all i e = grind (arith, each-among, known)
 
   -- a value after the rows of a Root are published was there before
   pub has_rooted : (t : Snapshot) (caller rebuild word : ℕ) (rows : List Row)
       → CanRoot t caller rebuild word rows → HeldLieApart t → (base value : ℕ) → value ≢ none
       → Has (with_inners t.pieces rows) base value → Has t.pieces base value
   has_rooted t caller rebuild word rows h s base value set has =
-      let qs = with_inners t.pieces rows in
-      let adds = adds-with_inners t caller rows h.held s in
+      let qs = with_inners t.pieces rows in let adds = adds-with_inners t caller rows h.held s in
       has_added t.pieces qs (λ b p e. ⊎_elim (λ old. inl old)
       (λ i. inr (tree_none qs (bases_of rows) b p
       (root_rows qs (λ x. Has qs x none) (top_none qs) word h.k h.leaves h.row.target (bases_of rows)
@@ -100,8 +78,7 @@ module _ (field : Piece → ℕ) (none : ℕ) (rare : IsRare field none) where
       → HeldLieApart (state first log) → LeavesField field event → (base value : ℕ) → value ≢ none
       → Has (state first (event ∷ log)).pieces base value → Has (state first log).pieces base value
   has_step first log (Install caller at rows) h s same base value set has =
-      let t = state first log in
-      let qs = with_installed t.pieces at h.change h.fresh in
+      let t = state first log in let qs = with_installed t.pieces at h.change h.fresh in
       let word = word_of (ChangeAt at) in
       let adds = adds_install first log caller at h.change h.fresh h.fits
       (holds_installed first log caller at rows h) s in
@@ -113,13 +90,9 @@ module _ (field : Piece → ℕ) (none : ℕ) (rare : IsRare field none) where
       (has_changed qs h.change.node (with_slot h.change.index word) (rare.slot h.change.index word)
       base value there)
   has_step first log (Resolve caller change) h s same base value set has =
-      has_changed (state first log).pieces h.change.node
-      (with_slot h.change.index (side_of h.change))
-      (rare.slot h.change.index (side_of h.change)) base value
-      (subst (λ u. Has u.pieces base value) (rows_resolved (state first log) caller change h) has)
+      grind (arith, has_changed, rows_resolved)
   has_step first log (Place caller rebuild i word rows) h s same base value set has =
-      let t = state first log in
-      let qs = with_inners t.pieces rows in
+      let t = state first log in let qs = with_inners t.pieces rows in
       let adds = adds-with_inners t caller rows h.held s in
       has_added t.pieces qs (λ b p e. ⊎_elim (λ old. inl old)
       (λ j. inr (tree_none qs (bases_of rows) b p
@@ -128,19 +101,81 @@ module _ (field : Piece → ℕ) (none : ℕ) (rare : IsRare field none) where
       base value set
       (has_changed qs h.root (with_slot i word) (rare.slot i word) base value
       (subst (λ ps. Has ps base value) (rows_placed t caller rebuild i word rows h) has))
-  has_step first log (Decide caller change said) h s same base value set has = has_changed
-      (state first log).pieces change (with_decision (decision_word said))
-      (rare.decision (decision_word said)) base value has
-  has_step first log (Count caller node) h s same base value set has = has_changed
-      (state first log).pieces node counted same base value has
+  has_step first log (Decide caller change said) h s same base value set has =
+      grind (arith, has_changed)
+  has_step first log (Count caller node) h s same base value set has = grind (arith, has_changed)
   has_step first log (Draw caller rebuild part) h s same base value set has = has_changed
       (state first log).pieces rebuild drawn same base value has
-  has_step first log (Mark caller node) h s same base value set has = has_changed
-      (state first log).pieces node (with_status marked_word) same base value has
+  has_step first log (Mark caller node) h s same base value set has = grind (arith, has_changed)
   has_step first log (Finish caller node keys) h s same base value set has = has_changed
       (state first log).pieces node (with_status (finished_word keys)) same base value has
   has_step first log (Root caller rebuild word rows) h s same base value set has =
-      let t = state first log in
-      has_rooted t caller rebuild word rows h s base value set
+      let t = state first log in has_rooted t caller rebuild word rows h s base value set
       (has_changed (with_inners t.pieces rows) rebuild (with_root word) same base value has)
   has_step first log _ h s same base value set has = has
+
+-- ---- the fields of rows that few events write: the status and the count of an inner row, the root and
+-- the draw word of a rebuild. Serves `StatusFieldLemmas`, `RootFieldLemmas` and `RowNumberLemmas`.
+
+-- what the functions make of an inner row's status and count, and of a rebuild's root and draw word,
+-- and `none` of other rows
+abbrev pub field_in : (ℕ → ℕ → ℕ) → (ℕ → ℕ → ℕ) → ℕ → Piece → ℕ
+field_in inner rebuild none (Inner r) = inner r.status r.count
+field_in inner rebuild none (Rebuild r) = rebuild r.root r.draw
+field_in inner rebuild none _ = none
+
+module _ (inner rebuild : ℕ → ℕ → ℕ) (none : ℕ) where
+  -- the field of a row
+  abbrev field : Piece → ℕ
+  field = field_in inner rebuild none
+
+  -- ---- what leaves it
+
+  -- a status leaves a field that isn't the status
+  pub status_same : ((old new n : ℕ) → inner new n ≡ inner old n) → (status : ℕ) (p : Piece)
+      → field (with_status status p) ≡ field p
+  status_same same status (Inner r) = same r.status status r.count
+  status_same same status (Leaf r) = refl
+  status_same same status (Change r) = refl
+  status_same same status (Rebuild r) = refl
+
+  -- a Count leaves a field that isn't the count
+  pub count_same : ((status n : ℕ) → inner status (n + 1) ≡ inner status n) → (p : Piece)
+      → field (counted p) ≡ field p
+  count_same same (Inner r) = same r.status r.count
+  count_same same (Leaf r) = refl
+  count_same same (Change r) = refl
+  count_same same (Rebuild r) = refl
+
+  -- a root leaves a field that isn't the root
+  pub root_same : ((old new n : ℕ) → rebuild new n ≡ rebuild old n) → (word : ℕ) (p : Piece)
+      → field (with_root word p) ≡ field p
+  root_same same word (Inner r) = refl
+  root_same same word (Leaf r) = refl
+  root_same same word (Change r) = refl
+  root_same same word (Rebuild r) = same r.root word r.draw
+
+  -- a Draw leaves a field that isn't the draw word
+  pub draw_same : ((root n : ℕ) → rebuild root (n + 1) ≡ rebuild root n) → (p : Piece)
+      → field (drawn p) ≡ field p
+  draw_same same (Inner r) = refl
+  draw_same same (Leaf r) = refl
+  draw_same same (Change r) = refl
+  draw_same same (Rebuild r) = same r.root r.draw
+
+  -- ---- fresh rows have none
+
+  module _ (new_inner : inner open_word 0 ≡ none) (new_rebuild : rebuild unset_word 0 ≡ none) where
+    installed_fresh : (first : Snapshot) (log : Log) (at : ℕ) (change : ChangeRow)
+        (fresh : List Row) (fits : FitsKind first log change fresh) (base : ℕ) (p : Piece)
+        → IsInstalledWith first log at change fresh fits base p → field p ≡ none
+    installed_fresh = grind (arith, installed_has)
+
+    -- the rows of a new tree have none
+    pub rows_fresh : (fuel base : ℕ) (pairs : List Pair)
+        → Each (λ row. field row.1 ≡ none) (rows_within fuel base pairs)
+    rows_fresh = rows_have (λ p. field p ≡ none) (λ r. refl) (λ base all two. new_inner)
+
+    -- few events write the field
+    pub field_rare : IsRare field none
+    field_rare = grind (arith, installed_fresh)

@@ -1,27 +1,13 @@
 -- The end of the log of a whole rebuild is lawful, and it leaves the contents. Serves
 -- `examples.a_rebuild_is_lawful`.
-use Rattle.std.proofs.Common.{◌≡◌, ℕ, zero, suc, ◌≢◌, true, [], ◌∷◌, slice_get, Some, refl, inl, inr, ap, sym, subst, ◌∙◌, arith}
-use Rattle.ist_core.specs.declared.events.Event.TheVariants.{Reserve, Okay, Decide}
-use Rattle.ist_core.specs.Arithmetic.{degree, square_root, root_up_to, part_len, part_lens}
-use Rattle.ist_core.specs.Shapes.{ideal_words, ideal_words_within}
-use Rattle.ist_core.specs.References.{InnerAt, ref_of}
-use Rattle.ist_core.specs.Pieces.{Inner, Change, Rebuild, with_slot, with_status, with_decision, with_root}
-use Rattle.ist_core.specs.StartLayout.{rows_within, rows_from}
-use Rattle.ist_core.specs.RowLayout.{first_row}
-use Rattle.ist_core.specs.Elements.{Among}
-use Rattle.ist_core.specs.Logs.{state, Log}
-use Rattle.ist_core.specs.Slots.{SlotHolds, in_anchor, in_row, anchor_is}
-use Rattle.ist_core.specs.Links.{at_anchor}
-use Rattle.ist_core.specs.Leaves.{leaf_here, row_here, no_slot, one_slot, HasContents}
-use Rattle.ist_core.specs.Rebuilding.{IsStarted}
-use Rattle.ist_core.specs.Fairness.{at_end, from_right, no_build}
-use Rattle.ist_core.specs.Installing.{CanInstall, a_finish}
-use Rattle.ist_core.specs.Deciding.{CanOkay, CanDecide, CanResolve}
-use Rattle.ist_core.specs.Enabled.{CanReserve}
-use Rattle.ist_core.specs.Lawful.{Lawful}
+use Rattle.std.proofs.Common.{◌≡◌, ℕ, zero, suc, ◌≢◌, true, [], ◌∷◌, slice_get, Some, refl, inl, inr, arith}
+use Rattle.ist_core.specs.Types.{Reserve, Okay, Decide}
+use Rattle.ist_core.specs.WordTerms.{degree, square_root, root_up_to, part_len, part_lens, ideal_words, ideal_words_within, InnerAt, ref_of, Change, rows_within, SlotHolds, in_anchor, in_row, anchor_is}
+use Rattle.ist_core.specs.LogTerms.{state, Log, at_end, from_right, no_build, CanReserve, Lawful}
+use Rattle.ist_core.specs.TreeTerms.{at_anchor, leaf_here, row_here, no_slot, one_slot, HasContents, IsStarted, CanInstall, a_finish, CanOkay, CanDecide, CanResolve}
 use Rattle.ist_core.specs.ExampleLogs.{start_pairs, rebuild_started, rebuild_rooted, finish_rows, finish_installed, rebuild_replaced}
-use Rattle.ist_core.proofs.PieceLemmas.{among-pieces_of}
-use Rattle.ist_core.proofs.StartExampleLemmas.{two, start_is_lawful}
+use Rattle.ist_core.proofs.OptionLemmas.{among-pieces_of}
+use Rattle.ist_core.proofs.StartExampleLemmas.{two}
 use Rattle.ist_core.proofs.RebuildExampleLemmas.{the_start, the_finish, the_rebuild, the_row, low, high, both, rooted_log}
 use Rattle.ist_core.proofs.RefusalLemmas.{NotRefused, NoneDecidedNo, none_refused-with_row, none_refused-changed_at, slot_keeps, status_keeps, yes_keeps, root_keeps}
 
@@ -31,23 +17,22 @@ use Rattle.ist_core.proofs.RefusalLemmas.{NotRefused, NoneDecidedNo, none_refuse
 pub at_opening : NoneDecidedNo two.pieces
 unfolding NotRefused rows_within degree square_root root_up_to part_len part_lens ideal_words
     ideal_words_within
-at_opening base p e = by_row (among-pieces_of (rows_from first_row start_pairs) base p e)
-  where
-    by_row : Among (base, p) (rows_from first_row start_pairs) → NotRefused p
-    by_row (inl e) = subst (λ row. NotRefused row.1) (sym e) tt
-    by_row (inr (inl e)) = subst (λ row. NotRefused row.1) (sym e) tt
-    by_row (inr (inr (inl e))) = subst (λ row. NotRefused row.1) (sym e) tt
-    by_row (inr (inr (inr e))) = absurd e
+at_opening base p e = grind (arith, among-pieces_of, NotRefused)
 
 -- no change was decided no when the rebuild is started
 pub none_refused_started : NoneDecidedNo (state two rebuild_started).pieces
 unfolding NotRefused
 none_refused_started =
-    let installed = none_refused-with_row _ 20 (Change (the_start 0)) (λ e. omega arith)
-    (none_refused-with_row _ 15 (Rebuild (the_rebuild 7)) tt at_opening) in
-    let standing = none_refused-changed_at _ 2 (with_slot 0 163) (slot_keeps 0 163) installed in
-    let decided = none_refused-changed_at _ 20 (with_decision 1) yes_keeps standing in
-    none_refused-changed_at _ 2 (with_slot 0 124) (slot_keeps 0 124) decided
+    grind (
+      arith,
+      none_refused-with_row,
+      the_start,
+      the_rebuild,
+      at_opening,
+      none_refused-changed_at,
+      slot_keeps,
+      yes_keeps,
+    )
 
 -- ---- the finish
 
@@ -57,28 +42,30 @@ finish_held = Reserve 0 36 9 ∷ rebuild_rooted
 none_refused : NoneDecidedNo (state two finish_held).pieces
 unfolding NotRefused
 none_refused =
-    let marked = none_refused-changed_at _ 4 (with_status 1) (status_keeps 1) none_refused_started
-    in
-    let finished = none_refused-changed_at _ 4 (with_status 11) (status_keeps 11) marked in
-    let with_root_row = none_refused-with_row _ 29 (Inner (the_row 0)) tt finished in
-    none_refused-changed_at _ 15 (with_root 234) (root_keeps 234) with_root_row
+    grind (
+      arith,
+      none_refused-changed_at,
+      status_keeps,
+      none_refused_started,
+      none_refused-with_row,
+      the_row,
+      root_keeps,
+    )
 
 finish_reserved : CanReserve (state two rebuild_rooted) 0 36 9
-finish_reserved =
-    record {
-      known = omega arith;
-      base_is = refl;
-      room = omega arith;
-      fair =
-          record {
-            building = [];
-            spare = 9 ∷ [];
-            merge = from_right 9 at_end;
-            builds = no_build;
-            few = (inr (inr (inr (inl refl))), tt);
-            one_each = ((λ k. k), tt);
-          };
-    }
+finish_reserved = record {
+  known = omega arith;
+  base_is = refl;
+  room = omega arith;
+  fair = record {
+    building = [];
+    spare = 9 ∷ [];
+    merge = from_right 9 at_end;
+    builds = no_build;
+    few = (inr (inr (inr (inl refl))), tt);
+    one_each = ((λ k. k), tt);
+  };
+}
 
 is_started : IsStarted (state two finish_held) 15
 unfolding ref_of
@@ -87,8 +74,7 @@ is_started = record {
   change = the_start 1;
   published = refl;
   kind = refl;
-  decision =
-      refl;
+  decision = refl;
   to = refl;
 }
 
@@ -101,46 +87,38 @@ none_unset (suc (suc i)) word e = absurd (cc)
 root_whole : (base i word : ℕ) → ref_of 234 ≡ Some (InnerAt base)
     → SlotHolds (state two finish_held) base i word → word ≢ 7
 unfolding ref_of
-root_whole base i word e (in_anchor at _ _) = let is : ◌≡◌ {A = ℕ} 29 base = cc in absurd
-    (omega arith)
-root_whole base i word e (in_row r published holds) =
-    let is : ◌≡◌ {A = ℕ} 29 base = cc in
-    let there : (state two finish_held).pieces 29 ≡ Some (Inner r) = ap
-    (state two finish_held).pieces is ∙ published in
-    let same : the_row 0 ≡ r = cc in
-    none_unset i word (ap (λ y. slice_get y.slots i) same ∙ holds)
+root_whole base i word e (in_anchor at _ _) = grind arith
+root_whole base i word e (in_row r published holds) = grind (arith, two, the_row, none_unset)
 
 installed : CanInstall two finish_held 0 36 finish_rows
 unfolding NotRefused ref_of rows_within ideal_words ideal_words_within
-installed =
-    record {
-      known = omega arith;
-      change = the_finish 0;
-      fresh = [];
-      rows_are = refl;
-      held = (inl refl, tt);
-      owned = refl;
-      unset = refl;
-      in_slot = in_anchor refl refl refl;
-      linked = inl at_anchor;
-      unrefused = λ base earlier e _ _. none_refused base (Change earlier) e;
-      fits =
-          a_finish record {
-            kind = refl;
-            key = refl;
-            value = refl;
-            rebuild = 15;
-            row = the_rebuild 234;
-            from = refl;
-            published = refl;
-            started = is_started;
-            parent = refl;
-            index = refl;
-            to = refl;
-            built = record { set = λ e. omega arith; whole = root_whole };
-            fresh_are = refl;
-          };
-    }
+installed = record {
+  known = omega arith;
+  change = the_finish 0;
+  fresh = [];
+  rows_are = refl;
+  held = (inl refl, tt);
+  owned = refl;
+  unset = refl;
+  in_slot = in_anchor refl refl refl;
+  linked = inl at_anchor;
+  unrefused = λ base earlier e _ _. none_refused base (Change earlier) e;
+  fits = a_finish record {
+    kind = refl;
+    key = refl;
+    value = refl;
+    rebuild = 15;
+    row = the_rebuild 234;
+    from = refl;
+    published = refl;
+    started = is_started;
+    parent = refl;
+    index = refl;
+    to = refl;
+    built = record { set = λ e. omega arith; whole = root_whole };
+    fresh_are = refl;
+  };
+}
 
 okayed : CanOkay (state two finish_installed) 0 36
 okayed = record {
@@ -166,27 +144,21 @@ resolved = record {
   known = omega arith;
   change = the_finish 1;
   published = refl;
-  decided = λ e.
-      omega arith;
+  decided = λ e. omega arith;
   in_slot = in_anchor refl refl refl;
 }
 
 -- the log is lawful
 pub rebuild_is_lawful : Lawful start_pairs 100 rebuild_replaced
-rebuild_is_lawful = record {
-  opens = start_is_lawful.opens;
-  enabled =
-      (((((rooted_log, finish_reserved), installed), okayed), decided), resolved);
-}
+rebuild_is_lawful = grind (arith, rooted_log, finish_reserved, installed, okayed, decided, resolved)
 
 -- the contents are the start pairs
 pub rebuild_contents : HasContents (state two rebuild_replaced) start_pairs
 unfolding ref_of rows_within degree square_root root_up_to part_len part_lens ideal_words
     ideal_words_within
-rebuild_contents =
-    record {
-      leaves = both;
-      reached = row_here (the_row 0) refl
-          (one_slot (leaf_here low refl) (one_slot (leaf_here high refl) no_slot));
-      pairs_are = refl;
-    }
+rebuild_contents = record {
+  leaves = both;
+  reached = row_here (the_row 0) refl
+      (one_slot (leaf_here low refl) (one_slot (leaf_here high refl) no_slot));
+  pairs_are = refl;
+}

@@ -1,34 +1,56 @@
 -- Each slot of a finished row was passed, and what it reads as stays. Serves the order law and each
 -- law on finished rows.
-use Rattle.std.proofs.Common.{◌≡◌, ◌≢◌, ℕ, zero, suc, ◌+◌, ◌⊎◌, List, [], ◌∷◌, length, slice_get, Option, Some, sym, ap, ◌∙◌, subst, inl, inr, ⊎_elim, arith}
-use Rattle.ist_core.specs.declared.pairs.Pair.{Pair}
-use Rattle.ist_core.specs.declared.states.InnerRow.{InnerRow}
-use Rattle.ist_core.specs.declared.events.Event.{Event}
-use Rattle.ist_core.specs.declared.events.Event.TheVariants.{Count, Mark, Finish, Root, Draw}
-use Rattle.ist_core.specs.RowLayout.{first_row}
-use Rattle.ist_core.specs.References.{Ref, ref_of}
-use Rattle.ist_core.specs.Statuses.{marked_word, finished_word}
-use Rattle.ist_core.specs.Pieces.{Piece, Leaf, Inner, Change, Rebuild, changed_at, with_status}
-use Rattle.ist_core.specs.Snapshots.{Snapshot}
-use Rattle.ist_core.specs.StartLayout.{start, rows_from}
-use Rattle.ist_core.specs.Logs.{Log, state, Happened, Passes}
-use Rattle.ist_core.specs.Rebuilding.{IsFinishedWith}
-use Rattle.ist_core.specs.Marking.{CountsFor, no_key, one_key, of_child, of_target, ArePassed, past_end, one_passed, CanFinish}
-use Rattle.ist_core.specs.Growing.{AllGrow}
-use Rattle.ist_core.specs.Enabled.{Enabled}
-use Rattle.ist_core.specs.Lawful.{EachEnabled, CanOpen, state_of}
-use Rattle.ist_core.proofs.ElementLemmas.{each-among}
-use Rattle.ist_core.proofs.RowLemmas.{changed_at-some}
-use Rattle.ist_core.proofs.PieceLemmas.{among-pieces_of}
+use Rattle.std.proofs.Common.{◌≡◌, ℕ, List, Some, refl, arith, ◌≢◌, zero, suc, ◌+◌, ◌⊎◌, [], ◌∷◌, length, slice_get, Option, sym, ap, ◌∙◌, subst, inl, inr, ⊎_elim}
+use Rattle.ist_core.specs.WordTerms.{finished_word, Piece, Leaf, Inner, Change, Rebuild, counted, with_root, drawn, rows_within, first_row, Ref, ref_of, marked_word, changed_at, with_status, start, rows_from}
+use Rattle.ist_core.specs.LogTerms.{Snapshot, Each, Log, state, Happened, Passes, Enabled, EachEnabled, CanOpen, state_of}
+use Rattle.ist_core.specs.TreeTerms.{IsFinishedWith, CountsFor, no_key, one_key, of_child, of_target, ArePassed, past_end, one_passed, CanFinish, AllGrow}
+use Rattle.ist_core.specs.Types.{Pair, InnerRow, Event, Count, Mark, Finish, Root, Draw}
+use Rattle.ist_core.proofs.FieldLemmas.{IsRare, Has, LeavesField, has_step, field_in}
+use Rattle.ist_core.proofs.OptionLemmas.{each-among, changed_at-some, among-pieces_of, same_inner}
 use Rattle.ist_core.proofs.MoveLemmas.{HeldLieApart}
 use Rattle.ist_core.proofs.SoundLemmas.{sound}
-use Rattle.ist_core.proofs.StartLemmas.{sound_start}
+use Rattle.ist_core.proofs.StepLemmas.{sound_start}
 use Rattle.ist_core.proofs.GrowingLemmas.{inner_there, rebuild_there, get_alike}
-use Rattle.ist_core.proofs.FieldLemmas.{Has, LeavesField, has_step}
-use Rattle.ist_core.proofs.StatusFieldLemmas.{status_in, root_same, count_same, draw_same, status_rare, start_untouched, finished_has, has_finished}
 use Rattle.ist_core.proofs.DrawLemmas.{finished_grows}
-use Rattle.ist_core.proofs.OptionLemmas.{same_inner}
 use Rattle.ist_core.proofs.FateLemmas.{grow_after}
+use Rattle.ist_core.proofs.FieldLemmas as fields
+
+-- ---- the status of a row as a field that few events write. Serves the laws on finished rows.
+
+-- the status of an inner row, or 0 for other rows
+abbrev pub status_in : Piece → ℕ
+status_in = field_in (λ status _. status) (λ _ _. 0) 0
+
+-- a root leaves the status of a row
+pub root_same : (word : ℕ) (p : Piece) → status_in (with_root word p) ≡ status_in p
+root_same = fields.root_same (λ status _. status) (λ _ _. 0) 0 (λ _ _ _. refl)
+
+-- a Count leaves the status of a row
+pub count_same : (p : Piece) → status_in (counted p) ≡ status_in p
+count_same = fields.count_same (λ status _. status) (λ _ _. 0) 0 (λ _ _. refl)
+
+-- a Draw leaves the status of a row
+pub draw_same : (p : Piece) → status_in (drawn p) ≡ status_in p
+draw_same = fields.draw_same (λ status _. status) (λ _ _. 0) 0 (λ _ _. refl)
+
+-- few events write a status
+pub status_rare : IsRare status_in 0
+status_rare = fields.field_rare (λ status _. status) (λ _ _. 0) 0 refl refl
+
+-- the rows of a new tree are open
+pub start_untouched : (fuel base : ℕ) (pairs : List Pair)
+    → Each (λ row. status_in row.1 ≡ 0) (rows_within fuel base pairs)
+start_untouched = fields.rows_fresh (λ status _. status) (λ _ _. 0) 0 refl refl
+
+-- a finished row has the status word of its keys
+pub finished_has : (t : Snapshot) (node k : ℕ) → IsFinishedWith t node k
+    → Has status_in 0 status_rare t.pieces node (finished_word k)
+finished_has t node k h = (Inner h.row, h.published, h.status)
+
+-- a row with the word of k keys as its status is finished with k keys
+pub has_finished : (t : Snapshot) (node k : ℕ)
+    → Has status_in 0 status_rare t.pieces node (finished_word k) → IsFinishedWith t node k
+has_finished t node k h = grind arith
 
 -- ---- which event finishes a row
 
@@ -72,8 +94,7 @@ finished_by first log event h s node k f = at event h
     -- the status of this row is written, or it was finished
     written : (at word : ℕ)
         → Has status_in 0 status_rare (changed_at t.pieces at (with_status word)) node
-        (finished_word k)
-        → IsFinishedWith t node k ⊎ ((at ≡ node) × (word ≡ finished_word k))
+        (finished_word k) → IsFinishedWith t node k ⊎ ((at ≡ node) × (word ≡ finished_word k))
     written at word has =
         let it = changed_at-some t.pieces at node (with_status word) has.0 has.1 in
         ⊎_elim (λ same. inl (has_finished t node k (it.0, it.1, sym (ap status_in same) ∙ has.2)))
@@ -98,9 +119,7 @@ finished_by first log event h s node k f = at event h
 finished_was : (first : Snapshot) (log : Log) (event : Event) → Enabled first log event
     → HeldLieApart (state first log) → (node k : ℕ) → IsFinishedWith (state first (event ∷ log)) node k
     → IsFinishedWith (state first log) node k ⊎ MayBeFinished (state first log) log node
-finished_was first log event h s node k f =
-    ⊎_elim (λ old. inl old) (λ by. inr (by.0, k, subst (Enabled first log) by.1 h))
-    (finished_by first log event h s node k f)
+finished_was first log event h s node k f = grind (arith, finished_by)
 
 -- ---- each slot was passed
 
@@ -117,8 +136,7 @@ passed_each : (t : Snapshot) (log : Log) (node start : ℕ) (slots : List ℕ) (
     → slice_get slots i ≡ Some word → WasPassed t log node at
 passed_each t log node start _ _ past_end i at word is e = absurd (cc)
 passed_each t log node start _ _ (one_passed {here = here} word p c more) zero at w is e =
-    let same : start ≡ at = omega arith in
-    subst (λ n. WasPassed t log node n) same record
+    let same : start ≡ at = omega arith in subst (λ n. WasPassed t log node n) same record
     { word = word; passed = p; keys = here; counts = c }
 passed_each t log node start _ _ (one_passed {rest = rest} {slots = slots} word p c more) (suc i) at
     w is e = passed_each t log node (start + 1) slots rest more i at w (omega arith) e
@@ -136,13 +154,7 @@ counts_grows t u g _ k (of_target {rebuild = rebuild} {target = target} has f) =
 
 passed_grows : (t u : Snapshot) (event : Event) (log : Log) (node i : ℕ)
     → AllGrow t.pieces u.pieces → WasPassed t log node i → WasPassed u (event ∷ log) node i
-passed_grows t u event log node i g h = record {
-  word = h.word;
-  passed = inr h.passed;
-  keys = h.keys;
-  counts = counts_grows t u g
-      (ref_of h.word) h.keys h.counts;
-}
+passed_grows t u event log node i g h = grind (arith, counts_grows)
 
 module _ (pairs : List Pair) (words : ℕ) (opens : CanOpen pairs words) where
   -- a slot of a finished row was passed
@@ -154,12 +166,9 @@ module _ (pairs : List Pair) (words : ℕ) (opens : CanOpen pairs words) where
       let none = each-among (λ row. status_in row.1 ≡ 0) (node, Inner f.row)
       (rows_from first_row pairs) (start_untouched (length pairs) first_row pairs)
       (among-pieces_of (rows_from first_row pairs) node (Inner f.row) f.published) in
-      let some = f.status in
-      absurd (omega arith)
-  finished_passed (event ∷ log) h node k f r e i word at =
-      let t = state_of pairs words log in
-      let u = state_of pairs words (event ∷ log) in
-      let g = grow_after pairs words log event h in
+      let some = f.status in absurd (omega arith)
+  finished_passed (event ∷ log) h node k f r e i word at = let t = state_of pairs words log in
+      let u = state_of pairs words (event ∷ log) in let g = grow_after pairs words log event h in
       passed_grows t u event log node i g
       (⊎_elim
       (λ old. before old.row old.published
@@ -180,5 +189,4 @@ module _ (pairs : List Pair) (words : ℕ) (opens : CanOpen pairs words) where
           let same = same_inner ((state_of pairs words (event ∷ log)).pieces node) it.0 r it.1 e in
           let long : length r.slots ≡ length s.slots = ap (λ x. length x.slots) (sym same) ∙
           it.2.slots in
-          let old = get_alike r.slots s.slots i word (sym long) at in
-          found old.0 old.1
+          let old = get_alike r.slots s.slots i word (sym long) at in found old.0 old.1

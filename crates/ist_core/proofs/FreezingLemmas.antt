@@ -1,43 +1,22 @@
 -- A slot that was passed keeps its word at each event. Serves the frozen-slot law.
 use Rattle.std.proofs.Common.{◌≡◌, ◌≢◌, ℕ, ◌+◌, ◌*◌, Bool, true, false, List, ◌∷◌, Some, None, option_map, sym, ap, ◌∙◌, subst, ⊎_elim, arith}
 use Rattle.std.proofs.lemmas.Bool.Decides.{nat_tests, eqb_tells}
-use Rattle.ist_core.specs.declared.pairs.Pair.{Pair}
-use Rattle.ist_core.specs.declared.lists.Row.{Row}
-use Rattle.ist_core.specs.declared.states.InnerRow.{InnerRow}
-use Rattle.ist_core.specs.declared.states.ChangeRow.{ChangeRow}
-use Rattle.ist_core.specs.declared.events.Event.{Event}
-use Rattle.ist_core.specs.declared.events.Event.TheVariants.{Install, Okay, Decide, Resolve, Count, Mark, Pass, Finish, Place}
-use Rattle.ist_core.specs.RowLayout.{anchor}
-use Rattle.ist_core.specs.References.{ChangeAt, ref_of, word_of, unset_word}
-use Rattle.ist_core.specs.Statuses.{open_word, decided_yes, decided_no}
-use Rattle.ist_core.specs.Pieces.{Inner, Change, with_decision, changed_at}
-use Rattle.ist_core.specs.Snapshots.{Snapshot, HoldsRow}
-use Rattle.ist_core.specs.StartLayout.{start}
-use Rattle.ist_core.specs.After.{side_of}
-use Rattle.ist_core.specs.Logs.{Log, state, Happened, Okays}
-use Rattle.ist_core.specs.Slots.{SlotHolds, IsOpen}
-use Rattle.ist_core.specs.Installing.{CanInstall}
-use Rattle.ist_core.specs.Deciding.{CanOkay, CanDecide, CanResolve}
-use Rattle.ist_core.specs.Building.{CanPlace}
-use Rattle.ist_core.specs.Enabled.{Enabled}
-use Rattle.ist_core.specs.Lawful.{EachEnabled, CanOpen, state_of}
-use Rattle.ist_core.specs.Growing.{StatusGoesOn, status_stays, is_marked, is_finished, is_closed}
-use Rattle.ist_core.specs.Freezing.{HasVainChange, KeepsWord, holds_it, holds_change, IsClosedOver}
-use Rattle.ist_core.proofs.RowLemmas.{changed_at-same, changed_at-other}
+use Rattle.ist_core.specs.Types.{Pair, Row, InnerRow, ChangeRow, Event, Install, Okay, Decide, Resolve, Count, Mark, Pass, Finish, Place}
+use Rattle.ist_core.specs.WordTerms.{anchor, ChangeAt, ref_of, word_of, unset_word, open_word, decided_yes, decided_no, Inner, Change, with_decision, changed_at, start, SlotHolds, IsOpen}
+use Rattle.ist_core.specs.LogTerms.{Snapshot, HoldsRow, side_of, Log, state, Happened, Okays, Enabled, EachEnabled, CanOpen, state_of}
+use Rattle.ist_core.specs.TreeTerms.{CanInstall, CanOkay, CanDecide, CanResolve, CanPlace, StatusGoesOn, status_stays, is_marked, is_finished, is_closed, HasVainChange, KeepsWord, holds_it, holds_change, IsClosedOver}
+use Rattle.ist_core.proofs.OptionLemmas.{changed_at-same, changed_at-other, no_value, same_change}
 use Rattle.ist_core.proofs.MoveLemmas.{HeldLieApart}
 use Rattle.ist_core.proofs.SoundLemmas.{sound}
-use Rattle.ist_core.proofs.StartLemmas.{sound_start}
+use Rattle.ist_core.proofs.StepLemmas.{sound_start, grow_step, holds_installed}
 use Rattle.ist_core.proofs.GrowingLemmas.{inner_there}
-use Rattle.ist_core.proofs.StepLemmas.{grow_step, holds_installed}
 use Rattle.ist_core.proofs.PlaceLemmas.{anchor_free}
-use Rattle.ist_core.proofs.RoomLemmas.{published_good, ref_of-change}
-use Rattle.ist_core.proofs.SlotLemmas.{closed_not_open}
+use Rattle.ist_core.proofs.RoomLemmas.{published_good, ref_of-change, closed_not_open}
 use Rattle.ist_core.proofs.NamingLemmas.{SlotNames, slot_names}
 use Rattle.ist_core.proofs.InstallNamingLemmas.{from_plain}
 use Rattle.ist_core.proofs.OrderLemmas.{names}
-use Rattle.ist_core.proofs.OkayLemmas.{okay_published}
+use Rattle.ist_core.proofs.FateLemmas.{okay_published}
 use Rattle.ist_core.proofs.SlotStepLemmas.{install_stands, install_writes, resolve_writes, place_writes, WritesNoSlot, slot_stays, IsNoDecide, change_stays}
-use Rattle.ist_core.proofs.OptionLemmas.{no_value, same_change}
 
 -- ---- words and statuses
 
@@ -73,24 +52,22 @@ vain_on : (t u : Snapshot) (log : Log) (event : Event) (node i word : ℕ)
     (h : HasVainChange t log node i word)
     → u.pieces h.base ≡ Some (Change h.change) → SlotHolds u node i (word_of (ChangeAt h.base))
     → ¬ (Okays h.base event) → KeepsWord u (event ∷ log) node i word
-vain_on t u log event node i word h there slot none =
-    holds_change record {
-      base = h.base;
-      change = h.change;
-      published = there;
-      in_slot = slot;
-      from = h.from;
-      not_yes = h.not_yes;
-      unseen = λ k. ⊎_elim (λ now. none now) (λ before. h.unseen before) k;
-    }
+vain_on t u log event node i word h there slot none = holds_change record {
+  base = h.base;
+  change = h.change;
+  published = there;
+  in_slot = slot;
+  from = h.from;
+  not_yes = h.not_yes;
+  unseen = λ k. ⊎_elim (λ now. none now) (λ before. h.unseen before) k;
+}
 
 -- ---- each event
 
 -- an event that writes no slot, and is neither an Okay nor a Decide
 keeps_quiet : (first : Snapshot) (log : Log) (event : Event) → Enabled first log event
     → HeldLieApart (state first log) → WritesNoSlot event → IsNoDecide event
-    → ((base : ℕ) → ¬ (Okays base event))
-    → (node i word : ℕ)
+    → ((base : ℕ) → ¬ (Okays base event)) → (node i word : ℕ)
     → Keeping (state first log) log event (state first (event ∷ log)) node i word
 keeps_quiet first log event h s none still unseen node i word (holds_it k) = holds_it (slot_stays first log event h s none node i word k)
 keeps_quiet first log event h s none still unseen node i word (holds_change v) =
@@ -131,8 +108,7 @@ module _ (pairs : List Pair) (words : ℕ) (opens : CanOpen pairs words) (log : 
       let writes = install_writes (start pairs words) log caller base rows h rows_sound free_there in
       let held : HoldsRow (state_of pairs words log) caller base 9 = (holds_installed (start pairs words) log caller base rows h).0 in
       let none = rows_sound.unpublished record { caller = caller; base = base; size = 9 } held in
-      let zero = h.unset in
-      ⊎_elim
+      let zero = h.unset in ⊎_elim
       (λ w. holds_change record {
         base = base;
         change = h.change;
@@ -143,8 +119,7 @@ module _ (pairs : List Pair) (words : ℕ) (opens : CanOpen pairs words) (log : 
         unseen = λ k. ⊎_elim (λ now. now)
             (λ before. let it = okay_published (start pairs words) log base (sound_start pairs words) enabled before in no_value ((state_of pairs words log).pieces base) (Change it.0) none it.1) k;
       })
-      (λ stays. holds_it stays)
-      (writes.others node i word slot)
+      (λ stays. holds_it stays) (writes.others node i word slot)
   keeps_install caller base rows h node i word (holds_change v) =
       let writes = install_writes (start pairs words) log caller base rows h rows_sound free_there in
       ⊎_elim
@@ -157,17 +132,13 @@ module _ (pairs : List Pair) (words : ℕ) (opens : CanOpen pairs words) (log : 
       → Keeping (state_of pairs words log) log (Resolve caller base)
       (state_of pairs words (Resolve caller base ∷ log)) node i word
   keeps_resolve caller base h node i word plain (holds_it slot) =
-      let writes = resolve_writes (state_of pairs words log) caller base h free_there in
-      ⊎_elim
+      let writes = resolve_writes (state_of pairs words log) caller base h free_there in ⊎_elim
       (λ w. absurd (plain base (ap ref_of w.0 ∙ change_read base h.change h.published)))
-      (λ stays. holds_it stays)
-      (writes.others node i word slot)
+      (λ stays. holds_it stays) (writes.others node i word slot)
   keeps_resolve caller base h node i word plain (holds_change v) =
       let u = state_of pairs words (Resolve caller base ∷ log) in
-      let writes = resolve_writes (state_of pairs words log) caller base h free_there in
-      ⊎_elim
-      (λ w.
-      let one = same_change_word v.base base w.0 in
+      let writes = resolve_writes (state_of pairs words log) caller base h free_there in ⊎_elim
+      (λ w. let one = same_change_word v.base base w.0 in
       let row = same_change ((state_of pairs words log).pieces base) v.change h.change (subst (λ b. (state_of pairs words log).pieces b ≡ Some (Change v.change)) one v.published) h.published in
       let side = ap side_of (sym row) ∙ side_not_yes v.change v.not_yes ∙ v.from in
       holds_it (subst (λ x. SlotHolds u node i x) side
@@ -177,16 +148,14 @@ module _ (pairs : List Pair) (words : ℕ) (opens : CanOpen pairs words) (log : 
 
   keeps_place : (caller rebuild j new : ℕ) (rows : List Row)
       → CanPlace (state_of pairs words log) caller rebuild j new rows → (node i word : ℕ)
-      → word ≢ unset_word
-      → Keeping (state_of pairs words log) log (Place caller rebuild j new rows)
+      → word ≢ unset_word → Keeping (state_of pairs words log) log (Place caller rebuild j new rows)
       (state_of pairs words (Place caller rebuild j new rows ∷ log)) node i word
   keeps_place caller rebuild j new rows h node i word set (holds_it slot) =
       let writes = place_writes (state_of pairs words log) caller rebuild j new rows h rows_sound free_there in
       ⊎_elim (λ w. absurd (set w.0)) (λ stays. holds_it stays) (writes.others node i word slot)
   keeps_place caller rebuild j new rows h node i word set (holds_change v) =
       let writes = place_writes (state_of pairs words log) caller rebuild j new rows h rows_sound free_there in
-      ⊎_elim
-      (λ w. absurd (let seven : v.base * 8 + 3 ≡ 7 = w.0 in omega arith))
+      ⊎_elim (λ w. absurd (let seven : v.base * 8 + 3 ≡ 7 = w.0 in omega arith))
       (λ stays. vain_stays (Place caller rebuild j new rows) h tt node i word v (λ n. n) stays)
       (writes.others node i (word_of (ChangeAt v.base)) v.in_slot)
 
@@ -195,11 +164,9 @@ module _ (pairs : List Pair) (words : ℕ) (opens : CanOpen pairs words) (log : 
       → Keeping (state_of pairs words log) log (Decide caller base said)
       (state_of pairs words (Decide caller base said ∷ log)) node i word
   keeps_decide caller base said h node i word (holds_it slot) = holds_it (slot_stays (start pairs words) log (Decide caller base said) h rows_sound tt node i word slot)
-  keeps_decide caller base true h node i word (holds_change v) =
-      let t = state_of pairs words log in
+  keeps_decide caller base true h node i word (holds_change v) = let t = state_of pairs words log in
       let slot = slot_stays (start pairs words) log (Decide caller base true) h rows_sound tt node i (word_of (ChangeAt v.base)) v.in_slot in
-      ⊎_elim
-      (λ e. absurd (v.unseen (subst (λ b. Happened (Okays b) log) (sym e.1) h.outcome)))
+      ⊎_elim (λ e. absurd (v.unseen (subst (λ b. Happened (Okays b) log) (sym e.1) h.outcome)))
       (λ e. vain_on t (state_of pairs words (Decide caller base true ∷ log)) log (Decide caller base true) node i word v
       (changed_at-other t.pieces base v.base (with_decision decided_yes) e.1 ∙ v.published) slot (λ n. n))
       (eqb_tells v.base base)
@@ -224,8 +191,7 @@ module _ (pairs : List Pair) (words : ℕ) (opens : CanOpen pairs words) (log : 
   -- a change in a slot is a change of this slot, so its node isn't open
   keeps_okay : (caller base : ℕ) → CanOkay (state_of pairs words log) caller base
       → (node i word : ℕ) (r : InnerRow) → (state_of pairs words log).pieces node ≡ Some (Inner r)
-      → r.status ≢ open_word
-      → Keeping (state_of pairs words log) log (Okay caller base)
+      → r.status ≢ open_word → Keeping (state_of pairs words log) log (Okay caller base)
       (state_of pairs words log) node i word
   keeps_okay caller base h node i word r e closed (holds_it slot) = holds_it slot
   keeps_okay caller base h node i word r e closed (holds_change v) =

@@ -1,15 +1,11 @@
 -- Which rows an Install publishes with its change's row, and where they are. Serves each law about
 -- rows.
-use Rattle.std.proofs.Common.{◌≡◌, ◌≢◌, ℕ, ◌⊎◌, ◌==◌, nat_lt, true, false, if◌then◌else◌, List, ◌∷◌, length, Option, Some, refl, sym, ap, ◌∙◌, subst, inl, inr, ⊎_elim, arith}
-use Rattle.ist_core.specs.declared.lists.Row.{Row}
-use Rattle.ist_core.specs.declared.states.ChangeRow.{ChangeRow}
-use Rattle.ist_core.specs.Statuses.{start_kind}
-use Rattle.ist_core.specs.Pieces.{Pieces, Piece, Change, words_of, row_at, leaf_of, inner_of, rebuild_of, with_row}
-use Rattle.ist_core.specs.Snapshots.{Snapshot, HoldsRow, HoldsRows}
-use Rattle.ist_core.specs.Logs.{Log, state}
-use Rattle.ist_core.specs.After.{with_fresh}
-use Rattle.ist_core.specs.Installing.{new_leaf, new_rebuild, pair_row, pair_over, FitsKind, a_put, a_pair, a_remove, a_start, a_finish}
-use Rattle.ist_core.proofs.RowLemmas.{with_row-same, with_row-some, with_row-other}
+use Rattle.std.proofs.Common.{◌≡◌, ◌≢◌, ℕ, ◌⊎◌, ◌==◌, if◌then◌else◌, List, ◌∷◌, length, Option, Some, refl, sym, ap, ◌∙◌, subst, inl, inr, arith}
+use Rattle.ist_core.specs.Types.{Row, ChangeRow}
+use Rattle.ist_core.specs.WordTerms.{start_kind, Pieces, Piece, Change, words_of, row_at, leaf_of, inner_of, rebuild_of, with_row}
+use Rattle.ist_core.specs.LogTerms.{Snapshot, HoldsRow, HoldsRows, Log, state, with_fresh}
+use Rattle.ist_core.specs.TreeTerms.{new_leaf, new_rebuild, pair_row, FitsKind, a_put, a_pair, a_remove, a_start, a_finish}
+use Rattle.ist_core.proofs.OptionLemmas.{with_row-same, with_row-some, with_row-other}
 use Rattle.ist_core.proofs.MoveLemmas.{HeldLieApart}
 use Rattle.ist_core.proofs.InstallLemmas.{inner_of-pair_row, with_installed}
 
@@ -32,47 +28,23 @@ read_of kind words = if kind == start_kind then rebuild_of words else leaf_of wo
 -- each row after one was put is the new one, or was there before
 one_row : (ps : Pieces) (at base : ℕ) (o : Option Piece) (new p : Piece) → o ≡ Some new
     → with_row ps at o base ≡ Some p → ((base ≡ at) × (p ≡ new)) ⊎ (ps base ≡ Some p)
-one_row ps at base o new p read e =
-    ⊎_elim (λ w. inl (w.0, (cc (w.1)))) (λ w. inr w) (with_row-some ps at base o p e)
+one_row ps at base o new p read e = grind (arith, with_row-some)
 
 -- each row after the fresh rows are published is one of them, or was there before
 pub fresh_from : (ps : Pieces) (first : Snapshot) (log : Log) (change : ChangeRow)
     (fresh : List Row) (fits : FitsKind first log change fresh) (base : ℕ) (p : Piece)
     → with_fresh ps change fresh base ≡ Some p
     → IsPublishedWith first log change fresh fits base p ⊎ (ps base ≡ Some p)
-fresh_from ps first log change fresh (a_put h) base p e =
-    let read : read_of change.kind (words_of (new_leaf change)) ≡ Some (new_leaf change) = ap
-    (λ k. read_of k (words_of (new_leaf change))) h.kind in
-    one_row ps h.leaf base (read_of change.kind (words_of (new_leaf change))) (new_leaf change) p
-    read (subst (λ rows. with_fresh ps change rows base ≡ Some p) h.fresh_are e)
-fresh_from ps first log change fresh (a_pair h) base p e =
-    let row = pair_row change.key h.leaf h.other_key h.other in
-    let leafy = with_row ps h.leaf (Some (new_leaf change)) in
-    ⊎_elim
-    (λ w. inl (inl w))
-    (λ w. ⊎_elim (λ v. inl (inr v)) (λ v. inr v)
-    (one_row ps h.leaf base (Some (new_leaf change)) (new_leaf change) p refl w))
-    (one_row leafy h.pair base (inner_of (words_of row)) row p
-    (inner_of-pair_row change.key h.leaf h.other_key h.other)
-    (subst (λ rows. with_fresh ps change rows base ≡ Some p) h.fresh_are e))
-fresh_from ps first log change fresh (a_remove h) base p e = inr
-    (subst (λ rows. with_fresh ps change rows base ≡ Some p) h.fresh_are e)
-fresh_from ps first log change fresh (a_start h) base p e =
-    let row = new_rebuild change h.target in
-    let read : read_of change.kind (words_of row) ≡ Some row = ap (λ k. read_of k (words_of row))
-    h.kind in
-    one_row ps h.rebuild base (read_of change.kind (words_of row)) row p read
-    (subst (λ rows. with_fresh ps change rows base ≡ Some p) h.fresh_are e)
-fresh_from ps first log change fresh (a_finish h) base p e = inr
-    (subst (λ rows. with_fresh ps change rows base ≡ Some p) h.fresh_are e)
+fresh_from ps first log change fresh (a_put h) base p e = grind (arith, one_row)
+fresh_from ps first log change fresh (a_pair h) base p e = grind (arith, one_row, inner_of-pair_row)
+fresh_from ps first log change fresh (a_remove h) base p e = grind arith
+fresh_from ps first log change fresh (a_start h) base p e = grind (arith, one_row)
+fresh_from ps first log change fresh (a_finish h) base p e = grind arith
 
 -- a row that was put is at its base
 put_stands : (ps : Pieces) (at base : ℕ) (o : Option Piece) (new p : Piece) → o ≡ Some new
     → base ≡ at → p ≡ new → with_row ps at o base ≡ Some p
-put_stands ps at base o new p read here is =
-    subst (λ b. with_row ps at o b ≡ Some p) (sym here)
-    (subst (λ x. with_row ps at x at ≡ Some p) (sym read)
-    (with_row-same ps at new ∙ ap (λ x. Some x) (sym is)))
+put_stands ps at base o new p read here is = grind (arith, with_row-same)
 
 -- rows of different sizes that a caller holds have different bases
 pub sizes_apart : (t : Snapshot) (caller base other size more : ℕ) → HeldLieApart t
@@ -83,10 +55,7 @@ sizes_apart t caller base other size more sound h k differ same =
 
 pub pair_size : (key base other_key other : ℕ)
     → length (words_of (pair_row key base other_key other)) ≡ 7
-pair_size key base other_key other =
-    elim (nat_lt other_key key) as
-    (λ v. length (words_of (if v then pair_over key other base else pair_over other_key base
-    other)) ≡ 7) [ true ↦ refl | false ↦ refl ]
+pair_size key base other_key other = grind arith
 
 module _ (first : Snapshot) (log : Log) (caller at : ℕ) (change : ChangeRow) (fresh : List Row)
     (sound : HeldLieApart (state first log)) where
@@ -140,8 +109,7 @@ module _ (first : Snapshot) (log : Log) (caller at : ℕ) (change : ChangeRow) (
       (inner_of (words_of row)) (λ e. beside (sym here ∙ e))
       ∙ put_stands ps h.leaf base (Some (new_leaf change)) (new_leaf change) p refl here is)
   fresh_stands ps (a_remove h) holds base p f = absurd f
-  fresh_stands ps (a_start h) holds base p (here, is) =
-      let row = new_rebuild change h.target in
+  fresh_stands ps (a_start h) holds base p (here, is) = let row = new_rebuild change h.target in
       let held = subst (λ rows. HoldsRows (state first log) caller
       (row_at at (Change change) ∷ rows)) h.fresh_are holds in
       let read : read_of change.kind (words_of row) ≡ Some row = ap (λ k. read_of k (words_of row))

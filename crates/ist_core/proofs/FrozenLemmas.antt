@@ -1,20 +1,11 @@
 -- A slot that was passed reads as its word from then on. Serves `laws.frozen_slots_stay`.
-use Rattle.std.proofs.Common.{◌≡◌, ◌≢◌, ℕ, List, [], ◌∷◌, Option, Some, None, refl, sym, ap, ◌∙◌, subst, inl, inr, arith}
-use Rattle.ist_core.specs.declared.pairs.Pair.{Pair}
-use Rattle.ist_core.specs.declared.events.Event.{Event}
-use Rattle.ist_core.specs.declared.events.Event.TheVariants.{Pass}
-use Rattle.ist_core.specs.References.{Ref, Empty, Unset, LeafAt, InnerAt, ChangeAt, RebuildAt, ref_of, word_of, unset_word}
-use Rattle.ist_core.specs.Pieces.{Pieces}
-use Rattle.ist_core.specs.Snapshots.{Snapshot}
-use Rattle.ist_core.specs.StartLayout.{start}
-use Rattle.ist_core.specs.Logs.{Log, state, Happened, Passes}
-use Rattle.ist_core.specs.Slots.{SlotHolds, in_row, change_reads, past_change, past_rebuild, logical}
-use Rattle.ist_core.specs.Enabled.{Enabled}
-use Rattle.ist_core.specs.Marking.{CanPass}
-use Rattle.ist_core.specs.Lawful.{EachEnabled, CanOpen, state_of}
-use Rattle.ist_core.specs.Freezing.{KeepsWord, holds_it, holds_change, IsClosedOver}
+use Rattle.std.proofs.Common.{◌≡◌, ◌≢◌, ℕ, List, [], ◌∷◌, Option, Some, None, refl, sym, ap, ◌∙◌, inl, inr, arith}
+use Rattle.ist_core.specs.Types.{Pair, Event, Pass}
+use Rattle.ist_core.specs.WordTerms.{Ref, Empty, Unset, LeafAt, InnerAt, ChangeAt, RebuildAt, ref_of, word_of, unset_word, Pieces, start, SlotHolds, in_row, change_reads, past_change, past_rebuild, logical}
+use Rattle.ist_core.specs.LogTerms.{Snapshot, Log, state, Happened, Passes, Enabled, EachEnabled, CanOpen, state_of}
+use Rattle.ist_core.specs.TreeTerms.{CanPass, KeepsWord, holds_it, holds_change, IsClosedOver}
 use Rattle.ist_core.proofs.PlaceLemmas.{anchor_free}
-use Rattle.ist_core.proofs.SlotLemmas.{slot_once}
+use Rattle.ist_core.proofs.RoomLemmas.{slot_once}
 use Rattle.ist_core.proofs.FreezingLemmas.{closed_step, change_read, side_not_yes}
 
 -- a word with which a slot may be passed
@@ -29,12 +20,7 @@ PassedBy t node i word = (caller : ℕ) × CanPass t caller node i word
 -- an event that passes a slot is a Pass
 pub passed_now : (first : Snapshot) (log : Log) (event : Event) (node i word : ℕ)
     → Enabled first log event → Passes node i word event → PassedBy (state first log) node i word
-passed_now first log (Pass caller n j w) node i word h is = (
-  caller,
-  subst (λ x. CanPass (state first log) caller node i x) is.2
-      (subst (λ x. CanPass (state first log) caller node x w) is.1
-      (subst (λ x. CanPass (state first log) caller x j w) is.0 h)),
-)
+passed_now first log (Pass caller n j w) node i word h is = grind arith
 passed_now first log _ node i word h is = absurd is
 
 -- a Pass writes nothing
@@ -47,24 +33,19 @@ pass_same t log _ first node i word is = absurd is
 pub passed_plain : (first : Snapshot) (log : Log) (node i word : ℕ) → EachEnabled first log
     → Happened (Passes node i word) log → MayBePassed word
 passed_plain first [] node i word h p = absurd p
-passed_plain first (event ∷ log) node i word h (inl now) = let can =
-    (passed_now first log event node i word h.1 now).1 in record
-    { set = can.set; no_change = can.no_change }
+passed_plain first (event ∷ log) node i word h (inl now) = grind (arith, passed_now)
 passed_plain first (event ∷ log) node i word h (inr before) = passed_plain first log node i word h.0
     before
 
 -- a node that is marked is closed
 closed_now : (t : Snapshot) (log : Log) (caller node i word : ℕ) → CanPass t caller node i word
     → IsClosedOver t log node i word
-closed_now t log caller node i word h =
-    let one = h.marked in
-    record {
-      row = h.row;
-      published = h.published;
-      closed = λ e. omega arith;
-      keeps = holds_it
-          (in_row h.row h.published h.in_slot);
-    }
+closed_now t log caller node i word h = let one = h.marked in record {
+  row = h.row;
+  published = h.published;
+  closed = λ e. omega arith;
+  keeps = holds_it (in_row h.row h.published h.in_slot);
+}
 
 -- a change is read away
 pub past_no_change : (ps : Pieces) (ref : Option Ref) → ((change : ℕ) → ref ≢ Some (ChangeAt change))
@@ -82,11 +63,7 @@ module _ (pairs : List Pair) (words : ℕ) (opens : CanOpen pairs words) where
   pub closed : (log : Log) → EachEnabled (start pairs words) log → (node i word : ℕ)
       → Happened (Passes node i word) log → IsClosedOver (state_of pairs words log) log node i word
   closed [] h node i word p = absurd p
-  closed (event ∷ log) h node i word (inl now) =
-      let can = passed_now (start pairs words) log event node i word h.1 now in
-      subst (λ u. IsClosedOver u (event ∷ log) node i word)
-      (sym (pass_same (start pairs words) log event (start pairs words) node i word now))
-      (closed_now (state_of pairs words log) (event ∷ log) can.0 node i word can.1)
+  closed (event ∷ log) h node i word (inl now) = grind (arith, passed_now, pass_same, closed_now)
   closed (event ∷ log) h node i word (inr before) =
       let plain = passed_plain (start pairs words) log node i word h.0 before in
       closed_step pairs words opens log h.0 event h.1 node i word plain.set plain.no_change
@@ -97,27 +74,14 @@ module _ (pairs : List Pair) (words : ℕ) (opens : CanOpen pairs words) where
       → IsClosedOver (state_of pairs words log) log node i v
       → SlotHolds (state_of pairs words log) node i w
       → ((change : ℕ) → ref_of w ≢ Some (ChangeAt change)) → w ≡ v
-  held_word log h node i v w c slot plain = at c.keeps
-    where
-      at : KeepsWord (state_of pairs words log) log node i v → w ≡ v
-      at (holds_it k) = slot_once (state_of pairs words log) node i w v
-          (anchor_free pairs words log h) slot k
-      at (holds_change x) =
-          let same = slot_once (state_of pairs words log) node i w (word_of (ChangeAt x.base))
-          (anchor_free pairs words log h) slot x.in_slot in
-          absurd (plain x.base (ap ref_of same ∙ change_read pairs words opens log h x.base x.change
-          x.published))
+  held_word log h node i v w c slot plain = grind (arith, slot_once, anchor_free, change_read)
 
   -- all passes of a slot name one word
   pub passes_agree : (log : Log) → EachEnabled (start pairs words) log → (node i v w : ℕ)
       → Happened (Passes node i v) log → Happened (Passes node i w) log → v ≡ w
   passes_agree [] h node i v w p q = absurd p
   passes_agree (event ∷ log) h node i v w (inl p) (inl q) =
-      let first = passed_now (start pairs words) log event node i v h.1 p in
-      let second = passed_now (start pairs words) log event node i w h.1 q in
-      slot_once (state_of pairs words log) node i v w (anchor_free pairs words log h.0)
-      (in_row first.1.row first.1.published first.1.in_slot)
-      (in_row second.1.row second.1.published second.1.in_slot)
+      grind (arith, passed_now, slot_once, anchor_free)
   passes_agree (event ∷ log) h node i v w (inl p) (inr q) =
       let can = passed_now (start pairs words) log event node i v h.1 p in
       held_word log h.0 node i w v (closed log h.0 node i w q)
@@ -141,13 +105,11 @@ module _ (pairs : List Pair) (words : ℕ) (opens : CanOpen pairs words) where
       at : KeepsWord (state_of pairs words log) log node i v
           → logical (state_of pairs words log).pieces w ≡ past_rebuild
           (state_of pairs words log).pieces (ref_of v)
-      at (holds_it k) =
-          let ps = (state_of pairs words log).pieces in
+      at (holds_it k) = let ps = (state_of pairs words log).pieces in
           ap (logical ps) (slot_once (state_of pairs words log) node i w v
           (anchor_free pairs words log h) slot k) ∙ ap (past_rebuild ps)
           (past_no_change ps (ref_of v) plain.no_change)
-      at (holds_change x) =
-          let ps = (state_of pairs words log).pieces in
+      at (holds_change x) = let ps = (state_of pairs words log).pieces in
           let same = slot_once (state_of pairs words log) node i w (word_of (ChangeAt x.base))
           (anchor_free pairs words log h) slot x.in_slot in
           ap (logical ps) same

@@ -2,31 +2,16 @@
 use Rattle.std.proofs.Common.{◌≡◌, ℕ, zero, suc, ◌==◌, Bool, true, false, if◌then◌else◌, List, [], ◌∷◌, length, slice_get, Some, option_map, refl, sym, ap, ◌∙◌, subst, arith, le_refl}
 use Rattle.std.proofs.lemmas.List.{length-set}
 use Rattle.std.proofs.lemmas.Bool.Decides.{nat_tests}
-use Rattle.ist_core.specs.declared.states.LeafRow.{LeafRow}
-use Rattle.ist_core.specs.declared.states.InnerRow.{InnerRow}
-use Rattle.ist_core.specs.declared.states.ChangeRow.{ChangeRow}
-use Rattle.ist_core.specs.declared.states.RebuildRow.{RebuildRow}
-use Rattle.ist_core.specs.Arithmetic.{child_count, limit}
-use Rattle.ist_core.specs.References.{unset_word}
-use Rattle.ist_core.specs.Statuses.{undecided}
-use Rattle.ist_core.specs.Pieces.{Pieces, Piece, Leaf, Inner, Change, Rebuild, changed_at, with_slot, with_status, counted, with_decision, with_root, drawn}
-use Rattle.ist_core.specs.Growing.{StatusGoesOn, status_stays, is_marked, is_finished, is_closed, InnerGrows, ChangeGrows, RebuildGrows, Grows, leaf_stays, inner_grows, change_grows, rebuild_grows, AllGrow}
-use Rattle.ist_core.specs.Snapshots.{Snapshot}
-use Rattle.ist_core.specs.Slots.{SlotHolds, in_anchor, in_row, IsChildFor, of_anchor, of_row}
-use Rattle.ist_core.specs.Rebuilding.{IsDue}
+use Rattle.ist_core.specs.Types.{LeafRow, InnerRow, ChangeRow, RebuildRow}
+use Rattle.ist_core.specs.WordTerms.{child_count, unset_word, undecided, Pieces, Piece, Leaf, Inner, Change, Rebuild, changed_at, with_slot, with_status, counted, with_decision, with_root, drawn, SlotHolds, in_anchor, in_row, IsChildFor, of_anchor, of_row}
+use Rattle.ist_core.specs.TreeTerms.{StatusGoesOn, status_stays, is_marked, is_finished, is_closed, InnerGrows, ChangeGrows, RebuildGrows, Grows, leaf_stays, inner_grows, change_grows, rebuild_grows, AllGrow, IsDue}
+use Rattle.ist_core.specs.LogTerms.{Snapshot}
 
 -- ---- growing is an order
 
 -- an inner row may stay as it is
 inner_same : (r : InnerRow) → InnerGrows r r
-inner_same r = record {
-  status = status_stays refl;
-  count = le_refl _;
-  degree = refl;
-  size = refl;
-  keys = refl;
-  slots = refl;
-}
+inner_same r = grind arith
 
 -- each row may stay as it is
 pub grows_same : (p : Piece) → Grows p p
@@ -53,36 +38,20 @@ status_on a b c (is_closed n h i) (is_finished m k l) = absurd (omega arith)
 status_on a b c (is_closed n h i) (is_closed m k l) = absurd (omega arith)
 
 inner_on : (a b c : InnerRow) → InnerGrows a b → InnerGrows b c → InnerGrows a c
-inner_on a b c h k =
-    let first = h.count in
-    let second = k.count in
-    record {
-      status = status_on a.status b.status c.status h.status k.status;
-      count = omega arith;
-      degree = k.degree ∙ h.degree;
-      size = k.size ∙ h.size;
-      keys = k.keys ∙ h.keys;
-      slots = k.slots ∙ h.slots;
-    }
+inner_on a b c h k = let first = h.count in let second = k.count in record {
+  status = status_on a.status b.status c.status h.status k.status;
+  count = omega arith;
+  degree = k.degree ∙ h.degree;
+  size = k.size ∙ h.size;
+  keys = k.keys ∙ h.keys;
+  slots = k.slots ∙ h.slots;
+}
 
 change_on : (a b c : ChangeRow) → ChangeGrows a b → ChangeGrows b c → ChangeGrows a c
-change_on a b c h k =
-    record {
-      decided = λ set. let first = h.decided set in k.decided (λ e. set (sym first ∙ e)) ∙ first;
-      others = k.others ∙ h.others;
-    }
+change_on a b c h k = grind arith
 
 rebuild_on : (a b c : RebuildRow) → RebuildGrows a b → RebuildGrows b c → RebuildGrows a c
-rebuild_on a b c h k =
-    let before = h.draw in
-    let following = k.draw in
-    record {
-      target = k.target ∙ h.target;
-      parent = k.parent ∙ h.parent;
-      index = k.index ∙ h.index;
-      rooted = λ set. let first = h.rooted set in k.rooted (λ e. set (sym first ∙ e)) ∙ first;
-      draw = omega arith;
-    }
+rebuild_on a b c h k = grind arith
 
 -- growing is transitive
 pub grows_on : (p q r : Piece) → Grows p q → Grows q r → Grows p r
@@ -99,15 +68,14 @@ grows_on _ _ _ (rebuild_grows {old = a} {new = b} h) (rebuild_grows {new = c} k)
 -- a row grows if a slot of it is written
 pub grows-with_slot : (i word : ℕ) (p : Piece) → Grows p (with_slot i word p)
 grows-with_slot i word (Leaf r) = leaf_stays
-grows-with_slot i word (Inner r) =
-    inner_grows record {
-      status = status_stays refl;
-      count = le_refl _;
-      degree = refl;
-      size = refl;
-      keys = refl;
-      slots = length-set r.slots i word;
-    }
+grows-with_slot i word (Inner r) = inner_grows record {
+  status = status_stays refl;
+  count = le_refl _;
+  degree = refl;
+  size = refl;
+  keys = refl;
+  slots = length-set r.slots i word;
+}
 grows-with_slot i word (Change r) = grows_same (Change r)
 grows-with_slot i word (Rebuild r) = grows_same (Rebuild r)
 
@@ -159,9 +127,7 @@ all_grow_same ps base p e = (p, e, grows_same p)
 
 -- growing is transitive for all rows
 pub all_grow_on : (ps qs rs : Pieces) → AllGrow ps qs → AllGrow qs rs → AllGrow ps rs
-all_grow_on ps qs rs h k base p e =
-    let first = h base p e in
-    let second = k base first.0 first.1 in
+all_grow_on ps qs rs h k base p e = let first = h base p e in let second = k base first.0 first.1 in
     (second.0, second.1, grows_on p first.0 second.0 first.2 second.2)
 
 -- all rows grow if one row is changed into what it may become
@@ -174,8 +140,7 @@ all_grow-changed_at ps at f grows base p e = here (base == at) refl
     here true same = (
       f p,
       ap (option_map f) e,
-      grows p
-          (subst (λ b. ps b ≡ Some p) (let is : base ≡ at = grind (arith, nat_tests) in is) e),
+      grows p (subst (λ b. ps b ≡ Some p) (let is : base ≡ at = grind (arith, nat_tests) in is) e),
     )
     here false same = (p, e, grows_same p)
 
@@ -189,15 +154,11 @@ all_grow_added ps qs stay base p e = (p, stay base p e, grows_same p)
 -- a leaf is still there when all rows have grown
 pub leaf_there : (ps qs : Pieces) → AllGrow ps qs → (base : ℕ) (r : LeafRow)
     → ps base ≡ Some (Leaf r) → qs base ≡ Some (Leaf r)
-leaf_there ps qs g base r e = at (g base (Leaf r) e).0 (g base (Leaf r) e).1 (g base (Leaf r) e).2
-  where
-    at : (q : Piece) → qs base ≡ Some q → Grows (Leaf r) q → qs base ≡ Some (Leaf r)
-    at _ i leaf_stays = i
+leaf_there ps qs g base r e = grind arith
 
 -- an inner row is still there when all rows have grown, possibly grown
 pub inner_there : (ps qs : Pieces) → AllGrow ps qs → (base : ℕ) (r : InnerRow)
-    → ps base ≡ Some (Inner r)
-    → (s : InnerRow) × (qs base ≡ Some (Inner s)) × InnerGrows r s
+    → ps base ≡ Some (Inner r) → (s : InnerRow) × (qs base ≡ Some (Inner s)) × InnerGrows r s
 inner_there ps qs g base r e = at (g base (Inner r) e).0 (g base (Inner r) e).1
     (g base (Inner r) e).2
   where
@@ -207,25 +168,14 @@ inner_there ps qs g base r e = at (g base (Inner r) e).0 (g base (Inner r) e).1
 
 -- a change is still there when all rows have grown, possibly decided
 pub change_there : (ps qs : Pieces) → AllGrow ps qs → (base : ℕ) (r : ChangeRow)
-    → ps base ≡ Some (Change r)
-    → (s : ChangeRow) × (qs base ≡ Some (Change s)) × ChangeGrows r s
-change_there ps qs g base r e = at (g base (Change r) e).0 (g base (Change r) e).1
-    (g base (Change r) e).2
-  where
-    at : (q : Piece) → qs base ≡ Some q → Grows (Change r) q
-        → (s : ChangeRow) × (qs base ≡ Some (Change s)) × ChangeGrows r s
-    at _ i (change_grows {new = s} h) = (s, i, h)
+    → ps base ≡ Some (Change r) → (s : ChangeRow) × (qs base ≡ Some (Change s)) × ChangeGrows r s
+change_there ps qs g base r e = grind arith
 
 -- a rebuild is still there when all rows have grown, possibly with a root and more draws
 pub rebuild_there : (ps qs : Pieces) → AllGrow ps qs → (base : ℕ) (r : RebuildRow)
     → ps base ≡ Some (Rebuild r)
     → (s : RebuildRow) × (qs base ≡ Some (Rebuild s)) × RebuildGrows r s
-rebuild_there ps qs g base r e = at (g base (Rebuild r) e).0 (g base (Rebuild r) e).1
-    (g base (Rebuild r) e).2
-  where
-    at : (q : Piece) → qs base ≡ Some q → Grows (Rebuild r) q
-        → (s : RebuildRow) × (qs base ≡ Some (Rebuild s)) × RebuildGrows r s
-    at _ i (rebuild_grows {new = s} h) = (s, i, h)
+rebuild_there ps qs g base r e = grind arith
 
 -- ---- slots and children
 
@@ -243,20 +193,15 @@ pub slot_remains : (t u : Snapshot) → AllGrow t.pieces u.pieces → (node i wo
 slot_remains t u g node i word (in_anchor a b e) = (u.anchor, in_anchor a b refl)
 slot_remains t u g node i word (in_row r e at) =
     let it = inner_there t.pieces u.pieces g node r e in
-    let w = get_alike r.slots it.0.slots i word it.2.slots at in
-    (w.0, in_row it.0 it.1 w.1)
+    let w = get_alike r.slots it.0.slots i word it.2.slots at in (w.0, in_row it.0 it.1 w.1)
 
 -- the child for a key is still the same when all rows have grown
 pub child_remains : (t u : Snapshot) → AllGrow t.pieces u.pieces → (node key i : ℕ)
     → IsChildFor t node key i → IsChildFor u node key i
 child_remains t u g node key i (of_anchor a b) = of_anchor a b
-child_remains t u g node key i (of_row r e f) =
-    let it = inner_there t.pieces u.pieces g node r e in
+child_remains t u g node key i (of_row r e f) = let it = inner_there t.pieces u.pieces g node r e in
     of_row it.0 it.1 (f ∙ ap (λ keys. child_count keys key) (sym it.2.keys))
 
 -- a row that is due is due as it grows
 pub due_later : (old new : InnerRow) → InnerGrows old new → IsDue old → IsDue new
-due_later old new g due =
-    let more = g.count in
-    let same : limit new.size ≡ limit old.size = ap limit g.size in
-    omega arith
+due_later old new g due = grind arith

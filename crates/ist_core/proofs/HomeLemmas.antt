@@ -1,19 +1,15 @@
 -- The conjunct `one_home`: an inner row is named for one slot only, by the slot, a change of it or
 -- a rebuild for it.
 -- Serves the one-parent law.
-use Rattle.std.proofs.Common.{◌≡◌, ◌≢◌, ℕ, ◌⊎◌, ◌==◌, if◌then◌else◌, Bool, true, false, slice_get, Option, Some, None, refl, sym, ap, ◌∙◌, subst, inl, inr, ⊎_elim}
+use Rattle.std.proofs.Common.{◌≡◌, ℕ, ◌⊎◌, ◌==◌, if◌then◌else◌, slice_get, Option, Some, None, refl, sym, ap, ◌∙◌, subst, inl, inr, ⊎_elim, arith}
 use Rattle.std.proofs.lemmas.Bool.Decides.{eqb_tells}
-use Rattle.ist_core.specs.declared.states.RebuildRow.{RebuildRow}
-use Rattle.ist_core.specs.RowLayout.{anchor}
-use Rattle.ist_core.specs.References.{Ref, InnerAt, ref_of}
-use Rattle.ist_core.specs.Pieces.{Pieces, Piece, Leaf, Inner, Change, Rebuild, changed_at, with_slot, with_status, counted, with_decision, drawn}
-use Rattle.ist_core.specs.Snapshots.{Snapshot}
-use Rattle.ist_core.specs.Slots.{SlotHolds, in_anchor, in_row}
-use Rattle.ist_core.proofs.RowLemmas.{changed_at-some}
-use Rattle.ist_core.proofs.AddingLemmas.{Adds}
-use Rattle.ist_core.proofs.SlotLemmas.{get-set_some}
+use Rattle.ist_core.specs.Types.{RebuildRow}
+use Rattle.ist_core.specs.WordTerms.{anchor, Ref, InnerAt, ref_of, Pieces, Piece, Leaf, Inner, Change, Rebuild, changed_at, with_slot, with_status, counted, with_decision, drawn, SlotHolds, in_anchor, in_row}
+use Rattle.ist_core.specs.LogTerms.{Snapshot}
+use Rattle.ist_core.proofs.OptionLemmas.{changed_at-some, no_value}
+use Rattle.ist_core.proofs.StepLemmas.{Adds}
+use Rattle.ist_core.proofs.RoomLemmas.{get-set_some}
 use Rattle.ist_core.proofs.NamingLemmas.{InnerHere, SlotNames, RowNames, SideNames, RootNames, WordsName}
-use Rattle.ist_core.proofs.OptionLemmas.{no_value}
 
 -- ---- what is named for a slot
 
@@ -31,8 +27,7 @@ Says base (Rebuild r) node i ref = (node ≡ r.parent) × (i ≡ r.index) ×
 
 -- the reference is named for slot i of the node
 abbrev pub Mentions : Snapshot → ℕ → ℕ → Ref → Type 0
-Mentions t node i ref =
-    ((node ≡ anchor) × (i ≡ 0) × (ref_of t.anchor ≡ Some ref))
+Mentions t node i ref = ((node ≡ anchor) × (i ≡ 0) × (ref_of t.anchor ≡ Some ref))
     ⊎ ((base : ℕ) × (p : Piece) × (t.pieces base ≡ Some p) × Says base p node i ref)
 
 -- an inner row is named for one slot only
@@ -50,9 +45,7 @@ slot_mentions t node i word ref (in_row r p e) is = inr (node, Inner r, p, (refl
 -- an inner row that is named is published
 pub mentioned_here : (t : Snapshot) (node i child : ℕ) → WordsName t
     → Mentions t node i (InnerAt child) → InnerHere t.pieces child
-mentioned_here t node i child o (inl h) = let it : SlotNames t.pieces anchor 0
-    (Some (InnerAt child)) = subst (λ ref. SlotNames t.pieces anchor 0 ref) h.2 o.anchor_slot in
-    it.1
+mentioned_here t node i child o (inl h) = grind (arith, SlotNames)
 mentioned_here t node i child o (inr h) = at h.1 (o.rows h.0 h.1 h.2) h.3
   where
     at : (p : Piece) → RowNames t.pieces h.0 p → Says h.0 p node i (InnerAt child)
@@ -60,15 +53,13 @@ mentioned_here t node i child o (inr h) = at h.1 (o.rows h.0 h.1 h.2) h.3
     at (Leaf r) names says = absurd says
     at (Inner r) names says = let it : SlotNames t.pieces h.0 i (Some (InnerAt child)) = subst
         (λ ref. SlotNames t.pieces h.0 i ref) says.3 (names i says.1 says.2) in it.1
-    at (Change r) names says =
-        ⊎_elim
+    at (Change r) names says = ⊎_elim
         (λ e. let it : SideNames t.pieces r.node r.index (Some (InnerAt child)) = subst
         (λ ref. SideNames t.pieces r.node r.index ref) e names.0 in it.1)
         (λ e. let it : SideNames t.pieces r.node r.index (Some (InnerAt child)) = subst
         (λ ref. SideNames t.pieces r.node r.index ref) e names.1 in it.1)
         says.2
-    at (Rebuild r) names says =
-        ⊎_elim
+    at (Rebuild r) names says = ⊎_elim
         (λ e. let same : r.target ≡ child = cc in subst (λ b. InnerHere t.pieces b) same names.1)
         (λ e. let it : RootNames t.pieces r.target (Some (InnerAt child)) = subst
         (λ ref. RootNames t.pieces r.target ref) e names.2 in it.1)
@@ -107,48 +98,32 @@ came_old of t New base p e node i child says = inl (inr (base, p, e, says))
 
 -- if the added rows name what was named before or is new, so do all rows
 pub came_added : (of : ℕ → Ref) (t : Snapshot) (New : ℕ → ℕ → ℕ → Type 0) (ps qs : Pieces)
-    (Born : ℕ → Piece → Type 0)
-    → Adds ps qs Born → AllCame of t New ps
+    (Born : ℕ → Piece → Type 0) → Adds ps qs Born → AllCame of t New ps
     → ((base : ℕ) (p : Piece) → Born base p → qs base ≡ Some p → SaysCame of t New base p)
     → AllCame of t New qs
 unfolding AllCame
-came_added of t New ps qs Born adds all born base p e = ⊎_elim (λ old. all base p old)
-    (λ new. born base p new e) (adds.from base p e)
+came_added of t New ps qs Born adds all born base p e = grind arith
 
 -- if a changed row names what was named before or is new, so do all rows
 pub came-changed_at : (of : ℕ → Ref) (t : Snapshot) (New : ℕ → ℕ → ℕ → Type 0) (ps : Pieces)
-    (at : ℕ)
-    (f : Piece → Piece)
-    → AllCame of t New ps
+    (at : ℕ) (f : Piece → Piece) → AllCame of t New ps
     → ((p : Piece) → ps at ≡ Some p → SaysCame of t New at p → SaysCame of t New at (f p))
     → AllCame of t New (changed_at ps at f)
 unfolding AllCame
-came-changed_at of t New ps at f all keeps base q e =
-    let it = changed_at-some ps at base f q e in
-    let old = all base it.0 it.1 in
-    ⊎_elim
-    (λ same. subst (λ x. SaysCame of t New base x) (sym same) old)
-    (λ new. subst (λ x. SaysCame of t New base x) (sym new.1)
-    (subst (λ b. SaysCame of t New b (f it.0)) (sym new.0)
-    (keeps it.0 (subst (λ b. ps b ≡ Some it.0) new.0 it.1)
-    (subst (λ b. SaysCame of t New b it.0) new.0 old))))
-    it.2
+came-changed_at of t New ps at f all keeps base q e = grind (arith, changed_at-some)
 
 -- ---- writes
 
 -- if the written word names what was named before or is new, so does the row with it in a slot
 pub came-with_slot : (of : ℕ → Ref) (t : Snapshot) (New : ℕ → ℕ → ℕ → Type 0) (node i word : ℕ)
-    (p : Piece)
-    → WordCame of t New node i (ref_of word) → SaysCame of t New node p
+    (p : Piece) → WordCame of t New node i (ref_of word) → SaysCame of t New node p
     → SaysCame of t New node (with_slot i word p)
 unfolding SaysCame WordCame
-came-with_slot of t New node i word (Inner r) came old n j child says =
-    ⊎_elim
+came-with_slot of t New node i word (Inner r) came old n j child says = ⊎_elim
     (λ w. subst (λ x. WasNamedOrIsNew of t New x j child) (sym says.0)
     (subst (λ x. WasNamedOrIsNew of t New node x child) (sym w.0)
     (came child (ap ref_of (sym w.1) ∙ says.3))))
-    (λ w. old n j child (says.0, says.1, w, says.3))
-    (get-set_some r.slots i j word says.1 says.2)
+    (λ w. old n j child (says.0, says.1, w, says.3)) (get-set_some r.slots i j word says.1 says.2)
 came-with_slot of t New node i word (Leaf r) came old n j child says = old n j child says
 came-with_slot of t New node i word (Change r) came old n j child says = old n j child says
 came-with_slot of t New node i word (Rebuild r) came old n j child says = old n j child says
@@ -159,17 +134,11 @@ pub came-with_root : (of : ℕ → Ref) (t : Snapshot) (New : ℕ → ℕ → �
     → WordCame of t New r.parent r.index (ref_of word) → SaysCame of t New base (Rebuild r)
     → SaysCame of t New base (Rebuild record r { root = word })
 unfolding SaysCame WordCame
-came-with_root of t New base word r came old node i child says =
-    ⊎_elim
-    (λ e. old node i child (says.0, says.1, inl e))
-    (λ e. subst (λ n. WasNamedOrIsNew of t New n i child) (sym says.0)
-    (subst (λ j. WasNamedOrIsNew of t New r.parent j child) (sym says.1) (came child e)))
-    says.2
+came-with_root of t New base word r came old node i child says = grind arith
 
 -- a status names nothing
 pub came-with_status : (of : ℕ → Ref) (t : Snapshot) (New : ℕ → ℕ → ℕ → Type 0) (base status : ℕ)
-    (p : Piece)
-    → SaysCame of t New base p → SaysCame of t New base (with_status status p)
+    (p : Piece) → SaysCame of t New base p → SaysCame of t New base (with_status status p)
 unfolding SaysCame
 came-with_status of t New base status (Inner r) h = h
 came-with_status of t New base status (Leaf r) h = h
@@ -209,13 +178,11 @@ came-with_decision of t New base decision (Rebuild r) h = h
 -- if each named row was named before or is new where it is named, each inner row still has one home
 pub one_home_from : (t u : Snapshot) (New : ℕ → ℕ → ℕ → Type 0) → HasOneHome t → WordsName t
     → AreNew t New → AllCame InnerAt t New u.pieces → WordCame InnerAt t New anchor 0
-    (ref_of u.anchor)
-    → HasOneHome u
+    (ref_of u.anchor) → HasOneHome u
 unfolding AllCame SaysCame WordCame
-one_home_from t u New home names new all word =
-    record {
-      one = λ n i k j child x y. both n i k j child (came n i child x) (came k j child y);
-    }
+one_home_from t u New home names new all word = record {
+  one = λ n i k j child x y. both n i k j child (came n i child x) (came k j child y);
+}
   where
     came : (node i child : ℕ) → Mentions u node i (InnerAt child) → WasNamedOrIsNew InnerAt t New node i child
     came node i child (inl h) = subst (λ n. WasNamedOrIsNew InnerAt t New n i child) (sym h.0)
@@ -245,28 +212,9 @@ one_home_same t u home word pieces = record
 -- what the anchor's word names after a slot is written
 pub anchor_came : (of : ℕ → Ref) (t u : Snapshot) (New : ℕ → ℕ → ℕ → Type 0) (node i word : ℕ)
     → u.anchor ≡ (if node == anchor then word else t.anchor) → (node ≡ anchor → i ≡ 0)
-    → WordCame of t New node i (ref_of word)
-    → WordCame of t New anchor 0 (ref_of u.anchor)
+    → WordCame of t New node i (ref_of word) → WordCame of t New anchor 0 (ref_of u.anchor)
 unfolding WordCame
-anchor_came of t u New node i word is zero_there came child e = at (node == anchor)
-    (eqb_tells node anchor) (ap ref_of (sym is) ∙ e)
-  where
-    at : (v : Bool)
-        → (((node == anchor) ≡ true) × (node ≡ anchor)) ⊎
-        (((node == anchor) ≡ false) × (node ≢ anchor))
-        → ref_of (if node == anchor then word else t.anchor) ≡ Some (of child)
-        → WasNamedOrIsNew of t New anchor 0 child
-    at v (inl k) f =
-        subst (λ j. WasNamedOrIsNew of t New anchor j child) (zero_there k.1)
-        (subst (λ n. WasNamedOrIsNew of t New n i child) k.1
-        (came child (subst (λ b. ref_of (if b then word else t.anchor) ≡ Some (of child)) k.0
-        f)))
-    at v (inr k) f = inl (inl (
-      refl,
-      refl,
-      subst
-          (λ b. ref_of (if b then word else t.anchor) ≡ Some (of child)) k.0 f,
-    ))
+anchor_came of t u New node i word is zero_there came child e = grind (arith, eqb_tells)
 
 -- what the anchor's word names if it isn't written
 pub anchor_old : (of : ℕ → Ref) (t u : Snapshot) (New : ℕ → ℕ → ℕ → Type 0) → u.anchor ≡ t.anchor

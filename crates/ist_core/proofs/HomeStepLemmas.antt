@@ -1,25 +1,19 @@
 -- Each event keeps the conjunct `one_home`. Serves the one-parent law.
-use Rattle.std.proofs.Common.{◌≡◌, ◌≢◌, ℕ, ◌⊎◌, ◌==◌, if◌then◌else◌, true, false, List, Option, Some, None, refl, sym, subst, inl, inr}
-use Rattle.ist_core.specs.declared.lists.Row.{Row}
-use Rattle.ist_core.specs.declared.events.Event.TheVariants.{Resolve, Root, Place}
-use Rattle.ist_core.specs.RowLayout.{anchor}
-use Rattle.ist_core.specs.References.{Ref, InnerAt, ChangeAt, ref_of, word_of}
-use Rattle.ist_core.specs.Statuses.{decided_yes}
-use Rattle.ist_core.specs.Elements.{Among, Each}
-use Rattle.ist_core.specs.Pieces.{Pieces, Piece, Inner, Change, Rebuild, with_inners, changed_at, with_slot, with_root}
-use Rattle.ist_core.specs.Snapshots.{Snapshot, bases_of}
-use Rattle.ist_core.specs.After.{after, side_of, resolved}
-use Rattle.ist_core.specs.Deciding.{CanResolve}
-use Rattle.ist_core.specs.Building.{CanRoot, CanPlace}
-use Rattle.ist_core.proofs.ElementLemmas.{each-among}
+use Rattle.std.proofs.Common.{◌≡◌, ◌≢◌, ℕ, ◌⊎◌, ◌==◌, if◌then◌else◌, true, false, List, Option, Some, None, refl, sym, subst, inl, inr, ◌-◌, ◌≤◌, [], ◌∷◌, ⊎_elim, arith}
+use Rattle.ist_core.specs.Types.{Row, Resolve, Root, Place, Pair, ChangeRow}
+use Rattle.ist_core.specs.WordTerms.{anchor, Ref, InnerAt, ChangeAt, ref_of, word_of, decided_yes, Pieces, Piece, Change, Rebuild, with_inners, changed_at, with_slot, with_root, first_row, words_of, size_of, row_at, inner_of, StandsAt, start}
+use Rattle.ist_core.specs.LogTerms.{Among, Each, Snapshot, bases_of, after, side_of, resolved, Log, EachEnabled, state_of}
+use Rattle.ist_core.specs.TreeTerms.{CanResolve, CanRoot, CanPlace, FitsKind, a_put, a_pair, a_remove, a_start, a_finish, Apart, IsWithin, RowsStand}
+use Rattle.ist_core.proofs.OptionLemmas.{each-among, with_inners-some}
 use Rattle.ist_core.proofs.MoveLemmas.{HeldLieApart}
-use Rattle.ist_core.proofs.AddingLemmas.{adds-with_inners, held_free}
-use Rattle.ist_core.proofs.StepLemmas.{rows_resolved, rows_placed, known}
-use Rattle.ist_core.proofs.SlotLemmas.{anchor_slot}
+use Rattle.ist_core.proofs.StepLemmas.{adds-with_inners, held_free, IsInstalledWith, rows_resolved, rows_placed, known}
+use Rattle.ist_core.proofs.RoomLemmas.{anchor_slot}
 use Rattle.ist_core.proofs.NamingLemmas.{WordsName}
 use Rattle.ist_core.proofs.TreeLemmas.{IsTreeRow, root_tree, tree_of_ideal, tree_rows}
 use Rattle.ist_core.proofs.BranchLemmas.{HangsIn, hangs_among, hangs_once}
 use Rattle.ist_core.proofs.HomeLemmas.{Says, Mentions, HasOneHome, WasNamedOrIsNew, SaysCame, WordCame, AllCame, AreNew, came_old, came_added, came-changed_at, came-with_slot, came-with_root, one_home_from, anchor_came, anchor_old}
+use Rattle.std.proofs.lemmas.List.{take-append-drop}
+use Rattle.ist_core.proofs.PlaceLemmas.{claimed_within, claimed_apart, placed, next_after_fixed}
 
 -- nothing new
 abbrev pub NoneNew : ℕ → ℕ → ℕ → Type 0
@@ -30,8 +24,7 @@ none_new t = record { unpublished = λ node i child h. absurd h; one = λ n i k 
 
 -- a word that names no row of the kind
 pub word_of_other : (of : ℕ → Ref) (t : Snapshot) (New : ℕ → ℕ → ℕ → Type 0) (node i : ℕ) (word : Option Ref)
-    (ref : Ref)
-    → word ≡ Some ref → ((child : ℕ) → ref ≢ of child) → WordCame of t New node i word
+    (ref : Ref) → word ≡ Some ref → ((child : ℕ) → ref ≢ of child) → WordCame of t New node i word
 unfolding WordCame
 word_of_other of t New node i word ref e other child f = absurd (other child (cc))
 
@@ -68,12 +61,10 @@ one_home_changed t u at f word pieces keeps names home =
 pub one_home_resolve : (t : Snapshot) (caller base : ℕ) → (h : CanResolve t caller base)
     → t.pieces anchor ≡ None → WordsName t → HasOneHome t
     → HasOneHome (after t (Resolve caller base))
-one_home_resolve t caller base h free names home =
-    let change = h.change in
+one_home_resolve t caller base h free names home = let change = h.change in
     let side = word_mentioned InnerAt t NoneNew change.node change.index (ref_of (side_of change))
     (λ child e. inr (base, Change change, h.published, (refl, refl, either child e))) in
-    let u = resolved t (Some change) in
-    subst HasOneHome (sym (rows_resolved t caller base h))
+    let u = resolved t (Some change) in subst HasOneHome (sym (rows_resolved t caller base h))
     (one_home_from t u NoneNew home names (none_new t)
     (came-changed_at InnerAt t NoneNew t.pieces change.node
     (with_slot change.index (side_of change)) (came_old InnerAt t NoneNew)
@@ -85,8 +76,7 @@ one_home_resolve t caller base h free names home =
     either : (child : ℕ) → ref_of (side_of h.change) ≡ Some (InnerAt child)
         → (ref_of h.change.from ≡ Some (InnerAt child)) ⊎
         (ref_of h.change.to ≡ Some (InnerAt child))
-    either child =
-        elim (h.change.decision == decided_yes) as
+    either child = elim (h.change.decision == decided_yes) as
         (λ v. ref_of (if v then h.change.to else h.change.from) ≡ Some (InnerAt child) →
         (ref_of h.change.from ≡ Some (InnerAt child)) ⊎
         (ref_of h.change.to ≡ Some (InnerAt child))) [
@@ -102,28 +92,15 @@ tree_says : (t : Snapshot) (ps : Pieces) (parent at : ℕ) (ref : Ref) (rows : L
     → SaysCame InnerAt t (HangsIn ps parent at ref rows) base p
 unfolding SaysCame
 tree_says t ps parent at ref rows all base p i e =
-    let it = each-among (IsTreeRow ps) base rows all i in
-    known (λ x. (node j child : ℕ) → Says base x node j (InnerAt child) → WasNamedOrIsNew InnerAt t
-    (HangsIn ps parent at ref rows) node j child) (ps base) p (Inner it.row) e it.published
-    (λ node j child says.
-    inr (inr record {
-      among = subst (λ b. Among b rows) (sym says.0) i;
-      row = it.row;
-      published = subst (λ b. ps b ≡ Some (Inner it.row)) (sym says.0) it.published;
-      word = says.1;
-      in_slot = says.2;
-      reads = says.3;
-    }))
+    grind (arith, each-among, IsTreeRow, known, Says, WasNamedOrIsNew, HangsIn)
 
 -- a Root leaves each inner row one home
 pub one_home_root : (t : Snapshot) (caller rebuild word : ℕ) (rows : List Row)
     → (h : CanRoot t caller rebuild word rows) → HeldLieApart t → WordsName t → HasOneHome t
     → HasOneHome (after t (Root caller rebuild word rows))
 one_home_root t caller rebuild word rows h sound names home =
-    let u = after t (Root caller rebuild word rows) in
-    let qs = with_inners t.pieces rows in
-    let bases = bases_of rows in
-    let adds = adds-with_inners t caller rows h.held sound in
+    let u = after t (Root caller rebuild word rows) in let qs = with_inners t.pieces rows in
+    let bases = bases_of rows in let adds = adds-with_inners t caller rows h.held sound in
     let tree = root_tree qs word h.k h.leaves h.row.target bases h.root in
     let New = HangsIn qs h.row.parent h.row.index tree.0 bases in
     let all = came_added InnerAt t New t.pieces qs (λ base p. Among base bases) adds (came_old InnerAt t New)
@@ -148,10 +125,8 @@ pub one_home_place : (t : Snapshot) (caller rebuild i word : ℕ) (rows : List R
     → (h : CanPlace t caller rebuild i word rows) → HeldLieApart t → WordsName t → HasOneHome t
     → HasOneHome (after t (Place caller rebuild i word rows))
 one_home_place t caller rebuild i word rows h sound names home =
-    let u = after t (Place caller rebuild i word rows) in
-    let qs = with_inners t.pieces rows in
-    let bases = bases_of rows in
-    let adds = adds-with_inners t caller rows h.held sound in
+    let u = after t (Place caller rebuild i word rows) in let qs = with_inners t.pieces rows in
+    let bases = bases_of rows in let adds = adds-with_inners t caller rows h.held sound in
     let tree = tree_of_ideal qs h.ref h.part h.root bases h.ideal in
     let New = HangsIn qs h.root i h.ref bases in
     let all = came_added InnerAt t New t.pieces qs (λ base p. Among base bases) adds (came_old InnerAt t New)
@@ -165,3 +140,71 @@ one_home_place t caller rebuild i word rows h sound names home =
     (subst (λ ps. AllCame InnerAt t New ps) (sym (rows_placed t caller rebuild i word rows h))
     (came-changed_at InnerAt t New qs h.root (with_slot i word) all (λ p _ old. came-with_slot InnerAt t New h.root i word p slot old)))
     (anchor_old InnerAt t u New refl)
+
+-- ---- which words the rows that an event publishes have in the image, and that a state's rows lie apart.
+-- Serves `laws.one_word_is_written`.
+
+-- ---- rows that are published
+
+-- the words of a row, if there is one
+pub words_in : Option Piece → List ℕ
+words_in (Some q) = words_of q
+words_in None = []
+
+-- an inner row has the words that it was read from
+pub words_of-inner_of : (words : List ℕ) (p : Piece) → inner_of words ≡ Some p → words_of p ≡ words
+unfolding words_in
+words_of-inner_of [] p e = absurd (cc)
+words_of-inner_of (a ∷ []) p e = absurd (cc)
+words_of-inner_of (a ∷ b ∷ []) p e = absurd (cc)
+words_of-inner_of (a ∷ b ∷ c ∷ []) p e = absurd (cc)
+words_of-inner_of (status ∷ count ∷ degree ∷ size ∷ rest) p e = grind (arith, take-append-drop)
+
+-- if the words of these rows are in the table, so is the row at a base that has the words of one of
+-- them
+pub row_stands : (words : List ℕ) (rows : List Row) (row : Row) (base : ℕ) (p : Piece)
+    → RowsStand words rows → Among row rows → row.base ≡ base → row.words ≡ words_of p
+    → StandsAt words base p
+row_stands words rows row base p all i here is k less = grind (arith, each-among)
+
+-- published inner rows are in the table
+pub inners_stand : (ps : Pieces) (words : List ℕ) (rows : List Row) → RowsStand words rows
+    → ((base : ℕ) (p : Piece) → ps base ≡ Some p → StandsAt words base p)
+    → (base : ℕ) (p : Piece) → with_inners ps rows base ≡ Some p → StandsAt words base p
+inners_stand ps words rows all old base p e =
+    grind (arith, row_stands, words_of-inner_of, with_inners-some)
+
+-- a row of an Install is one of those that it publishes
+pub installed_row : (first : Snapshot) (log : Log) (at : ℕ) (change : ChangeRow) (fresh : List Row)
+    (fits : FitsKind first log change fresh) (base : ℕ) (p : Piece)
+    → IsInstalledWith first log at change fresh fits base p
+    → Among (row_at base p) (row_at at (Change change) ∷ fresh)
+installed_row first log at change fresh fits base p (inl h) = inl (λ i. row_at (h.0 i) (h.1 i))
+installed_row first log at change fresh (a_put f) base p (inr h) = grind arith
+installed_row first log at change fresh (a_pair f) base p (inr (inl h)) = grind arith
+installed_row first log at change fresh (a_pair f) base p (inr (inr h)) = grind arith
+installed_row first log at change fresh (a_remove f) base p (inr h) = absurd h
+installed_row first log at change fresh (a_start f) base p (inr h) = grind arith
+installed_row first log at change fresh (a_finish f) base p (inr h) = absurd h
+
+-- ---- where the rows of a state lie
+
+-- rows lie within the table and apart
+pub record RowsApart (u : Snapshot) : Type 0 where
+  pub low_next : first_row ≤ u.next
+  -- each row lies after the fixed words and below the first free word
+  pub within : (base : ℕ) (p : Piece) → u.pieces base ≡ Some p → IsWithin u base (size_of p)
+  -- two rows at different bases share no word
+  pub apart : (base other : ℕ) (p q : Piece) → u.pieces base ≡ Some p → u.pieces other ≡ Some q
+      → base ≢ other → Apart base (size_of p) other (size_of q)
+
+-- the rows after a log from a new table lie apart
+pub rows_apart : (pairs : List Pair) (words : ℕ) (log : Log) → EachEnabled (start pairs words) log
+    → RowsApart (state_of pairs words log)
+rows_apart pairs words log h = let k = placed pairs words log h in record {
+  low_next = next_after_fixed pairs words log h;
+  within = λ base p e. claimed_within pairs words log base (size_of p) h (k.published base p e);
+  apart = λ base other p q e f differ. ⊎_elim (λ same. absurd (differ same.0)) (λ a. a.1)
+      (claimed_apart pairs words log base (size_of p) other (size_of q) h (k.published base p e)
+      (k.published other q f));
+}

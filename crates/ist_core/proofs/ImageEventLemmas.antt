@@ -1,30 +1,17 @@
 -- What each kind of event writes into the image. Serves `laws.one_word_is_written`.
-use Rattle.std.proofs.Common.{◌≡◌, ℕ, ◌+◌, ◌<◌, ◌≤◌, List, ◌∷◌, length, slice_set, Some, None, refl, sym, ap, ◌∙◌, subst, ⊎_elim, arith, length-set}
-use Rattle.ist_core.specs.declared.lists.Row.{Row}
-use Rattle.ist_core.specs.declared.states.InnerRow.{InnerRow}
-use Rattle.ist_core.specs.declared.states.RebuildRow.{RebuildRow}
-use Rattle.ist_core.specs.declared.events.Event.TheVariants.{Enter, Reserve, Install, Resolve, Count, Root, Draw, Place}
-use Rattle.ist_core.specs.RowLayout.{next_place, callers_place, anchor, anchor_status_place, anchor_slot_place}
-use Rattle.ist_core.specs.References.{ChangeAt, word_of, unset_word}
-use Rattle.ist_core.specs.Pieces.{Piece, Inner, Change, Rebuild, words_of, row_at, as_inner, as_change, as_rebuild, with_inners, changed_at, counted, with_root, drawn}
-use Rattle.ist_core.specs.Snapshots.{Snapshot}
-use Rattle.ist_core.specs.Images.{StandsAt, IsImage}
-use Rattle.ist_core.specs.After.{after, side_of, resolved}
-use Rattle.ist_core.specs.Logs.{Log, state}
-use Rattle.ist_core.specs.Installing.{CanInstall}
-use Rattle.ist_core.specs.Deciding.{CanResolve}
-use Rattle.ist_core.specs.Building.{CanRoot, CanPlace}
-use Rattle.ist_core.specs.Writing.{touch_of, touched, touch_of_resolve, touch_of_count, touch_of_draw, touch_of_place, touch_in_root, place_of_slot, RowsStand}
+use Rattle.std.proofs.Common.{◌≡◌, ℕ, ◌+◌, ◌<◌, List, ◌∷◌, length, slice_set, Some, None, refl, sym, ap, ◌∙◌, subst, ⊎_elim, arith, length-set}
+use Rattle.ist_core.specs.Types.{Row, InnerRow, RebuildRow, Enter, Reserve, Install, Resolve, Count, Root, Draw, Place}
+use Rattle.ist_core.specs.WordTerms.{next_place, callers_place, anchor, anchor_status_place, anchor_slot_place, ChangeAt, word_of, unset_word, Piece, Inner, Change, Rebuild, words_of, row_at, as_inner, as_change, as_rebuild, with_inners, changed_at, counted, with_root, drawn, StandsAt, IsImage, in_row}
+use Rattle.ist_core.specs.LogTerms.{Snapshot, after, side_of, resolved, Log, state}
+use Rattle.ist_core.specs.TreeTerms.{CanInstall, CanResolve, CanRoot, CanPlace, touch_of, touched, touch_of_resolve, touch_of_count, touch_of_draw, touch_of_place, touch_in_root, place_of_slot, RowsStand}
 use Rattle.ist_core.proofs.MoveLemmas.{HeldLieApart}
 use Rattle.ist_core.proofs.InstallLemmas.{with_installed}
-use Rattle.ist_core.proofs.AddingLemmas.{adds_install, adds-with_inners}
-use Rattle.ist_core.proofs.StepLemmas.{rows_resolved, rows_placed, holds_installed}
-use Rattle.ist_core.proofs.SlotLemmas.{get-set_same, get-set_other, no_row}
+use Rattle.ist_core.proofs.StepLemmas.{adds_install, adds-with_inners, rows_resolved, rows_placed, holds_installed}
+use Rattle.ist_core.proofs.RoomLemmas.{get-set_same, get-set_other, no_row}
 use Rattle.ist_core.specs.Naming.{HasDegree}
-use Rattle.ist_core.specs.Slots.{in_row}
 use Rattle.ist_core.proofs.SlotStepLemmas.{elsewhere}
 use Rattle.ist_core.proofs.ImageLemmas.{image_row, image_slot}
-use Rattle.ist_core.proofs.ImageRowLemmas.{inners_stand, row_stands, installed_row, RowsApart}
+use Rattle.ist_core.proofs.HomeStepLemmas.{inners_stand, row_stands, installed_row, RowsApart}
 
 -- ---- the events that write no word, or a fixed one
 
@@ -32,63 +19,49 @@ use Rattle.ist_core.proofs.ImageRowLemmas.{inners_stand, row_stands, installed_r
 pub image_same : (t u : Snapshot) (words : List ℕ) → u.words ≡ t.words → u.next ≡ t.next
     → u.callers ≡ t.callers → u.anchor ≡ t.anchor → u.pieces ≡ t.pieces → IsImage t words
     → IsImage u words
-image_same t u words a b c d e image =
-    record {
-      size = image.size ∙ sym a;
-      next = image.next ∙ ap (λ n. Some n) (sym b);
-      callers = image.callers ∙ ap (λ n. Some n) (sym c);
-      anchor_status = image.anchor_status;
-      anchor_slot = image.anchor_slot ∙ ap (λ n. Some n) (sym d);
-      rows = λ base p k. image.rows base p (subst (λ ps. ps base ≡ Some p) e k);
-      free = λ place k l. image.free place (subst (λ n. n ≤ place) b k) (subst (λ n. place < n) a l);
-    }
+image_same t u words a b c d e image = grind arith
 
 -- a fixed word before all rows is written
 pub row_after : (words : List ℕ) (base place word : ℕ) (p : Piece) → place < base
     → StandsAt words base p → StandsAt (slice_set words place word) base p
-row_after words base place word p low h k less = get-set_other words place (base + k) word
-    (λ e. omega arith) ∙ h k less
+row_after words base place word p low h k less = grind (arith, get-set_other)
 
 -- an Enter writes one word of the image
 pub image_enter : (t : Snapshot) (caller : ℕ) (words : List ℕ) → RowsApart t → IsImage t words
     → IsImage (after t (Enter caller)) (slice_set words callers_place (t.callers + 1))
-image_enter t caller words a image =
-    let low = a.low_next in
-    record {
-      size = length-set words callers_place (t.callers + 1) ∙ image.size;
-      next = get-set_other words callers_place next_place (t.callers + 1) (λ e. omega arith) ∙
-          image.next;
-      callers = get-set_same words callers_place (t.callers + 1) t.callers image.callers;
-      anchor_status = get-set_other words callers_place anchor_status_place (t.callers + 1)
-          (λ e. omega arith) ∙ image.anchor_status;
-      anchor_slot = get-set_other words callers_place anchor_slot_place (t.callers + 1)
-          (λ e. omega arith) ∙ image.anchor_slot;
-      rows = λ base p e. let in_it = a.within base p e in let bottom = in_it.after_fixed in
-          row_after words base callers_place (t.callers + 1) p (omega arith) (image.rows base p e);
-      free = λ place k l. get-set_other words callers_place place (t.callers + 1) (λ e. omega arith)
-          ∙ image.free place k l;
-    }
+image_enter t caller words a image = let low = a.low_next in record {
+  size = length-set words callers_place (t.callers + 1) ∙ image.size;
+  next = get-set_other words callers_place next_place (t.callers + 1) (λ e. omega arith) ∙
+      image.next;
+  callers = get-set_same words callers_place (t.callers + 1) t.callers image.callers;
+  anchor_status = get-set_other words callers_place anchor_status_place (t.callers + 1)
+      (λ e. omega arith) ∙ image.anchor_status;
+  anchor_slot = get-set_other words callers_place anchor_slot_place (t.callers + 1)
+      (λ e. omega arith) ∙ image.anchor_slot;
+  rows = λ base p e. let in_it = a.within base p e in let bottom = in_it.after_fixed in
+      row_after words base callers_place (t.callers + 1) p (omega arith) (image.rows base p e);
+  free = λ place k l. get-set_other words callers_place place (t.callers + 1) (λ e. omega arith)
+      ∙ image.free place k l;
+}
 
 -- a Reserve writes one word of the image
 pub image_reserve : (t : Snapshot) (caller base size : ℕ) (words : List ℕ) → base ≡ t.next → RowsApart t
     → IsImage t words
     → IsImage (after t (Reserve caller base size)) (slice_set words next_place (base + size))
-image_reserve t caller base size words is a image =
-    let low = a.low_next in
-    record {
-      size = length-set words next_place (base + size) ∙ image.size;
-      next = get-set_same words next_place (base + size) t.next image.next;
-      callers = get-set_other words next_place callers_place (base + size) (λ e. omega arith) ∙
-          image.callers;
-      anchor_status = get-set_other words next_place anchor_status_place (base + size)
-          (λ e. omega arith) ∙ image.anchor_status;
-      anchor_slot = get-set_other words next_place anchor_slot_place (base + size)
-          (λ e. omega arith) ∙ image.anchor_slot;
-      rows = λ b p e. let in_it = a.within b p e in let bottom = in_it.after_fixed in row_after
-          words b next_place (base + size) p (omega arith) (image.rows b p e);
-      free = λ place k l. get-set_other words next_place place (base + size) (λ e. omega arith) ∙
-          image.free place (omega arith) l;
-    }
+image_reserve t caller base size words is a image = let low = a.low_next in record {
+  size = length-set words next_place (base + size) ∙ image.size;
+  next = get-set_same words next_place (base + size) t.next image.next;
+  callers = get-set_other words next_place callers_place (base + size) (λ e. omega arith) ∙
+      image.callers;
+  anchor_status = get-set_other words next_place anchor_status_place (base + size)
+      (λ e. omega arith) ∙ image.anchor_status;
+  anchor_slot = get-set_other words next_place anchor_slot_place (base + size)
+      (λ e. omega arith) ∙ image.anchor_slot;
+  rows = λ b p e. let in_it = a.within b p e in let bottom = in_it.after_fixed in row_after
+      words b next_place (base + size) p (omega arith) (image.rows b p e);
+  free = λ place k l. get-set_other words next_place place (base + size) (λ e. omega arith) ∙
+      image.free place (omega arith) l;
+}
 
 -- ---- the events that write a word of a row
 
@@ -116,8 +89,7 @@ image_count t caller node words r e a image =
 -- a Draw writes one word of the image
 pub image_draw : (t : Snapshot) (caller rebuild part : ℕ) (words : List ℕ) (r : RebuildRow)
     → t.pieces rebuild ≡ Some (Rebuild r) → RowsApart (after t (Draw caller rebuild part))
-    → IsImage t words
-    → IsImage (after t (Draw caller rebuild part))
+    → IsImage t words → IsImage (after t (Draw caller rebuild part))
     (touched words (touch_of t (Draw caller rebuild part)))
 image_draw t caller rebuild part words r e a image =
     subst (λ x. IsImage (after t (Draw caller rebuild part))
@@ -138,8 +110,7 @@ pub record SlotsReady (t : Snapshot) : Type 0 where
 pub image_resolve : (t : Snapshot) (caller base : ℕ) (words : List ℕ) (h : CanResolve t caller base)
     → SlotsReady t → RowsApart (after t (Resolve caller base)) → IsImage t words
     → IsImage (after t (Resolve caller base)) (touched words (touch_of t (Resolve caller base)))
-image_resolve t caller base words h ready a image =
-    let u = resolved t (Some h.change) in
+image_resolve t caller base words h ready a image = let u = resolved t (Some h.change) in
     let b = subst RowsApart (rows_resolved t caller base h) a in
     subst (λ x. IsImage (after t (Resolve caller base)) (touched words (touch_of_resolve t base x)))
     (sym (ap as_change h.published))
@@ -157,8 +128,7 @@ pub image_place : (t : Snapshot) (caller rebuild i word : ℕ) (rows : List Row)
     → IsImage (after t (Place caller rebuild i word rows))
     (touched words (touch_of t (Place caller rebuild i word rows)))
 image_place t caller rebuild i word rows words h ready a free stand image =
-    let u = after t (Place caller rebuild i word rows) in
-    let qs = with_inners t.pieces rows in
+    let u = after t (Place caller rebuild i word rows) in let qs = with_inners t.pieces rows in
     let keeps = (adds-with_inners t caller rows h.held ready.sound).keeps in
     let touch = ap (λ o. touch_of_place t o i word) (ap as_rebuild h.published) ∙ ap
     (λ o. touch_in_root t o i word) h.root_is in
@@ -174,30 +144,25 @@ image_place t caller rebuild i word rows words h ready a free stand image =
 pub image_root : (t : Snapshot) (caller rebuild word : ℕ) (rows : List Row) (words : List ℕ)
     (h : CanRoot t caller rebuild word rows)
     → SlotsReady t → RowsApart (after t (Root caller rebuild word rows))
-    → RowsStand words rows → IsImage t words
-    → IsImage (after t (Root caller rebuild word rows))
+    → RowsStand words rows → IsImage t words → IsImage (after t (Root caller rebuild word rows))
     (touched words (touch_of t (Root caller rebuild word rows)))
 image_root t caller rebuild word rows words h ready a stand image =
-    let u = after t (Root caller rebuild word rows) in
-    let qs = with_inners t.pieces rows in
+    let u = after t (Root caller rebuild word rows) in let qs = with_inners t.pieces rows in
     let keeps = (adds-with_inners t caller rows h.held ready.sound).keeps in
     image_row t u words image refl refl refl a.low_next a.within a.apart qs rebuild 3 word
-    (Rebuild h.row) (with_root word)
-    (inners_stand t.pieces words rows stand image.rows) refl
+    (Rebuild h.row) (with_root word) (inners_stand t.pieces words rows stand image.rows) refl
     (keeps rebuild (Rebuild h.row) h.published) refl (omega arith) refl
 
 -- an Install writes one word of the image, if its rows are in their words
 pub image_install : (first : Snapshot) (log : Log) (caller base : ℕ) (rows : List Row) (words : List ℕ)
-    (h : CanInstall first log caller base rows)
-    → SlotsReady (state first log)
+    (h : CanInstall first log caller base rows) → SlotsReady (state first log)
     → RowsApart (after (state first log) (Install caller base rows))
     → with_installed (state first log).pieces base h.change h.fresh anchor ≡ None
     → RowsStand words rows → IsImage (state first log) words
     → IsImage (after (state first log) (Install caller base rows))
     (touched words (touch_of (state first log) (Install caller base rows)))
 image_install first log caller base rows words h ready a free stand image =
-    let t = state first log in
-    let all = row_at base (Change h.change) ∷ h.fresh in
+    let t = state first log in let all = row_at base (Change h.change) ∷ h.fresh in
     let b = subst (λ xs. RowsApart (after t (Install caller base xs))) h.rows_are a in
     let there = subst (λ xs. RowsStand words xs) h.rows_are stand in
     let qs = with_installed t.pieces base h.change h.fresh in

@@ -2,18 +2,13 @@
 use Rattle.std.proofs.Common.{◌≡◌, ◌≢◌, ℕ, zero, suc, ◌+◌, ◌<◌, ◌≤◌, ◌⊎◌, ◌==◌, if◌then◌else◌, Bool, true, false, List, [], ◌∷◌, ◌++◌, length, get_or, slice_get, slice_set, Some, None, option_map, refl, sym, ap, ◌∙◌, subst, inl, inr, ⊎_elim, arith, length-set, length-append}
 use Rattle.std.proofs.lemmas.Bool.Decides.{nat_tests, eqb_tells}
 use Rattle.std.proofs.lemmas.Option.{slice_get-get_or}
-use Rattle.ist_core.specs.declared.states.InnerRow.{InnerRow}
-use Rattle.ist_core.specs.RowLayout.{next_place, callers_place, anchor, anchor_status_place, anchor_slot_place, first_row, slot_place}
-use Rattle.ist_core.specs.Pieces.{Pieces, Piece, Inner, words_of, size_of, changed_at, with_slot, as_inner}
-use Rattle.ist_core.specs.Snapshots.{Snapshot}
-use Rattle.ist_core.specs.Images.{StandsAt, IsImage}
-use Rattle.ist_core.specs.Slots.{SlotHolds, in_anchor, in_row}
-use Rattle.ist_core.specs.Rows.{Apart, IsWithin}
-use Rattle.ist_core.specs.Writing.{place_in, place_of_slot}
-use Rattle.ist_core.proofs.RowLemmas.{changed_at-same, changed_at-other, changed_at-some}
-use Rattle.ist_core.proofs.SlotLemmas.{get-set_same, get-set_other, no_row}
+use Rattle.ist_core.specs.Types.{InnerRow}
+use Rattle.ist_core.specs.WordTerms.{next_place, callers_place, anchor, anchor_status_place, anchor_slot_place, first_row, slot_place, Pieces, Piece, Inner, words_of, size_of, changed_at, with_slot, as_inner, StandsAt, IsImage, SlotHolds, in_anchor, in_row}
+use Rattle.ist_core.specs.LogTerms.{Snapshot}
+use Rattle.ist_core.specs.TreeTerms.{Apart, IsWithin, place_in, place_of_slot}
+use Rattle.ist_core.proofs.OptionLemmas.{changed_at-same, changed_at-other, changed_at-some, same_value, no_value}
+use Rattle.ist_core.proofs.RoomLemmas.{get-set_same, get-set_other, no_row}
 use Rattle.ist_core.specs.Naming.{HasDegree}
-use Rattle.ist_core.proofs.OptionLemmas.{same_value, no_value}
 
 -- ---- one word of a list
 
@@ -25,8 +20,7 @@ has_word xs k h = (get_or xs k 0, slice_get-get_or xs k 0 h)
 set_after : (xs ys : List ℕ) (i word : ℕ)
     → slice_set (xs ++ ys) (length xs + i) word ≡ xs ++ slice_set ys i word
 set_after [] ys i word = let same : 0 + i ≡ i = omega arith in ap (λ k. slice_set ys k word) same
-set_after (x ∷ xs) ys i word =
-    let same : length (x ∷ xs) + i ≡ suc (length xs + i) = omega arith in
+set_after (x ∷ xs) ys i word = let same : length (x ∷ xs) + i ≡ suc (length xs + i) = omega arith in
     ap (λ k. slice_set (x ∷ (xs ++ ys)) k word) same ∙ ap (λ zs. x ∷ zs) (set_after xs ys i word)
 
 -- a slot of an inner row is one of its words
@@ -41,16 +35,13 @@ words_of-with_slot r i word =
 -- a word past the end of a first part is a word of the rest
 pub get_after : (xs ys : List ℕ) (i : ℕ) → slice_get (xs ++ ys) (length xs + i) ≡ slice_get ys i
 get_after [] ys i = let same : 0 + i ≡ i = omega arith in ap (slice_get ys) same
-get_after (x ∷ xs) ys i =
-    let same : length (x ∷ xs) + i ≡ suc (length xs + i) = omega arith in
+get_after (x ∷ xs) ys i = let same : length (x ∷ xs) + i ≡ suc (length xs + i) = omega arith in
     ap (slice_get (x ∷ (xs ++ ys))) same ∙ get_after xs ys i
 
 -- the slots of an inner row follow its four fields and its keys
 pub get-words_of_slot : (r : InnerRow) (i : ℕ)
     → slice_get (words_of (Inner r)) (4 + length r.keys + i) ≡ slice_get r.slots i
-get-words_of_slot r i =
-    let same : 4 + length r.keys + i ≡ suc (suc (suc (suc (length r.keys + i)))) = omega arith in
-    ap (slice_get (words_of (Inner r))) same ∙ get_after r.keys r.slots i
+get-words_of_slot r i = grind (arith, get_after)
 
 -- a word that is read lies below the end
 pub get_below : (xs : List ℕ) (k word : ℕ) → slice_get xs k ≡ Some word → k < length xs
@@ -68,16 +59,12 @@ stands_set words base j word p q below is h k less = at (eqb_tells k j)
   where
     at : (((k == j) ≡ true) × (k ≡ j)) ⊎ (((k == j) ≡ false) × (k ≢ j))
         → slice_get (slice_set words (base + j) word) (base + k) ≡ slice_get (words_of q) k
-    at (inl e) =
-        let old = has_word (words_of p) j below in
-        let there = h j below ∙ old.1 in
+    at (inl e) = let old = has_word (words_of p) j below in let there = h j below ∙ old.1 in
         ap (λ n. slice_get (slice_set words (base + j) word) (base + n)) e.1 ∙ get-set_same words
         (base + j) word old.0 there
         ∙ sym (ap (λ ws. slice_get ws k) is ∙ ap (λ n. slice_get (slice_set (words_of p) j word) n)
         e.1 ∙ get-set_same (words_of p) j word old.0 old.1)
-    at (inr e) =
-        let long = length-set (words_of p) j word in
-        let lens = ap length is in
+    at (inr e) = let long = length-set (words_of p) j word in let lens = ap length is in
         let apart : base + k ≢ base + j = λ f. e.1 (omega arith) in
         get-set_other words (base + j) (base + k) word apart ∙ h k (omega arith) ∙ sym
         (ap (λ ws. slice_get ws k) is ∙ get-set_other (words_of p) j k word e.1)
@@ -86,9 +73,7 @@ stands_set words base j word p q below is h k less = at (eqb_tells k j)
 pub stands_other : (words : List ℕ) (base place word : ℕ) (p : Piece)
     → (place < base) ⊎ (base + size_of p ≤ place) → StandsAt words base p
     → StandsAt (slice_set words place word) base p
-stands_other words base place word p out h k less = let apart : base + k ≢ place = λ e. ⊎_elim
-    (λ l. omega arith) (λ l. omega arith) out in get-set_other words place (base + k) word apart ∙ h
-    k less
+stands_other words base place word p out h k less = grind (arith, get-set_other)
 
 -- ---- one word of the table
 
@@ -106,8 +91,7 @@ module _ (t u : Snapshot) (words : List ℕ) (image : IsImage t words)
   image_row ps node j word p f stand same_anchor there pieces below is =
       let now : u.pieces node ≡ Some (f p) = subst (λ qs. qs node ≡ Some (f p)) (sym pieces)
       (changed_at-same ps node f ∙ ap (option_map f) there) in
-      let inside = within node (f p) now in
-      let low = inside.after_fixed in
+      let inside = within node (f p) now in let low = inside.after_fixed in
       let high = inside.below_next in
       let size : size_of (f p) ≡ length (words_of p) = ap length is ∙ length-set (words_of p) j word
       in
@@ -152,30 +136,28 @@ module _ (t u : Snapshot) (words : List ℕ) (image : IsImage t words)
       → ((base : ℕ) (q : Piece) → ps base ≡ Some q → StandsAt words base q) → u.anchor ≡ word
       → ((base : ℕ) (q : Piece) → u.pieces base ≡ Some q → ps base ≡ Some q)
       → IsImage u (slice_set words anchor_slot_place word)
-  image_anchor ps word stand is old =
-      record {
-        size = length-set words anchor_slot_place word ∙ image.size ∙ sym same_words;
-        next = get-set_other words anchor_slot_place next_place word (λ e. omega arith) ∙ image.next
-            ∙ ap (λ n. Some n) (sym next);
-        callers = get-set_other words anchor_slot_place callers_place word (λ e. omega arith) ∙
-            image.callers ∙ ap (λ n. Some n) (sym callers);
-        anchor_status = get-set_other words anchor_slot_place anchor_status_place word
-            (λ e. omega arith) ∙ image.anchor_status;
-        anchor_slot = get-set_same words anchor_slot_place word t.anchor image.anchor_slot ∙ ap
-            (λ n. Some n) (sym is);
-        rows = λ base q e. let inside = within base q e in let low = inside.after_fixed in
-            stands_other words base anchor_slot_place word q (inl (omega arith))
-            (stand base q (old base q e));
-        free = λ place k l.
-            get-set_other words anchor_slot_place place word (λ e. omega arith) ∙ image.free place
-            (omega arith) (omega arith);
-      }
+  image_anchor ps word stand is old = record {
+    size = length-set words anchor_slot_place word ∙ image.size ∙ sym same_words;
+    next = get-set_other words anchor_slot_place next_place word (λ e. omega arith) ∙ image.next
+        ∙ ap (λ n. Some n) (sym next);
+    callers = get-set_other words anchor_slot_place callers_place word (λ e. omega arith) ∙
+        image.callers ∙ ap (λ n. Some n) (sym callers);
+    anchor_status = get-set_other words anchor_slot_place anchor_status_place word
+        (λ e. omega arith) ∙ image.anchor_status;
+    anchor_slot = get-set_same words anchor_slot_place word t.anchor image.anchor_slot ∙ ap
+        (λ n. Some n) (sym is);
+    rows = λ base q e. let inside = within base q e in let low = inside.after_fixed in
+        stands_other words base anchor_slot_place word q (inl (omega arith))
+        (stand base q (old base q e));
+    free = λ place k l.
+        get-set_other words anchor_slot_place place word (λ e. omega arith) ∙ image.free place
+        (omega arith) (omega arith);
+  }
 
   -- a slot is written, of an inner row with its shape or of the anchor
   pub image_slot : (ps : Pieces) (node i word old : ℕ)
       → ((base : ℕ) (q : Piece) → ps base ≡ Some q → StandsAt words base q) → t.pieces anchor ≡ None
-      → ps anchor ≡ None
-      → ((base : ℕ) (p : Piece) → t.pieces base ≡ Some p → ps base ≡ Some p)
+      → ps anchor ≡ None → ((base : ℕ) (p : Piece) → t.pieces base ≡ Some p → ps base ≡ Some p)
       → ((base : ℕ) (r : InnerRow) → t.pieces base ≡ Some (Inner r) → HasDegree r)
       → u.pieces ≡ changed_at ps node (with_slot i word)
       → u.anchor ≡ (if node == anchor then word else t.anchor) → SlotHolds t node i old
@@ -196,15 +178,12 @@ module _ (t u : Snapshot) (words : List ℕ) (image : IsImage t words)
       (subst (λ b. ps b ≡ Some it.0) (new.0 ∙ a) it.1))) it.2))
   image_slot ps node i word old stand free free_there keeps shaped pieces is (in_row r p g) =
       let out : node ≢ anchor = λ a. no_row t.pieces node r free a p in
-      let shape = shaped node r p in
-      let keys = shape.keys in
-      let there = keeps node (Inner r) p in
+      let shape = shaped node r p in let keys = shape.keys in let there = keeps node (Inner r) p in
       let read : as_inner (t.pieces node) ≡ Some r = ap as_inner p in
       let place : place_of_slot t node i ≡ node + (4 + length r.keys + i) = not_there
       (place_in node i (as_inner (t.pieces node))) out ∙ ap (place_in node i) read ∙ number keys
       in
-      let lens = length-append r.keys r.slots in
-      let below = get_below r.slots i old g in
+      let lens = length-append r.keys r.slots in let below = get_below r.slots i old g in
       subst (λ k. IsImage u (slice_set words k word)) (sym place)
       (image_row ps node (4 + length r.keys + i) word (Inner r) (with_slot i word) stand
       (is ∙ not_there_word out) there pieces (omega arith) (words_of-with_slot r i word))
@@ -231,23 +210,15 @@ module _ (t u : Snapshot) (words : List ℕ) (image : IsImage t words)
 pub slot_found : (t : Snapshot) (words : List ℕ) (node i word : ℕ) → IsImage t words
     → t.pieces anchor ≡ None
     → ((base : ℕ) (r : InnerRow) → t.pieces base ≡ Some (Inner r) → HasDegree r)
-    → SlotHolds t node i word
-    → slice_get words (place_of_slot t node i) ≡ Some word
-slot_found t words node i word image free shaped (in_anchor a b e) =
-    let place : place_of_slot t node i ≡ anchor_slot_place = subst
-    (λ n. (if n == anchor then anchor_slot_place else place_in n i (as_inner (t.pieces n))) ≡
-    anchor_slot_place) (sym a) refl in
-    ap (slice_get words) place ∙ image.anchor_slot ∙ ap (λ x. Some x) e
+    → SlotHolds t node i word → slice_get words (place_of_slot t node i) ≡ Some word
+slot_found t words node i word image free shaped (in_anchor a b e) = grind arith
 slot_found t words node i word image free shaped (in_row r p g) =
-    let out : node ≢ anchor = λ a. no_row t.pieces node r free a p in
-    let shape = shaped node r p in
-    let keys = shape.keys in
-    let read : as_inner (t.pieces node) ≡ Some r = ap as_inner p in
+    let out : node ≢ anchor = λ a. no_row t.pieces node r free a p in let shape = shaped node r p in
+    let keys = shape.keys in let read : as_inner (t.pieces node) ≡ Some r = ap as_inner p in
     let place : place_of_slot t node i ≡ node + (4 + length r.keys + i) = not_there
     (place_in node i (as_inner (t.pieces node))) out ∙ ap (place_in node i) read ∙ number keys
     in
-    let lens = length-append r.keys r.slots in
-    let below = get_below r.slots i word g in
+    let lens = length-append r.keys r.slots in let below = get_below r.slots i word g in
     ap (slice_get words) place ∙ image.rows node (Inner r) p (4 + length r.keys + i) (omega arith) ∙
     get-words_of_slot r i ∙ g
   where

@@ -1,24 +1,18 @@
 -- Rows that an Install publishes. Serves `laws.rows_are_known`.
-use Rattle.std.proofs.Common.{◌≡◌, ℕ, ◌⊎◌, ◌==◌, nat_lt, true, false, if◌then◌else◌, List, [], ◌∷◌, length, Option, Some, refl, sym, ap, ◌∙◌, subst, inl, inr, ⊎_elim}
-use Rattle.ist_core.specs.declared.lists.Row.{Row}
-use Rattle.ist_core.specs.declared.states.ChangeRow.{ChangeRow}
-use Rattle.ist_core.specs.Statuses.{start_kind}
-use Rattle.ist_core.specs.Elements.{Among}
-use Rattle.ist_core.specs.Pieces.{Pieces, Piece, Leaf, Change, Rebuild, size_of, words_of, row_at, leaf_of, inner_of, rebuild_of, with_row}
-use Rattle.ist_core.specs.Snapshots.{Snapshot, bases_of}
-use Rattle.ist_core.specs.Logs.{Log}
-use Rattle.ist_core.specs.After.{with_fresh}
-use Rattle.ist_core.specs.Installing.{new_leaf, new_rebuild, pair_row, pair_over, FitsKind, a_put, a_pair, a_remove, a_start, a_finish}
-use Rattle.ist_core.proofs.RowLemmas.{with_row-some, with_row-other}
+use Rattle.std.proofs.Common.{◌≡◌, ℕ, ◌⊎◌, ◌==◌, if◌then◌else◌, List, [], ◌∷◌, length, Option, Some, refl, sym, ap, ◌∙◌, subst, inl, inr, ⊎_elim, arith}
+use Rattle.ist_core.specs.Types.{Row, ChangeRow}
+use Rattle.ist_core.specs.WordTerms.{start_kind, Pieces, Piece, Change, size_of, words_of, row_at, leaf_of, inner_of, rebuild_of, with_row}
+use Rattle.ist_core.specs.LogTerms.{Among, Snapshot, bases_of, Log, with_fresh}
+use Rattle.ist_core.specs.TreeTerms.{new_leaf, new_rebuild, pair_row, FitsKind, a_put, a_pair, a_remove, a_start, a_finish}
+use Rattle.ist_core.proofs.OptionLemmas.{with_row-some, with_row-other}
 use Rattle.ist_core.proofs.SizeLemmas.{size_of-inner_of}
-use Rattle.ist_core.proofs.PublishingLemmas.{LiesAt, stands-with_row, stands_here, PublishesRows}
+use Rattle.ist_core.proofs.SplitLemmas.{LiesAt, stands-with_row, stands_here, PublishesRows}
 
 -- a leaf has the number of words that it was read from
 size_of-leaf_of : (words : List ℕ) (p : Piece) → leaf_of words ≡ Some p → size_of p ≡ length words
 size_of-leaf_of [] p e = absurd (cc)
 size_of-leaf_of (a ∷ []) p e = absurd (cc)
-size_of-leaf_of (a ∷ b ∷ []) p e = let is : Leaf record { key = a; value = b } ≡ p = cc in subst
-    (λ q. size_of q ≡ 2) is refl
+size_of-leaf_of (a ∷ b ∷ []) p e = grind arith
 size_of-leaf_of (a ∷ b ∷ c ∷ words) p e = absurd (cc)
 
 -- a rebuild has the number of words that it was read from
@@ -29,9 +23,7 @@ size_of-rebuild_of (a ∷ []) p e = absurd (cc)
 size_of-rebuild_of (a ∷ b ∷ []) p e = absurd (cc)
 size_of-rebuild_of (a ∷ b ∷ c ∷ []) p e = absurd (cc)
 size_of-rebuild_of (a ∷ b ∷ c ∷ d ∷ []) p e = absurd (cc)
-size_of-rebuild_of (a ∷ b ∷ c ∷ d ∷ f ∷ []) p e =
-    let is : Rebuild record { target = a; parent = b; index = c; root = d; draw = f } ≡ p = cc in
-    subst (λ q. size_of q ≡ 5) is refl
+size_of-rebuild_of (a ∷ b ∷ c ∷ d ∷ f ∷ []) p e = grind arith
 size_of-rebuild_of (a ∷ b ∷ c ∷ d ∷ f ∷ g ∷ words) p e = absurd (cc)
 
 -- what a fresh row after the change's is read as, by the kind of the change
@@ -41,12 +33,7 @@ fresh_of change words = if change.kind == start_kind then rebuild_of words else 
 size_of-fresh_of : (change : ChangeRow) (words : List ℕ) (p : Piece)
     → fresh_of change words ≡ Some p → size_of p ≡ length words
 unfolding fresh_of
-size_of-fresh_of change words p e =
-    elim (change.kind == start_kind) as
-    (λ v. (if v then rebuild_of words else leaf_of words) ≡ Some p → size_of p ≡ length words) [
-      | true ↦ λ f. size_of-rebuild_of words p f
-      | false ↦ λ f. size_of-leaf_of words p f
-    ] e
+size_of-fresh_of change words p e = grind (arith, size_of-rebuild_of, size_of-leaf_of)
 
 -- each row after the fresh rows are published was there before, or is one of them
 fresh-some : (ps : Pieces) (change : ChangeRow) (rows : List Row) (base : ℕ) (q : Piece)
@@ -55,16 +42,9 @@ fresh-some : (ps : Pieces) (change : ChangeRow) (rows : List Row) (base : ℕ) (
     (size_of q ≡ length row.words))
 unfolding fresh_of
 fresh-some ps change [] base q e = inl e
-fresh-some ps change (row ∷ []) base q e =
-    ⊎_elim (λ h. inr (row, inl refl, sym h.0, size_of-fresh_of change row.words q h.1)) (λ h. inl h)
-    (with_row-some ps row.base base (fresh_of change row.words) q e)
+fresh-some ps change (row ∷ []) base q e = grind (arith, size_of-fresh_of, with_row-some)
 fresh-some ps change (pair ∷ leaf ∷ []) base q e =
-    ⊎_elim
-    (λ h. inr (pair, inl refl, sym h.0, size_of-inner_of pair.words q h.1))
-    (λ h. ⊎_elim (λ k. inr (leaf, inr (inl refl), sym k.0, size_of-leaf_of leaf.words q k.1))
-    (λ k. inl k) (with_row-some ps leaf.base base (leaf_of leaf.words) q h))
-    (with_row-some (with_row ps leaf.base (leaf_of leaf.words)) pair.base base (inner_of pair.words)
-    q e)
+    grind (arith, size_of-inner_of, size_of-leaf_of, with_row-some)
 fresh-some ps change (a ∷ b ∷ c ∷ rows) base q e = inl e
 
 -- at a base that no fresh row has, the row is the same as before
@@ -72,25 +52,15 @@ fresh-other : (ps : Pieces) (change : ChangeRow) (rows : List Row) (base : ℕ)
     → ¬ (Among base (bases_of rows)) → with_fresh ps change rows base ≡ ps base
 unfolding fresh_of
 fresh-other ps change [] base out = refl
-fresh-other ps change (row ∷ []) base out = with_row-other ps row.base base
-    (fresh_of change row.words) (λ e. out (inl e))
-fresh-other ps change (pair ∷ leaf ∷ []) base out =
-    with_row-other (with_row ps leaf.base (leaf_of leaf.words)) pair.base base (inner_of pair.words)
-    (λ e. out (inl e))
-    ∙ with_row-other ps leaf.base base (leaf_of leaf.words) (λ e. out (inr (inl e)))
+fresh-other ps change (row ∷ []) base out = grind (arith, with_row-other)
+fresh-other ps change (pair ∷ leaf ∷ []) base out = grind (arith, with_row-other)
 fresh-other ps change (a ∷ b ∷ c ∷ rows) base out = refl
 
 -- a pair row is read from its words
 pub inner_of-pair_row : (key base other_key other : ℕ)
     → inner_of (words_of (pair_row key base other_key other)) ≡ Some
     (pair_row key base other_key other)
-inner_of-pair_row key base other_key other =
-    elim (nat_lt other_key key) as
-    (λ v. inner_of (words_of (if v then pair_over key other base else pair_over other_key base
-    other)) ≡ Some (if v then pair_over key other base else pair_over other_key base other)) [
-      | true ↦ refl
-      | false ↦ refl
-    ]
+inner_of-pair_row key base other_key other = grind arith
 
 -- each fresh row of a change is published with it
 fresh_named : (ps : Pieces) (first : Snapshot) (log : Log) (change : ChangeRow) (fresh : List Row)
@@ -133,8 +103,7 @@ fresh_named ps first log change fresh (a_pair h) =
         (inner_of (words_of p)) (stands_here ps leaf (Some (new_leaf change)) (new_leaf change)
         refl))
     two p pair leaf read row (inr (inr i)) = absurd i
-fresh_named ps first log change fresh (a_remove h) = λ row i. absurd
-    (subst (λ rows. Among row rows) h.fresh_are i)
+fresh_named ps first log change fresh (a_remove h) = grind arith
 fresh_named ps first log change fresh (a_start h) =
     let read = ap (λ k. if k == start_kind then rebuild_of (words_of (new_rebuild change h.target))
     else leaf_of (words_of (new_rebuild change h.target))) h.kind in
@@ -148,8 +117,7 @@ fresh_named ps first log change fresh (a_start h) =
         (λ b. LiesAt (with_row ps base (fresh_of change (words_of p))) b) (sym (ap (λ r. r.base) e))
         (stands_here ps base (fresh_of change (words_of p)) p read)
     one p base read row (inr i) = absurd i
-fresh_named ps first log change fresh (a_finish h) = λ row i. absurd
-    (subst (λ rows. Among row rows) h.fresh_are i)
+fresh_named ps first log change fresh (a_finish h) = grind arith
 
 -- the rows with the change and its fresh rows
 abbrev pub with_installed : Pieces → ℕ → ChangeRow → List Row → Pieces
@@ -158,22 +126,17 @@ with_installed ps base change fresh = with_row (with_fresh ps change fresh) base
 
 -- an Install publishes the change and its fresh rows
 pub publishes_install : (ps : Pieces) (first : Snapshot) (log : Log) (base : ℕ) (change : ChangeRow)
-    (fresh : List Row)
-    → FitsKind first log change fresh
+    (fresh : List Row) → FitsKind first log change fresh
     → PublishesRows ps (row_at base (Change change) ∷ fresh) (with_installed ps base change fresh)
-publishes_install ps first log base change fresh fits =
-    record {
-      from = λ at q e.
-          ⊎_elim
-          (λ h. inr (row_at base (Change change), inl refl, sym h.0, size h.1))
-          (λ h. ⊎_elim (λ k. inl k) (λ k. inr (k.0, inr k.1, k.2, k.3))
-          (fresh-some ps change fresh at q h))
-          (with_row-some (with_fresh ps change fresh) base at (Some (Change change)) q e);
-      others = λ at out.
-          with_row-other (with_fresh ps change fresh) base at (Some (Change change))
-          (λ e. out (inl e)) ∙ fresh-other ps change fresh at (λ i. out (inr i));
-      named = λ row i. each row i;
-    }
+publishes_install ps first log base change fresh fits = record {
+  from = λ at q e. ⊎_elim (λ h. inr (row_at base (Change change), inl refl, sym h.0, size h.1))
+      (λ h. ⊎_elim (λ k. inl k) (λ k. inr (k.0, inr k.1, k.2, k.3))
+      (fresh-some ps change fresh at q h))
+      (with_row-some (with_fresh ps change fresh) base at (Some (Change change)) q e);
+  others = λ at out. with_row-other (with_fresh ps change fresh) base at (Some (Change change))
+      (λ e. out (inl e)) ∙ fresh-other ps change fresh at (λ i. out (inr i));
+  named = λ row i. each row i;
+}
   where
     size : {q : Piece} → Some (Change change) ≡ Some q → size_of q ≡ 9
     size {q = q} e = let is : Change change ≡ q = cc in subst (λ p. size_of p ≡ 9) is refl

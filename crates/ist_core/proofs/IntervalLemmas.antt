@@ -1,8 +1,8 @@
 -- Tests of two conditions, and pairs between two keys. Serves the reads of several keys.
 use Rattle.std.proofs.Common.{◌≡◌, ℕ, ◌<◌, ◌≤◌, nat_le, Bool, ◌&&◌, true, false, List, ◌∷◌, refl, arith}
 use Rattle.std.proofs.lemmas.Bool.Decides.{nat_tests}
-use Rattle.ist_core.specs.declared.pairs.Pair.{Pair}
-use Rattle.ist_core.specs.Map.{pairs_between}
+use Rattle.ist_core.specs.Types.{Pair}
+use Rattle.ist_core.specs.TreeTerms.{pairs_between}
 
 -- if a conjunction is true, both parts are
 pub both_true : (a b : Bool) → (a && b) ≡ true → (a ≡ true) × (b ≡ true)

@@ -1,24 +1,12 @@
 -- The leaves below a finished row stay. Serves the order law and the laws of rebuilds.
 use Rattle.std.proofs.Common.{◌≡◌, ℕ, suc, List, [], ◌∷◌, length, slice_get, Option, Some, refl, sym, ap, ◌∙◌, subst, inr, arith}
-use Rattle.ist_core.specs.declared.pairs.Pair.{Pair}
-use Rattle.ist_core.specs.declared.states.LeafRow.{LeafRow}
-use Rattle.ist_core.specs.declared.states.InnerRow.{InnerRow}
-use Rattle.ist_core.specs.declared.events.Event.{Event}
-use Rattle.ist_core.specs.References.{Ref, InnerAt, ref_of}
-use Rattle.ist_core.specs.Pieces.{Pieces, Leaf, Inner}
-use Rattle.ist_core.specs.Snapshots.{Snapshot}
-use Rattle.ist_core.specs.StartLayout.{start}
-use Rattle.ist_core.specs.Logs.{Log, GoesOn, same_log, one_event}
-use Rattle.ist_core.specs.Slots.{in_row, rebuild_reads, past_rebuild, logical}
-use Rattle.ist_core.specs.Leaves.{PlacedLeaf, HasLeaves, SlotsHaveLeaves, none_here, leaf_here, row_here, no_slot, one_slot}
-use Rattle.ist_core.specs.Rebuilding.{IsFinishedWith}
-use Rattle.ist_core.specs.Marking.{CountsFor, no_key, one_key, of_child, of_target}
-use Rattle.ist_core.specs.Growing.{AllGrow}
-use Rattle.ist_core.specs.Lawful.{EachEnabled, CanOpen, state_of}
+use Rattle.ist_core.specs.Types.{Pair, LeafRow, InnerRow, Event}
+use Rattle.ist_core.specs.WordTerms.{Ref, InnerAt, ref_of, Pieces, Leaf, Inner, start, in_row, rebuild_reads, past_rebuild, logical}
+use Rattle.ist_core.specs.LogTerms.{Snapshot, Log, GoesOn, same_log, one_event, EachEnabled, CanOpen, state_of}
+use Rattle.ist_core.specs.TreeTerms.{PlacedLeaf, HasLeaves, SlotsHaveLeaves, none_here, leaf_here, row_here, no_slot, one_slot, IsFinishedWith, CountsFor, no_key, one_key, of_child, of_target, AllGrow}
 use Rattle.ist_core.proofs.SoundLemmas.{sound}
-use Rattle.ist_core.proofs.StartLemmas.{sound_start}
+use Rattle.ist_core.proofs.StepLemmas.{sound_start, grow_step}
 use Rattle.ist_core.proofs.GrowingLemmas.{leaf_there, inner_there, rebuild_there}
-use Rattle.ist_core.proofs.StepLemmas.{grow_step}
 use Rattle.ist_core.proofs.FateLemmas.{grow_between}
 use Rattle.ist_core.proofs.FrozenLemmas.{frozen_reads}
 use Rattle.ist_core.proofs.DrawLemmas.{finished_grows}
@@ -56,8 +44,7 @@ module _ (ps qs : Pieces) (Done : ℕ → Type 0)
     leaves_stay _ _ none_here closed = none_here
     leaves_stay _ _ (leaf_here {base = base} r e) closed = leaf_here r (leaf base r e)
     leaves_stay _ leaves (row_here {base = base} r e below) closed =
-        let there = row base r (closed base refl) e in
-        row_here there.row there.published
+        let there = row base r (closed base refl) e in row_here there.row there.published
         (slots_stay r.slots leaves below there.row.slots there.slots)
 
     slots_stay : (words : List ℕ) (leaves : List PlacedLeaf) → SlotsHaveLeaves ps words leaves
@@ -79,19 +66,16 @@ alike_from : (ps qs : Pieces) (Done : ℕ → Type 0) (ws vs : List ℕ) → len
 alike_from ps qs Done [] [] long each = tt
 alike_from ps qs Done [] (v ∷ vs) long each = absurd (omega arith)
 alike_from ps qs Done (w ∷ ws) [] long each = absurd (omega arith)
-alike_from ps qs Done (w ∷ ws) (v ∷ vs) long each =
-    let here = each 0 w v refl refl in
+alike_from ps qs Done (w ∷ ws) (v ∷ vs) long each = let here = each 0 w v refl refl in
     (here.0, here.1, alike_from ps qs Done ws vs (omega arith) (λ i x y e f. each (suc i) x y e f))
 
 -- what a passed word reads as stays, and is closed
 passed_reads : (t u : Snapshot) → AllGrow t.pieces u.pieces → (ref : Option Ref) (k : ℕ)
-    → CountsFor t ref k
-    → (past_rebuild t.pieces ref ≡ past_rebuild u.pieces ref)
+    → CountsFor t ref k → (past_rebuild t.pieces ref ≡ past_rebuild u.pieces ref)
     × NamesDoneRow (IsFinishedNode t) (past_rebuild t.pieces ref)
 passed_reads t u g _ _ no_key = (refl, λ child e. absurd (cc))
 passed_reads t u g _ _ one_key = (refl, λ child e. absurd (cc))
-passed_reads t u g _ k (of_child {child = child} f) =
-    (refl, λ other e. (k, subst (λ n. IsFinishedWith t n k) (cc) f))
+passed_reads t u g _ k (of_child {child = child} f) = grind arith
 passed_reads t u g _ k (of_target {rebuild = rebuild} {target = target} has f) =
     let it = rebuild_there t.pieces u.pieces g rebuild has.row has.published in
     let before : rebuild_reads (t.pieces rebuild) ≡ Some (InnerAt has.row.target) = ap rebuild_reads
@@ -101,8 +85,7 @@ passed_reads t u g _ k (of_target {rebuild = rebuild} {target = target} has f) =
       before ∙ ap (λ n. Some (InnerAt n)) (sym it.2.target) ∙ sym following,
       λ other e. (
         k,
-        subst (λ n. IsFinishedWith t n k)
-            (sym has.target_is ∙ cc (sym before ∙ e)) f,
+        subst (λ n. IsFinishedWith t n k) (sym has.target_is ∙ cc (sym before ∙ e)) f,
       ),
     )
 
@@ -112,8 +95,7 @@ module _ (pairs : List Pair) (words : ℕ) (opens : CanOpen pairs words) where
       → (node : ℕ) (leaves : List PlacedLeaf) → IsFinishedNode (state_of pairs words log) node
       → HasLeaves (state_of pairs words log).pieces (Some (InnerAt node)) leaves
       → HasLeaves (state_of pairs words (event ∷ log)).pieces (Some (InnerAt node)) leaves
-  leaves_kept log event h node leaves done has =
-      leaves_stay t.pieces u.pieces (IsFinishedNode t)
+  leaves_kept log event h node leaves done has = leaves_stay t.pieces u.pieces (IsFinishedNode t)
       (λ base r e. leaf_there t.pieces u.pieces g base r e) stands (Some (InnerAt node)) leaves
       has (λ child e. subst (λ n. IsFinishedNode t n) (cc) done)
     where
@@ -129,24 +111,21 @@ module _ (pairs : List Pair) (words : ℕ) (opens : CanOpen pairs words) where
 
       stands : (base : ℕ) (r : InnerRow) → IsFinishedNode t base → t.pieces base ≡ Some (Inner r)
           → StandsAlike t.pieces u.pieces (IsFinishedNode t) base r
-      stands base r f e =
-          let it = inner_there t.pieces u.pieces g base r e in
-          record {
-            row = it.0;
-            published = it.1;
-            slots = alike_from t.pieces u.pieces (IsFinishedNode t) r.slots it.0.slots it.2.slots
-                (λ i w v there now.
-                let p = finished_passed pairs words opens log h.0 base f.0 f.1 r e i w there in
-                let before = frozen_reads pairs words opens log h.0 base i p.word w p.passed
-                (in_row r e there) in
-                let following = frozen_reads pairs words opens (event ∷ log) h base i p.word v
-                (inr p.passed) (in_row it.0 it.1 now) in
-                let read = passed_reads t u g (ref_of p.word) p.keys p.counts in (
-                  before ∙ read.0 ∙ sym following,
-                  subst (λ ref. NamesDoneRow (IsFinishedNode t) ref)
-                      (sym before) read.1,
-                ));
-          }
+      stands base r f e = let it = inner_there t.pieces u.pieces g base r e in record {
+        row = it.0;
+        published = it.1;
+        slots = alike_from t.pieces u.pieces (IsFinishedNode t) r.slots it.0.slots it.2.slots
+            (λ i w v there now.
+            let p = finished_passed pairs words opens log h.0 base f.0 f.1 r e i w there in
+            let before = frozen_reads pairs words opens log h.0 base i p.word w p.passed
+            (in_row r e there) in
+            let following = frozen_reads pairs words opens (event ∷ log) h base i p.word v
+            (inr p.passed) (in_row it.0 it.1 now) in
+            let read = passed_reads t u g (ref_of p.word) p.keys p.counts in (
+              before ∙ read.0 ∙ sym following,
+              subst (λ ref. NamesDoneRow (IsFinishedNode t) ref) (sym before) read.1,
+            ));
+      }
 
   -- the leaves below a finished row stay the same after all events of a longer log
   pub finished_leaves_stay : (earlier log : Log) → GoesOn earlier log

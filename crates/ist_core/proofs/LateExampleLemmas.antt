@@ -1,30 +1,12 @@
 -- The log of a put that a rebuild overtakes is lawful. Serves
 -- `examples.an_overtaken_put_is_lawful`.
 use Rattle.std.proofs.Common.{◌≡◌, ℕ, ◌⊎◌, true, [], ◌∷◌, Some, refl, inl, inr, arith, ⊎_elim}
-use Rattle.ist_core.specs.declared.commands.Command.TheVariants.{Put}
-use Rattle.ist_core.specs.declared.states.InnerRow.{InnerRow}
-use Rattle.ist_core.specs.declared.states.ChangeRow.{ChangeRow}
-use Rattle.ist_core.specs.declared.events.Event.TheVariants.{Enter, Reserve, Install, Okay, Decide, Resolve, Pass}
-use Rattle.ist_core.specs.Arithmetic.{degree, square_root, root_up_to, part_len, part_lens}
-use Rattle.ist_core.specs.Shapes.{ideal_words, ideal_words_within}
-use Rattle.ist_core.specs.References.{ref_of}
-use Rattle.ist_core.specs.Statuses.{put_kind}
-use Rattle.ist_core.specs.Pieces.{Change}
-use Rattle.ist_core.specs.StartLayout.{rows_within}
-use Rattle.ist_core.specs.Logs.{state, Log}
-use Rattle.ist_core.specs.Slots.{in_anchor, in_row, row_is, of_anchor, of_row}
-use Rattle.ist_core.specs.Links.{IsChild, at_anchor, below, Chain, no_row, one_row, from_anchor, down}
-use Rattle.ist_core.specs.Leaves.{leaf_here, row_here, no_slot, one_slot, HasContents}
-use Rattle.ist_core.specs.Rebuilding.{IsStarted}
-use Rattle.ist_core.specs.Fairness.{at_end, from_right, no_build}
-use Rattle.ist_core.specs.Installing.{CanInstall, same_key, a_put}
-use Rattle.ist_core.specs.Deciding.{CanOkay, CanDecide, CanResolve, CanCount}
-use Rattle.ist_core.specs.Marking.{CanMark, as_target, CanPass, CanFinish, one_key, past_end, one_passed}
-use Rattle.ist_core.specs.Enabled.{CanEnter, CanReserve}
-use Rattle.ist_core.specs.Lawful.{Lawful, EachEnabled}
-use Rattle.ist_core.specs.Changes.{changes_of}
+use Rattle.ist_core.specs.Types.{Put, InnerRow, ChangeRow, Enter, Reserve, Install, Okay, Decide, Resolve, Pass}
+use Rattle.ist_core.specs.WordTerms.{degree, square_root, root_up_to, part_len, part_lens, ideal_words, ideal_words_within, ref_of, put_kind, Change, rows_within, in_anchor, in_row, row_is, of_anchor, of_row}
+use Rattle.ist_core.specs.LogTerms.{state, Log, at_end, from_right, no_build, CanEnter, CanReserve, Lawful, EachEnabled}
+use Rattle.ist_core.specs.TreeTerms.{IsChild, at_anchor, below, Chain, no_row, one_row, from_anchor, down, leaf_here, row_here, no_slot, one_slot, HasContents, IsStarted, CanInstall, same_key, a_put, CanOkay, CanDecide, CanResolve, CanCount, CanMark, as_target, CanPass, CanFinish, one_key, past_end, one_passed, changes_of}
 use Rattle.ist_core.specs.ExampleLogs.{start_pairs, rebuild_started, late_reserved, late_rows, late_marked, late_resolved, late_counted, late_finished}
-use Rattle.ist_core.proofs.StartExampleLemmas.{two, start_is_lawful}
+use Rattle.ist_core.proofs.StartExampleLemmas.{two}
 use Rattle.ist_core.proofs.RebuildExampleLemmas.{the_start, the_rebuild, low, high, started}
 use Rattle.ist_core.proofs.RefusalLemmas.{NotRefused, NoneDecidedNo}
 use Rattle.ist_core.proofs.FinishExampleLemmas.{none_refused_started}
@@ -55,38 +37,35 @@ entered_too : CanEnter (state two (Enter 1 ∷ rebuild_started)) 2
 entered_too = record { number = refl; below_limit = omega arith }
 
 leaf_reserved : CanReserve (state two (Enter 2 ∷ Enter 1 ∷ rebuild_started)) 1 29 2
-leaf_reserved =
-    record {
-      known = omega arith;
-      base_is = refl;
-      room = omega arith;
-      fair = record {
-        building = [];
-        spare = 2 ∷ [];
-        merge = from_right 2 at_end;
-        builds = no_build;
-        few = (inl refl, tt);
-        one_each = ((λ k. k), tt);
-      };
-    }
+leaf_reserved = record {
+  known = omega arith;
+  base_is = refl;
+  room = omega arith;
+  fair = record {
+    building = [];
+    spare = 2 ∷ [];
+    merge = from_right 2 at_end;
+    builds = no_build;
+    few = (inl refl, tt);
+    one_each = ((λ k. k), tt);
+  };
+}
 
 change_reserved : CanReserve (state two (Reserve 1 29 2 ∷ Enter 2 ∷ Enter 1 ∷ rebuild_started)) 1 31
     9
-change_reserved =
-    record {
-      known = omega arith;
-      base_is = refl;
-      room = omega arith;
-      fair =
-          record {
-            building = [];
-            spare = 2 ∷ 9 ∷ [];
-            merge = from_right 2 (from_right 9 at_end);
-            builds = no_build;
-            few = (inl refl, (inr (inr (inr (inl refl))), tt));
-            one_each = (⊎_elim (λ k. omega arith) (λ k. k), ((λ k. k), tt));
-          };
-    }
+change_reserved = record {
+  known = omega arith;
+  base_is = refl;
+  room = omega arith;
+  fair = record {
+    building = [];
+    spare = 2 ∷ 9 ∷ [];
+    merge = from_right 2 (from_right 9 at_end);
+    builds = no_build;
+    few = (inl refl, (inr (inr (inr (inl refl))), tt));
+    one_each = (⊎_elim (λ k. omega arith) (λ k. k), ((λ k. k), tt));
+  };
+}
 
 -- the target hangs below the anchor, under the rebuild
 target_hangs : IsChild (state two late_reserved) 2 0 4
@@ -99,31 +78,29 @@ none_refused = none_refused_started
 installed : CanInstall two late_reserved 1 31 late_rows
 unfolding NotRefused ref_of rows_within degree square_root root_up_to part_len part_lens ideal_words
     ideal_words_within
-installed =
-    record {
-      known = omega arith;
-      change = the_put 0;
-      fresh = record { base = 29; words = 20 ∷ 9 ∷ [] } ∷ [];
-      rows_are = refl;
-      held = (inr (inl refl), (inl refl, tt));
-      owned = refl;
-      unset = refl;
-      in_slot = in_row (target 0 0 105) refl refl;
-      linked = inl (below 0 at_anchor target_hangs);
-      unrefused = λ base earlier e _ _. none_refused base (Change earlier) e;
-      fits =
-          a_put record {
-            kind = refl;
-            by_key = record {
-              led = inl (down 0 from_anchor (of_anchor refl refl) target_hangs);
-              index = of_row (target 0 0 105) refl refl;
-            };
-            from = same_key 13 refl record { row = high; published = refl; key_is = refl };
-            leaf = 29;
-            to = refl;
-            fresh_are = refl;
-          };
-    }
+installed = record {
+  known = omega arith;
+  change = the_put 0;
+  fresh = record { base = 29; words = 20 ∷ 9 ∷ [] } ∷ [];
+  rows_are = refl;
+  held = (inr (inl refl), (inl refl, tt));
+  owned = refl;
+  unset = refl;
+  in_slot = in_row (target 0 0 105) refl refl;
+  linked = inl (below 0 at_anchor target_hangs);
+  unrefused = λ base earlier e _ _. none_refused base (Change earlier) e;
+  fits = a_put record {
+    kind = refl;
+    by_key = record {
+      led = inl (down 0 from_anchor (of_anchor refl refl) target_hangs);
+      index = of_row (target 0 0 105) refl refl;
+    };
+    from = same_key 13 refl record { row = high; published = refl; key_is = refl };
+    leaf = 29;
+    to = refl;
+    fresh_are = refl;
+  };
+}
 
 abbrev late_installed : Log
 late_installed = Install 1 31 late_rows ∷ late_reserved
@@ -146,23 +123,21 @@ is_started = record {
   change = the_start 1;
   published = refl;
   kind = refl;
-  decision =
-      refl;
+  decision = refl;
   to = refl;
 }
 
 marked : CanMark (state two (Okay 2 31 ∷ late_installed)) (Okay 2 31 ∷ late_installed) 0 4
 unfolding rows_within degree square_root root_up_to part_len part_lens ideal_words
     ideal_words_within
-marked =
-    record {
-      known = omega arith;
-      row = target 0 0 251;
-      published = refl;
-      row_open = refl;
-      called = as_target 15 record { row = the_rebuild 7; published = refl; target_is = refl }
-          is_started;
-    }
+marked = record {
+  known = omega arith;
+  row = target 0 0 251;
+  published = refl;
+  row_open = refl;
+  called = as_target 15 record { row = the_rebuild 7; published = refl; target_is = refl }
+      is_started;
+}
 
 decided : CanDecide (state two late_marked) late_marked 2 31 true
 decided = record {
@@ -180,8 +155,7 @@ resolved = record {
   known = omega arith;
   change = the_put 1;
   published = refl;
-  decided = λ e. omega
-      arith;
+  decided = λ e. omega arith;
   in_slot = in_row (target 1 0 251) refl refl;
 }
 
@@ -194,19 +168,18 @@ target_chain = one_row 0 no_row record
 counted : CanCount two late_resolved 1 4
 unfolding rows_within degree square_root root_up_to part_len part_lens ideal_words
     ideal_words_within
-counted =
-    record {
-      known = omega arith;
-      later = Resolve 0 31 ∷ [];
-      by = 2;
-      base = 31;
-      earlier = late_marked;
-      log_is = refl;
-      update = record { change = the_put 1; published = refl; owned = refl; update = inl refl };
-      last = ⊎_elim (λ k. k) (λ k. k);
-      uncounted = ⊎_elim (λ k. k) (λ k. k);
-      on_chain = inl (4 ∷ [], target_chain, inl refl);
-    }
+counted = record {
+  known = omega arith;
+  later = Resolve 0 31 ∷ [];
+  by = 2;
+  base = 31;
+  earlier = late_marked;
+  log_is = refl;
+  update = record { change = the_put 1; published = refl; owned = refl; update = inl refl };
+  last = ⊎_elim (λ k. k) (λ k. k);
+  uncounted = ⊎_elim (λ k. k) (λ k. k);
+  on_chain = inl (4 ∷ [], target_chain, inl refl);
+}
 
 passed_low : CanPass (state two late_counted) 0 4 0 89
 unfolding ref_of rows_within degree square_root root_up_to part_len part_lens ideal_words
@@ -240,15 +213,14 @@ both_passed = Pass 0 4 1 233 ∷ Pass 0 4 0 89 ∷ late_counted
 finished : CanFinish (state two both_passed) both_passed 0 4 2
 unfolding ref_of rows_within degree square_root root_up_to part_len part_lens ideal_words
     ideal_words_within
-finished =
-    record {
-      known = omega arith;
-      row = target 1 1 233;
-      published = refl;
-      marked = refl;
-      passed = one_passed 89 (inr (inl (refl, refl, refl))) one_key
-          (one_passed 233 (inl (refl, refl, refl)) one_key past_end);
-    }
+finished = record {
+  known = omega arith;
+  row = target 1 1 233;
+  published = refl;
+  marked = refl;
+  passed = one_passed 89 (inr (inl (refl, refl, refl))) one_key
+      (one_passed 233 (inl (refl, refl, refl)) one_key past_end);
+}
 
 put_installed : EachEnabled two late_installed
 put_installed = (((((started, entered), entered_too), leaf_reserved), change_reserved), installed)
@@ -256,16 +228,18 @@ put_installed = (((((started, entered), entered_too), leaf_reserved), change_res
 -- the log is lawful
 pub late_is_lawful : Lawful start_pairs 100 late_finished
 late_is_lawful =
-    record {
-      opens = start_is_lawful.opens;
-      enabled = (
-        (
-          ((((((put_installed, okayed), marked), decided), resolved), counted), passed_low),
-          passed_new,
-        ),
-        finished,
-      );
-    }
+    grind (
+      arith,
+      put_installed,
+      okayed,
+      marked,
+      decided,
+      resolved,
+      counted,
+      passed_low,
+      passed_new,
+      finished,
+    )
 
 -- the put is the one change
 pub late_changes : changes_of start_pairs 100 late_finished ≡ record
@@ -279,12 +253,11 @@ pub late_contents : HasContents (state two late_finished)
     (record { key = 10; value = 1 } ∷ record { key = 20; value = 9 } ∷ [])
 unfolding ref_of rows_within degree square_root root_up_to part_len part_lens ideal_words
     ideal_words_within
-late_contents =
-    record {
-      leaves = record { base = 11; row = low } ∷ record
-          { base = 29; row = record { key = 20; value = 9 } } ∷ [];
-      reached = row_here (target 11 1 233) refl
-          (one_slot (leaf_here low refl)
-          (one_slot (leaf_here record { key = 20; value = 9 } refl) no_slot));
-      pairs_are = refl;
-    }
+late_contents = record {
+  leaves = record { base = 11; row = low } ∷ record
+      { base = 29; row = record { key = 20; value = 9 } } ∷ [];
+  reached = row_here (target 11 1 233) refl
+      (one_slot (leaf_here low refl)
+      (one_slot (leaf_here record { key = 20; value = 9 } refl) no_slot));
+  pairs_are = refl;
+}

@@ -4,15 +4,9 @@ use Rattle.std.specs.List.{sum, sum_by, flat_map, range_with_len}
 use Rattle.std.proofs.lemmas.List.{length-take-le, length-map}
 use Rattle.std.proofs.lemmas.List.Sums.{sum_by-cons}
 use Rattle.std.proofs.lemmas.List.FromFn.{length-map-range_with_len}
-use Rattle.ist_core.specs.declared.pairs.Pair.{Pair}
-use Rattle.ist_core.specs.Arithmetic.{degree, part_len, part_lens}
-use Rattle.ist_core.specs.RowLayout.{inner_words}
-use Rattle.ist_core.specs.Shapes.{ideal_words}
-use Rattle.ist_core.specs.Elements.{Among, Each}
-use Rattle.ist_core.specs.Parts.{cut, parts, first_keys}
-use Rattle.ist_core.specs.Pieces.{Piece, size_of}
-use Rattle.ist_core.specs.References.{word_of}
-use Rattle.ist_core.specs.StartLayout.{tree_at, bases_from, placed_parts, top_row, rows_within}
+use Rattle.ist_core.specs.Types.{Pair}
+use Rattle.ist_core.specs.WordTerms.{degree, part_len, part_lens, inner_words, ideal_words, cut, parts, first_keys, Piece, size_of, word_of, tree_at, bases_from, placed_parts, top_row, rows_within}
+use Rattle.ist_core.specs.LogTerms.{Among, Each}
 use Rattle.ist_core.proofs.RootLemmas.{least_degree-le}
 use Rattle.ist_core.proofs.ShapeLemmas.{ideal_words_many}
 use Rattle.ist_core.proofs.PartLemmas.{sum-part_lens, part_len-lt, part_len-pos}
@@ -39,15 +33,9 @@ fills_le from to (x ∷ xs) h = let rest = fills_le (from + size_of x.1) to xs h
 pub fills_within : (from to : ℕ) (xs : List (ℕ × Piece)) (base : ℕ) (p : Piece) → FillWords from xs to
     → Among (base, p) xs → (from ≤ base) × (base + size_of p ≤ to)
 fills_within from to [] base p h i = absurd i
-fills_within from to (x ∷ xs) base p h (inl e) =
-    let here : base ≡ x.0 = ap (λ y. y.0) e in
-    let size : size_of p ≡ size_of x.1 = ap (λ y. size_of y.1) e in
-    let rest = fills_le (from + size_of x.1) to xs h.1 in
-    let first = h.0 in
-    (omega arith, omega arith)
+fills_within from to (x ∷ xs) base p h (inl e) = grind (arith, fills_le)
 fills_within from to (x ∷ xs) base p h (inr i) =
-    let rest = fills_within (from + size_of x.1) to xs base p h.1 i in
-    let low = rest.0 in
+    let rest = fills_within (from + size_of x.1) to xs base p h.1 i in let low = rest.0 in
     (omega arith, rest.1)
 
 -- two of these rows at different bases share no word
@@ -55,22 +43,15 @@ pub fills_apart : (from to : ℕ) (xs : List (ℕ × Piece)) (base other : ℕ) 
     → FillWords from xs to → Among (base, p) xs → Among (other, q) xs → base ≢ other
     → (base + size_of p ≤ other) ⊎ (other + size_of q ≤ base)
 fills_apart from to [] base other p q h i j differ = absurd i
-fills_apart from to (x ∷ xs) base other p q h (inl e) (inl f) differ = absurd
-    (differ (ap (λ y. y.0) e ∙ sym (ap (λ y. y.0) f)))
+fills_apart from to (x ∷ xs) base other p q h (inl e) (inl f) differ = grind arith
 fills_apart from to (x ∷ xs) base other p q h (inl e) (inr j) differ =
-    let rest = fills_within (from + size_of x.1) to xs other q h.1 j in
-    let low = rest.0 in
-    let first = h.0 in
-    let here : base ≡ x.0 = ap (λ y. y.0) e in
-    let size : size_of p ≡ size_of x.1 = ap (λ y. size_of y.1) e in
-    inl (omega arith)
+    let rest = fills_within (from + size_of x.1) to xs other q h.1 j in let low = rest.0 in
+    let first = h.0 in let here : base ≡ x.0 = ap (λ y. y.0) e in
+    let size : size_of p ≡ size_of x.1 = ap (λ y. size_of y.1) e in inl (omega arith)
 fills_apart from to (x ∷ xs) base other p q h (inr i) (inl f) differ =
-    let rest = fills_within (from + size_of x.1) to xs base p h.1 i in
-    let low = rest.0 in
-    let first = h.0 in
-    let here : other ≡ x.0 = ap (λ y. y.0) f in
-    let size : size_of q ≡ size_of x.1 = ap (λ y. size_of y.1) f in
-    inr (omega arith)
+    let rest = fills_within (from + size_of x.1) to xs base p h.1 i in let low = rest.0 in
+    let first = h.0 in let here : other ≡ x.0 = ap (λ y. y.0) f in
+    let size : size_of q ≡ size_of x.1 = ap (λ y. size_of y.1) f in inr (omega arith)
 fills_apart from to (x ∷ xs) base other p q h (inr i) (inr j) differ = fills_apart
     (from + size_of x.1) to xs base other p q h.1 i j differ
 
@@ -101,22 +82,18 @@ length-first_keys key [] xs some fits = refl
 length-first_keys key (zero ∷ ns) xs some fits = let none = some.0 in absurd (omega arith)
 length-first_keys key (suc n ∷ ns) [] some fits = let all = sum_by-cons (λ x. x) (suc n) ns in
     absurd (omega arith)
-length-first_keys key (suc n ∷ ns) (x ∷ xs) some fits =
-    let all = sum_by-cons (λ x. x) (suc n) ns in
+length-first_keys key (suc n ∷ ns) (x ∷ xs) some fits = let all = sum_by-cons (λ x. x) (suc n) ns in
     let less = length-drop (suc n) (x ∷ xs) in
-    let rest = length-first_keys key ns (drop (suc n) (x ∷ xs)) some.1 (omega arith) in
-    omega arith
+    let rest = length-first_keys key ns (drop (suc n) (x ∷ xs)) some.1 (omega arith) in omega arith
 
 -- there is one first key for each part but the first
 keys_after_first : {A : Type 0} (key : A → ℕ) (ns : List ℕ) (xs : List A) → AllSome ns
     → sum ns ≤ length xs → 1 ≤ length ns
     → length (first_keys key (drop 1 (cut ns xs))) + 1 ≡ length ns
 keys_after_first key [] xs some fits one = absurd (omega arith)
-keys_after_first key (n ∷ ns) xs some fits one =
-    let all = sum_by-cons (λ x. x) n ns in
+keys_after_first key (n ∷ ns) xs some fits one = let all = sum_by-cons (λ x. x) n ns in
     let less = length-drop n xs in
-    let rest = length-first_keys key ns (drop n xs) some.1 (omega arith) in
-    omega arith
+    let rest = length-first_keys key ns (drop n xs) some.1 (omega arith) in omega arith
 
 mapped_some : (n : ℕ) (js : List ℕ) → 2 ≤ n → AllSome (map (part_len n) js)
 mapped_some n [] h = tt
@@ -136,12 +113,14 @@ length-part_lens n = length-map-range_with_len (part_len n) 0 (degree n)
 pub keys_of_parts : {A : Type 0} (key : A → ℕ) (xs : List A) → 2 ≤ length xs
     → length (first_keys key (drop 1 (parts xs))) + 1 ≡ degree (length xs)
 keys_of_parts key xs two =
-    let n = length xs in
-    let many = length-part_lens n in
-    let keys = keys_after_first key (part_lens n) xs (part_lens_some n two)
-    (let whole = sum-part_lens n in omega arith) (let least = least_degree-le n in omega arith)
-    in
-    omega arith
+    grind (
+      arith,
+      length-part_lens,
+      keys_after_first,
+      part_lens_some,
+      sum-part_lens,
+      least_degree-le,
+    )
 
 -- the number of parts is the degree
 pub length-parts : {A : Type 0} (xs : List A) → length (parts xs) ≡ degree (length xs)
@@ -152,21 +131,12 @@ pub slots_of-top_row : (base : ℕ) (pairs : List Pair)
     → length (map (λ part. word_of (tree_at part.0 part.1)) (placed_parts base pairs)) ≡ degree
     (length pairs)
 slots_of-top_row base pairs =
-    let n = length pairs in
-    let lens = part_lens n in
-    let many = length-part_lens n in
-    let from = base + inner_words (degree n) in
-    let starts = length-bases_from from lens in
-    let pieces = length-cut lens pairs in
-    let placed = length_zipped (bases_from from lens) (parts pairs) (omega arith) in
-    let slots = length-map (placed_parts base pairs) (λ part. word_of (tree_at part.0 part.1)) in
-    omega arith
+    grind (arith, length-part_lens, length-bases_from, length-cut, length_zipped, length-map)
 
 -- the number of a top row's words follows from the degree
 size_of-top_row : (base : ℕ) (pairs : List Pair) → 2 ≤ length pairs
     → size_of (top_row base pairs) ≡ inner_words (degree (length pairs))
-size_of-top_row base pairs two =
-    let keys = keys_of_parts (λ pair. pair.key) pairs two in
+size_of-top_row base pairs two = let keys = keys_of_parts (λ pair. pair.key) pairs two in
     let slots = slots_of-top_row base pairs in
     let both = length-append (first_keys (λ pair. pair.key) (drop 1 (parts pairs)))
     (map (λ part. word_of (tree_at part.0 part.1)) (placed_parts base pairs)) in
@@ -182,10 +152,8 @@ fills_parts : (fuel from : ℕ) (ns : List ℕ) (xs : List Pair) → sum ns ≤ 
     (flat_map (λ part. rows_within fuel part.0 part.1) (zip (bases_from from ns) (cut ns xs)))
     (from + sum_by ideal_words ns)
 fills_parts fuel from [] xs fits each = omega arith
-fills_parts fuel from (n ∷ ns) xs fits each =
-    let all = sum_by-cons (λ x. x) n ns in
-    let words = sum_by-cons ideal_words n ns in
-    let less = length-drop n xs in
+fills_parts fuel from (n ∷ ns) xs fits each = let all = sum_by-cons (λ x. x) n ns in
+    let words = sum_by-cons ideal_words n ns in let less = length-drop n xs in
     let here = each n from (take n xs) (inl refl) (length-take-le n xs (omega arith)) in
     let rest = fills_parts fuel (from + ideal_words n) ns (drop n xs) (omega arith)
     (λ m base part i e. each m base part (inr i) e) in
@@ -215,18 +183,13 @@ unfolding rows_within
 fills_rows fuel base [] h = let none = ideal_words_none in omega arith
 fills_rows fuel base (pair ∷ []) h = let two = ideal_words_one in (refl, omega arith)
 fills_rows zero base (pair ∷ more ∷ pairs) h = absurd (omega arith)
-fills_rows (suc fuel) base (pair ∷ more ∷ pairs) h =
-    let all = pair ∷ more ∷ pairs in
-    let n = length all in
-    let size = size_of-top_row base all (omega arith) in
-    let from = base + inner_words (degree n) in
-    let words = ideal_words_many n (omega arith) in
+fills_rows (suc fuel) base (pair ∷ more ∷ pairs) h = let all = pair ∷ more ∷ pairs in
+    let n = length all in let size = size_of-top_row base all (omega arith) in
+    let from = base + inner_words (degree n) in let words = ideal_words_many n (omega arith) in
     let fits = sum-part_lens n in
     let parts_fill = fills_parts fuel from (part_lens n) all (omega arith)
-    (λ m at part i e.
-    let it = among_part_lens n m i in
-    let less = part_len-lt n it.0 (omega arith) in
-    let is = it.1 in
+    (λ m at part i e. let it = among_part_lens n m i in
+    let less = part_len-lt n it.0 (omega arith) in let is = it.1 in
     subst (λ k. FillWords at (rows_within fuel at part) (at + ideal_words k)) e
     (fills_rows fuel at part (omega arith))) in
     let begin : from ≡ base + size_of (top_row base all) = omega arith in

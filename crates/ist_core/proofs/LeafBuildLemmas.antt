@@ -1,47 +1,31 @@
 -- After a Root and a Place leaves still lie where their keys lead. Serves the order law.
 use Rattle.std.proofs.Common.{◌≡◌, ℕ, ◌≤◌, List, length, drop, Some, None, option_map, refl, sym, ap, ◌∙◌, subst, inl, inr}
-use Rattle.ist_core.specs.declared.lists.Row.{Row}
-use Rattle.ist_core.specs.declared.states.LeafRow.{LeafRow}
-use Rattle.ist_core.specs.declared.states.InnerRow.{InnerRow}
-use Rattle.ist_core.specs.declared.states.RebuildRow.{RebuildRow}
-use Rattle.ist_core.specs.declared.events.Event.TheVariants.{Root, Place}
-use Rattle.ist_core.specs.RowLayout.{anchor}
-use Rattle.ist_core.specs.References.{LeafAt, InnerAt, ref_of}
-use Rattle.ist_core.specs.Elements.{Among, Each}
-use Rattle.ist_core.specs.Parts.{parts, first_keys}
-use Rattle.ist_core.specs.Pieces.{Pieces, Leaf, Inner, Rebuild, with_inners, changed_at, with_slot, with_root}
-use Rattle.ist_core.specs.Snapshots.{Snapshot, bases_of}
-use Rattle.ist_core.specs.After.{after}
-use Rattle.ist_core.specs.Leaves.{PlacedLeaf, HasLeaves}
-use Rattle.ist_core.specs.Building.{CanRoot, CanPlace}
-use Rattle.ist_core.specs.Growing.{AllGrow}
+use Rattle.ist_core.specs.Types.{Row, LeafRow, InnerRow, RebuildRow, Root, Place}
+use Rattle.ist_core.specs.WordTerms.{anchor, LeafAt, InnerAt, ref_of, parts, first_keys, Pieces, Leaf, Inner, Rebuild, with_inners, changed_at, with_slot, with_root}
+use Rattle.ist_core.specs.LogTerms.{Among, Each, Snapshot, bases_of, after}
+use Rattle.ist_core.specs.TreeTerms.{PlacedLeaf, HasLeaves, CanRoot, CanPlace, AllGrow}
 use Rattle.ist_core.proofs.MoveLemmas.{HeldLieApart}
-use Rattle.ist_core.proofs.AddingLemmas.{adds-with_inners, held_free}
+use Rattle.ist_core.proofs.StepLemmas.{adds-with_inners, held_free, rows_placed, known}
 use Rattle.ist_core.proofs.GrowingLemmas.{inner_there}
-use Rattle.ist_core.proofs.StepLemmas.{rows_placed, known}
-use Rattle.ist_core.proofs.RowLemmas.{changed_at-same, changed_at-other}
+use Rattle.ist_core.proofs.OptionLemmas.{changed_at-same, changed_at-other, same_value, no_value}
 use Rattle.ist_core.proofs.SlotStepLemmas.{place_writes}
 use Rattle.ist_core.proofs.NamingLemmas.{WordsName}
 use Rattle.ist_core.proofs.NamingStepLemmas.{changed_at-fixed}
 use Rattle.ist_core.proofs.TreeLemmas.{root_tree, tree_of_ideal, tree_rows}
-use Rattle.ist_core.proofs.LeafLemmas.{same_leaves}
+use Rattle.ist_core.proofs.UnderLemmas.{same_leaves, leaves_under, each_mapped}
 use Rattle.ist_core.proofs.HomeLemmas.{Mentions, HasOneHome, slot_mentions, SaysCame, AllCame, came_old, came_added, came-changed_at, came-with_slot, came-with_root, anchor_old}
 use Rattle.ist_core.proofs.HomeStepLemmas.{word_new}
 use Rattle.ist_core.proofs.RisingLemmas.{AreRisingKeys, parts_rise, part_rises}
 use Rattle.ist_core.proofs.SplitLemmas.{key_of_leaf, ideal_splits}
-use Rattle.ist_core.proofs.LeadingLemmas.{LiesIn, LeafLies, LeavesLie}
-use Rattle.ist_core.proofs.UnderLemmas.{leaves_under, each_mapped}
-use Rattle.ist_core.proofs.LyingLemmas.{parts_lie, split_lies}
+use Rattle.ist_core.proofs.LeadingLemmas.{LiesIn, LeafLies, LeavesLie, parts_lie, split_lies}
 use Rattle.ist_core.proofs.RootKeyLemmas.{IsCutBy}
 use Rattle.ist_core.proofs.LeafStepLemmas.{LiesOn, lies_from, tree_says, root_lies}
-use Rattle.ist_core.proofs.OptionLemmas.{same_value, no_value}
 
 -- the leaves of a rebuild's target lie in the slot that the rebuild is for, and their keys are
 -- strictly increasing
 pub target_lies : (t : Snapshot) (rebuild : ℕ) (row : RebuildRow) (leaves : List PlacedLeaf)
     → t.pieces rebuild ≡ Some (Rebuild row) → WordsName t → HasOneHome t
-    → t.pieces anchor ≡ None → LeavesLie t
-    → HasLeaves t.pieces (Some (InnerAt row.target)) leaves
+    → t.pieces anchor ≡ None → LeavesLie t → HasLeaves t.pieces (Some (InnerAt row.target)) leaves
     → Each (λ leaf. LiesIn t (key_of_leaf leaf) row.parent row.index) leaves × AreRisingKeys key_of_leaf
     leaves
 target_lies t rebuild row leaves there names home free lie reached =
@@ -49,24 +33,19 @@ target_lies t rebuild row leaves there names home free lie reached =
     row.index
     record {
       a_leaf = λ base e. absurd (cc);
-      a_row = λ base e. inr
-          (rebuild, Rebuild row, there, (refl, refl, inl (cc)));
+      a_row = λ base e. inr (rebuild, Rebuild row, there, (refl, refl, inl (cc)));
     }
 
 -- a Root puts a tree over the leaves of its target where they lie
 pub lies_root : (t : Snapshot) (caller rebuild word : ℕ) (rows : List Row)
     → (h : CanRoot t caller rebuild word rows) → HeldLieApart t → WordsName t → HasOneHome t
-    → t.pieces anchor ≡ None
-    → AllGrow t.pieces (after t (Root caller rebuild word rows)).pieces
+    → t.pieces anchor ≡ None → AllGrow t.pieces (after t (Root caller rebuild word rows)).pieces
     → LiesOn t (after t (Root caller rebuild word rows)) → LeavesLie t
     → LeavesLie (after t (Root caller rebuild word rows))
 lies_root t caller rebuild word rows h sound names home free grows on lie =
-    let u = after t (Root caller rebuild word rows) in
-    let qs = with_inners t.pieces rows in
-    let rs = changed_at qs rebuild (with_root word) in
-    let New = LeafLies u in
-    let bases = bases_of rows in
-    let adds = adds-with_inners t caller rows h.held sound in
+    let u = after t (Root caller rebuild word rows) in let qs = with_inners t.pieces rows in
+    let rs = changed_at qs rebuild (with_root word) in let New = LeafLies u in
+    let bases = bases_of rows in let adds = adds-with_inners t caller rows h.held sound in
     let tree = root_tree qs word h.k h.leaves h.row.target bases h.root in
     let stood = adds.keeps rebuild (Rebuild h.row) h.published in
     let now : rs rebuild ≡ Some (Rebuild record h.row { root = word }) = rooted qs stood in
@@ -102,19 +81,15 @@ lies_root t caller rebuild word rows h sound names home free grows on lie =
 -- a Place puts a tree over a part of these leaves into the slot of this part
 pub lies_place : (t : Snapshot) (caller rebuild i word : ℕ) (rows : List Row)
     → (h : CanPlace t caller rebuild i word rows) → HeldLieApart t → WordsName t → HasOneHome t
-    → t.pieces anchor ≡ None
-    → AllGrow t.pieces (after t (Place caller rebuild i word rows)).pieces
+    → t.pieces anchor ≡ None → AllGrow t.pieces (after t (Place caller rebuild i word rows)).pieces
     → LiesOn t (after t (Place caller rebuild i word rows))
     → ((node j : ℕ) → Mentions t node j (InnerAt h.root) → Mentions
     (after t (Place caller rebuild i word rows)) node j (InnerAt h.root))
     → IsCutBy t h.row.target h.root_row → LeavesLie t
     → LeavesLie (after t (Place caller rebuild i word rows))
 lies_place t caller rebuild i word rows h sound names home free grows on stay cut lie =
-    let u = after t (Place caller rebuild i word rows) in
-    let qs = with_inners t.pieces rows in
-    let f = with_slot i word in
-    let New = LeafLies u in
-    let bases = bases_of rows in
+    let u = after t (Place caller rebuild i word rows) in let qs = with_inners t.pieces rows in
+    let f = with_slot i word in let New = LeafLies u in let bases = bases_of rows in
     let pieces = rows_placed t caller rebuild i word rows h in
     let adds = adds-with_inners t caller rows h.held sound in
     let tree = tree_of_ideal qs h.ref h.part h.root bases h.ideal in

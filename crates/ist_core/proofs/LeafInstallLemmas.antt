@@ -1,21 +1,13 @@
 -- After an Install leaves still lie where their keys lead. Serves the order law.
 use Rattle.std.proofs.Common.{◌≡◌, ◌≢◌, ℕ, zero, suc, ◌<◌, ◌≤◌, ◌⊎◌, nat_lt, if◌then◌else◌, true, false, List, [], ◌∷◌, slice_get, Some, refl, sym, ap, ◌∙◌, subst, inl, inr, ⊎_elim, arith}
-use Rattle.ist_core.specs.declared.lists.Row.{Row}
-use Rattle.ist_core.specs.declared.states.LeafRow.{LeafRow}
-use Rattle.ist_core.specs.declared.states.InnerRow.{InnerRow}
-use Rattle.ist_core.specs.declared.states.ChangeRow.{ChangeRow}
-use Rattle.ist_core.specs.Arithmetic.{child_count}
-use Rattle.ist_core.specs.References.{Ref, Empty, LeafAt, InnerAt, RebuildAt, IsGoodBase, ref_of, word_of}
-use Rattle.ist_core.specs.Pieces.{Pieces, Piece, Leaf, Inner, Change, Rebuild}
-use Rattle.ist_core.specs.Snapshots.{Snapshot}
-use Rattle.ist_core.specs.Logs.{Log, state}
-use Rattle.ist_core.specs.Slots.{SlotHolds, of_row}
-use Rattle.ist_core.specs.Installing.{new_leaf, pair_row, pair_over, ComesByKey, PutsPair, FitsKind, a_put, a_pair, a_remove, a_start, a_finish}
-use Rattle.ist_core.specs.Growing.{AllGrow}
+use Rattle.ist_core.specs.Types.{Row, LeafRow, InnerRow, ChangeRow}
+use Rattle.ist_core.specs.WordTerms.{child_count, Ref, Empty, LeafAt, InnerAt, RebuildAt, IsGoodBase, ref_of, word_of, Pieces, Piece, Leaf, Inner, Change, SlotHolds, of_row}
+use Rattle.ist_core.specs.LogTerms.{Snapshot, Log, state}
+use Rattle.ist_core.specs.TreeTerms.{new_leaf, pair_row, pair_over, ComesByKey, PutsPair, FitsKind, a_put, a_pair, a_remove, a_start, a_finish, AllGrow}
 use Rattle.ist_core.proofs.ReferenceLemmas.{ref_of-unset, ref_of-word_of}
 use Rattle.ist_core.proofs.GrowingLemmas.{leaf_there, inner_there}
 use Rattle.ist_core.proofs.FreshLemmas.{IsPublishedWith}
-use Rattle.ist_core.proofs.AddingLemmas.{IsInstalledWith}
+use Rattle.ist_core.proofs.StepLemmas.{IsInstalledWith}
 use Rattle.ist_core.proofs.HomeLemmas.{Says, Mentions, slot_mentions, WasNamedOrIsNew, SaysCame, WordCame}
 use Rattle.ist_core.proofs.HomeStepLemmas.{word_of_other, word_mentioned, word_new}
 use Rattle.ist_core.proofs.RisingLemmas.{child_count-low, child_count-none}
@@ -74,8 +66,7 @@ module _ (u : Snapshot) (node i pair : ℕ) (named : Mentions u node i (InnerAt 
     degree = 2;
     size = 2;
     keys = key ∷ [];
-    slots = word_of (LeafAt left)
-        ∷ word_of (LeafAt right) ∷ [];
+    slots = word_of (LeafAt left) ∷ word_of (LeafAt right) ∷ [];
   }
 
   pair_lies : (t : Snapshot) (qs : Pieces) → AllGrow qs u.pieces
@@ -134,21 +125,16 @@ module _ (first : Snapshot) (log : Log) (at : ℕ) (change : ChangeRow) (fresh :
   from_came : WordCame LeafAt (state first log) (LeafLies u) change.node change.index
       (ref_of change.from)
   unfolding WordCame
-  from_came leaf e = inl (slot_mentions (state first log) change.node change.index change.from
-      (LeafAt leaf) in_slot e)
+  from_came leaf e = grind (arith, slot_mentions)
 
   -- the fresh leaf has the key of the put
   fresh_key : (leaf : ℕ) → qs leaf ≡ Some (new_leaf change) → KeyIs u leaf change.key
-  fresh_key leaf there r e = sym
-      (ap (λ x. x.key) (same_leaf (u.pieces leaf) record { key = change.key; value = change.value }
-      r (leaf_there qs u.pieces grows leaf record { key = change.key; value = change.value } there)
-      e))
+  fresh_key leaf there r e = grind (arith, same_leaf, leaf_there)
 
   -- a word that names no leaf
   other_came : (ref : Ref) → ref_of change.to ≡ Some ref → ((leaf : ℕ) → ref ≢ LeafAt leaf)
       → WordCame LeafAt (state first log) (LeafLies u) change.node change.index (ref_of change.to)
-  other_came ref e other = word_of_other LeafAt (state first log) (LeafLies u) change.node
-      change.index (ref_of change.to) ref e other
+  other_came ref e other = grind (arith, word_of_other, LeafLies)
 
   module _ (led : ComesByKey first log change → LiesIn u change.key change.node change.index)
       (good : (base : ℕ) (p : Piece) → qs base ≡ Some p → IsGoodBase base) where
@@ -157,23 +143,14 @@ module _ (first : Snapshot) (log : Log) (at : ℕ) (change : ChangeRow) (fresh :
         → WordCame LeafAt (state first log) (LeafLies u) change.node change.index (ref_of change.to)
     to_came (a_put h) stood =
         word_new LeafAt (state first log) (LeafLies u) change.node change.index (ref_of change.to)
-        (λ leaf e r there.
-        let here : leaf ≡ h.leaf = cc (h.to) in
+        (λ leaf e r there. let here : leaf ≡ h.leaf = cc (h.to) in
         subst (λ k. LiesIn u k change.node change.index)
         (sym (fresh_key leaf (stood leaf (new_leaf change) (here, refl)) r there))
         (led h.by_key))
     to_came (a_pair h) stood = other_came (InnerAt h.pair) h.to (λ leaf e. cc)
     to_came (a_remove h) stood = other_came Empty h.to (λ leaf e. cc)
     to_came (a_start h) stood = other_came (RebuildAt h.rebuild) h.to (λ leaf e. cc)
-    to_came (a_finish h) stood =
-        word_mentioned LeafAt (state first log) (LeafLies u) change.node change.index
-        (ref_of change.to)
-        (λ leaf e. inr (
-          h.rebuild,
-          Rebuild h.row,
-          h.published,
-          (sym h.parent, sym h.index, inr (ap ref_of (sym h.to) ∙ e)),
-        ))
+    to_came (a_finish h) stood = grind (arith, word_mentioned, LeafLies)
 
     -- the pair row of a put
     put_pair_lies : (h : PutsPair first log change fresh)
@@ -181,8 +158,7 @@ module _ (first : Snapshot) (log : Log) (at : ℕ) (change : ChangeRow) (fresh :
         → qs h.leaf ≡ Some (new_leaf change) → qs h.other ≡ Some (Leaf h.stands.row)
         → SaysCame LeafAt (state first log) (LeafLies u) h.pair
         (pair_row change.key h.leaf h.other_key h.other)
-    put_pair_lies h pair leaf other =
-        let t = state first log in
+    put_pair_lies h pair leaf other = let t = state first log in
         let old = lie.each change.node change.index h.other
         (slot_mentions t change.node change.index change.from (LeafAt h.other) in_slot h.from)
         h.stands.row h.stands.published in
@@ -209,9 +185,7 @@ module _ (first : Snapshot) (log : Log) (at : ℕ) (change : ChangeRow) (fresh :
         subst (λ n. WasNamedOrIsNew LeafAt (state first log) (LeafLies u) n i leaf) (sym says.0)
         (subst (λ j. WasNamedOrIsNew LeafAt (state first log) (LeafLies u) change.node j leaf) (sym says.1)
         (⊎_elim (λ e. from_came leaf e) (λ e. to_came fits stood leaf e) says.2)))
-    installed_lies (a_put h) stood kept base p (inr (here, new)) = subst
-        (λ x. SaysCame LeafAt (state first log) (LeafLies u) base x) (sym new)
-        (λ node i leaf says. absurd says)
+    installed_lies (a_put h) stood kept base p (inr (here, new)) = grind (arith, SaysCame, LeafLies)
     installed_lies (a_pair h) stood kept base p (inr (inl (here, new))) =
         subst (λ x. SaysCame LeafAt (state first log) (LeafLies u) base x) (sym new)
         (subst (λ b. SaysCame LeafAt (state first log) (LeafLies u) b
@@ -219,12 +193,9 @@ module _ (first : Snapshot) (log : Log) (at : ℕ) (change : ChangeRow) (fresh :
         (put_pair_lies h (stood h.pair (pair_row change.key h.leaf h.other_key h.other)
         (inl (refl, refl))) (stood h.leaf (new_leaf change) (inr (refl, refl)))
         (kept h.other (Leaf h.stands.row) h.stands.published)))
-    installed_lies (a_pair h) stood kept base p (inr (inr (here, new))) = subst
-        (λ x. SaysCame LeafAt (state first log) (LeafLies u) base x) (sym new)
-        (λ node i leaf says. absurd says)
+    installed_lies (a_pair h) stood kept base p (inr (inr (here, new))) =
+        grind (arith, SaysCame, LeafLies)
     installed_lies (a_remove h) stood kept base p (inr f) = absurd f
     installed_lies (a_start h) stood kept base p (inr (here, new)) =
-        subst (λ x. SaysCame LeafAt (state first log) (LeafLies u) base x) (sym new)
-        (λ node i leaf says. ⊎_elim (λ e. absurd (cc))
-        (λ e. absurd (cc (sym ref_of-unset ∙ e))) says.2)
+        grind (arith, SaysCame, LeafLies, ref_of-unset)
     installed_lies (a_finish h) stood kept base p (inr f) = absurd f

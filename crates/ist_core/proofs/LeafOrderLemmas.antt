@@ -2,35 +2,18 @@
 -- strictly increasing. Serves `laws.leaves_lie_by_key`.
 use Rattle.std.proofs.Common.{◌≡◌, ℕ, zero, suc, ◌+◌, ◌<◌, ◌⊎◌, List, [], ◌∷◌, length, map, slice_index, Some, refl, sym, subst, inl, inr, arith}
 use Rattle.std.specs.List.Sorted.{IsStrictlyIncreasing}
-use Rattle.ist_core.specs.declared.pairs.Pair.{Pair}
-use Rattle.ist_core.specs.declared.lists.Row.{Row}
-use Rattle.ist_core.specs.declared.events.Event.{Event}
-use Rattle.ist_core.specs.declared.events.Event.TheVariants.{Enter, Reserve, Install, Okay, Decide, Resolve, Count, Mark, Pass, Finish, Root, Draw, Place, Lose}
-use Rattle.ist_core.specs.RowLayout.{anchor, first_row}
-use Rattle.ist_core.specs.Shapes.{ideal_words}
-use Rattle.ist_core.specs.References.{LeafAt, InnerAt, ChangeAt, ref_of, word_of}
-use Rattle.ist_core.specs.Statuses.{marked_word, finished_word}
-use Rattle.ist_core.specs.Elements.{Among, Each}
-use Rattle.ist_core.specs.Pieces.{Piece, Inner, Change, row_at, with_slot, with_status, counted, with_decision, drawn}
-use Rattle.ist_core.specs.Snapshots.{Snapshot}
-use Rattle.ist_core.specs.StartLayout.{start, tree_at, rows_from}
-use Rattle.ist_core.specs.After.{after, decision_word}
-use Rattle.ist_core.specs.Logs.{Log}
-use Rattle.ist_core.specs.Slots.{of_anchor}
-use Rattle.ist_core.specs.Growing.{AllGrow}
-use Rattle.ist_core.specs.Lawful.{EachEnabled, CanOpen, state_of}
-use Rattle.ist_core.proofs.ElementLemmas.{each-among}
-use Rattle.ist_core.proofs.PieceLemmas.{among-pieces_of}
+use Rattle.ist_core.specs.Types.{Pair, Row, Event, Enter, Reserve, Install, Okay, Decide, Resolve, Count, Mark, Pass, Finish, Root, Draw, Place, Lose}
+use Rattle.ist_core.specs.WordTerms.{anchor, first_row, ideal_words, LeafAt, InnerAt, ChangeAt, ref_of, word_of, marked_word, finished_word, Piece, Inner, Change, row_at, with_slot, with_status, counted, with_decision, drawn, start, tree_at, rows_from, of_anchor}
+use Rattle.ist_core.specs.LogTerms.{Among, Each, Snapshot, after, decision_word, Log, EachEnabled, CanOpen, state_of}
+use Rattle.ist_core.specs.TreeTerms.{AllGrow}
+use Rattle.ist_core.proofs.OptionLemmas.{each-among, among-pieces_of, same_value}
 use Rattle.ist_core.proofs.SoundLemmas.{sound}
-use Rattle.ist_core.proofs.StartLemmas.{sound_start}
+use Rattle.ist_core.proofs.StepLemmas.{sound_start, IsInstalledWith, adds_install, holds_installed, known}
 use Rattle.ist_core.proofs.InstallLemmas.{with_installed}
 use Rattle.ist_core.proofs.FreshLemmas.{fresh_stands}
-use Rattle.ist_core.proofs.AddingLemmas.{IsInstalledWith, adds_install}
 use Rattle.ist_core.proofs.GrowingLemmas.{all_grow-changed_at, grows-with_slot}
-use Rattle.ist_core.proofs.StepLemmas.{holds_installed, known}
 use Rattle.ist_core.proofs.PlaceLemmas.{anchor_free}
-use Rattle.ist_core.proofs.RoomLemmas.{ref_of-change}
-use Rattle.ist_core.proofs.SlotLemmas.{anchor_slot}
+use Rattle.ist_core.proofs.RoomLemmas.{ref_of-change, anchor_slot}
 use Rattle.ist_core.proofs.SlotStepLemmas.{install_stands}
 use Rattle.ist_core.proofs.TreeLemmas.{IsTreeRow, tree_rows}
 use Rattle.ist_core.proofs.StartTreeLemmas.{IsLeafRow, leaf_row, HangsAs, start_hangs, start_anchor}
@@ -40,13 +23,11 @@ use Rattle.ist_core.proofs.HomeStepLemmas.{word_of_other}
 use Rattle.ist_core.proofs.ParentLemmas.{one_home}
 use Rattle.ist_core.proofs.MentionLemmas.{mentions_step}
 use Rattle.ist_core.proofs.RisingLemmas.{AreRisingKeys, Rising}
-use Rattle.ist_core.proofs.LeadingLemmas.{to_anchor, LiesIn, LeafLies, LeavesLie, lies_step, was_led}
-use Rattle.ist_core.proofs.LyingLemmas.{RowLies, split_lies}
+use Rattle.ist_core.proofs.LeadingLemmas.{to_anchor, LiesIn, LeafLies, LeavesLie, lies_step, was_led, RowLies, split_lies}
 use Rattle.ist_core.proofs.RootKeyLemmas.{roots_are_cut}
 use Rattle.ist_core.proofs.LeafStepLemmas.{LiesOn, lies_from, lies_same, lies_changed, lies_resolve}
 use Rattle.ist_core.proofs.LeafBuildLemmas.{lies_root, lies_place}
 use Rattle.ist_core.proofs.LeafInstallLemmas.{installed_lies}
-use Rattle.ist_core.proofs.OptionLemmas.{same_value}
 use Rattle.ist_core.proofs.FateLemmas.{grow_after}
 
 -- ---- strictly increasing numbers in the words of the definitions
@@ -61,8 +42,7 @@ module _ {A : Type 0} (key : A → ℕ) where
   pub rises_from_next : (xs : List A) → IsStrictlyIncreasing (map key xs) → AreRisingKeys key xs
   rises_from_next [] h = tt
   rises_from_next (x ∷ []) h = (tt, tt)
-  rises_from_next (x ∷ y ∷ ys) h =
-      let less = h 0 (omega arith) in
+  rises_from_next (x ∷ y ∷ ys) h = let less = h 0 (omega arith) in
       let rest = rises_from_next (y ∷ ys)
       (λ k short. subst (λ m. slice_index (map key (x ∷ y ∷ ys)) (suc k) < slice_index
       (map key (x ∷ y ∷ ys)) m) (let e : suc k + 1 ≡ suc (k + 1) = omega arith in e)
@@ -135,8 +115,7 @@ module _ (pairs : List Pair) (words : ℕ) (opens : CanOpen pairs words) where
           s.3)) says
 
       each : (node i leaf : ℕ) → Mentions t node i (LeafAt leaf) → LeafLies t node i leaf
-      each node i leaf (inl h) =
-          subst (λ n. LeafLies t n i leaf) (sym h.0)
+      each node i leaf (inl h) = subst (λ n. LeafLies t n i leaf) (sym h.0)
           (subst (λ j. LeafLies t anchor j leaf) (sym h.1)
           (lies.1 leaf (same_value (ref_of t.anchor) (tree_at first_row pairs) (LeafAt leaf)
           (start_anchor pairs words opens) h.2)))
@@ -154,11 +133,8 @@ module _ (pairs : List Pair) (words : ℕ) (opens : CanOpen pairs words) where
       (h : EachEnabled (start pairs words) (Install caller base rows ∷ log))
       → LeavesLie (state_of pairs words log)
       → LeavesLie (after (state_of pairs words log) (Install caller base rows))
-  lies_install log caller base rows both lie =
-      let h = both.1 in
-      let e = both.0 in
-      let t = state_of pairs words log in
-      let first = start pairs words in
+  lies_install log caller base rows both lie = let h = both.1 in let e = both.0 in
+      let t = state_of pairs words log in let first = start pairs words in
       let s = sound first log (sound_start pairs words) e in
       let holds = holds_installed first log caller base rows h in
       let good = install_good pairs words opens log e caller base rows h in
@@ -185,8 +161,7 @@ module _ (pairs : List Pair) (words : ℕ) (opens : CanOpen pairs words) where
       (λ x _. grows-with_slot h.change.index word x)) growing onward lie h.in_slot stands
       (λ by_key. onward h.change.key h.change.node h.change.index record {
         led = was_led pairs words opens log e h.change.key h.change.node by_key.led;
-        child_for =
-            by_key.index;
+        child_for = by_key.index;
       })
       good.1 h.fits (λ b x f. fresh_stands first log caller base h.change h.fresh s t.pieces h.fits
       holds b x f) adds.keeps at p born))
@@ -230,8 +205,7 @@ module _ (pairs : List Pair) (words : ℕ) (opens : CanOpen pairs words) where
       lies_changed (state_of pairs words log) u node counted (grow_after pairs words log (Count caller node) h)
       (on log (Count caller node) h) (names pairs words opens log h.0) lie refl refl
       (λ p k. came-counted LeafAt (state_of pairs words log) (LeafLies u) node p k)
-  lies_after log (Mark caller node) h lie =
-      let u = state_of pairs words (Mark caller node ∷ log) in
+  lies_after log (Mark caller node) h lie = let u = state_of pairs words (Mark caller node ∷ log) in
       lies_changed (state_of pairs words log) u node (with_status marked_word)
       (grow_after pairs words log (Mark caller node) h) (on log (Mark caller node) h)
       (names pairs words opens log h.0) lie refl refl

@@ -1,34 +1,21 @@
 -- After each event but an Install leaves still lie where their keys lead. Serves the order law.
 use Rattle.std.proofs.Common.{◌≡◌, ℕ, zero, suc, ◌⊎◌, ◌==◌, if◌then◌else◌, true, false, List, length, replicate, slice_get, Some, None, refl, sym, ap, ◌∙◌, subst, inl, inr}
-use Rattle.ist_core.specs.declared.states.LeafRow.{LeafRow}
-use Rattle.ist_core.specs.declared.states.InnerRow.{InnerRow}
-use Rattle.ist_core.specs.declared.events.Event.TheVariants.{Resolve}
-use Rattle.ist_core.specs.Arithmetic.{degree}
-use Rattle.ist_core.specs.RowLayout.{anchor}
-use Rattle.ist_core.specs.References.{Ref, Unset, LeafAt, InnerAt, ChangeAt, ref_of, word_of, unset_word}
-use Rattle.ist_core.specs.Statuses.{decided_yes}
-use Rattle.ist_core.specs.Elements.{Among, Each}
-use Rattle.ist_core.specs.Pieces.{Pieces, Piece, Leaf, Inner, Change, changed_at, with_slot}
-use Rattle.ist_core.specs.Snapshots.{Snapshot}
-use Rattle.ist_core.specs.After.{after, side_of, resolved}
-use Rattle.ist_core.specs.Leaves.{PlacedLeaf}
-use Rattle.ist_core.specs.Deciding.{CanResolve}
-use Rattle.ist_core.specs.Building.{IsRoot, root_whole, root_top}
-use Rattle.ist_core.specs.Growing.{AllGrow}
-use Rattle.ist_core.proofs.ElementLemmas.{each-among}
+use Rattle.ist_core.specs.Types.{LeafRow, InnerRow, Resolve}
+use Rattle.ist_core.specs.WordTerms.{degree, anchor, Ref, Unset, LeafAt, InnerAt, ChangeAt, ref_of, word_of, unset_word, decided_yes, Pieces, Piece, Leaf, Inner, Change, changed_at, with_slot}
+use Rattle.ist_core.specs.LogTerms.{Among, Each, Snapshot, after, side_of, resolved}
+use Rattle.ist_core.specs.TreeTerms.{PlacedLeaf, CanResolve, IsRoot, root_whole, root_top, AllGrow}
+use Rattle.ist_core.proofs.OptionLemmas.{each-among, same_value, same_inner}
 use Rattle.ist_core.proofs.ReferenceLemmas.{ref_of-unset}
 use Rattle.ist_core.proofs.GrowingLemmas.{leaf_there}
 use Rattle.ist_core.proofs.StepLemmas.{rows_resolved, known}
-use Rattle.ist_core.proofs.SlotLemmas.{anchor_slot}
+use Rattle.ist_core.proofs.RoomLemmas.{anchor_slot}
 use Rattle.ist_core.proofs.NamingLemmas.{WordsName}
 use Rattle.ist_core.proofs.TreeLemmas.{IsTreeRow}
 use Rattle.ist_core.proofs.HomeLemmas.{Says, Mentions, WasNamedOrIsNew, SaysCame, WordCame, AllCame, came_old, came-changed_at, came-with_slot, anchor_came, anchor_old}
 use Rattle.ist_core.proofs.HomeStepLemmas.{word_mentioned}
 use Rattle.ist_core.proofs.RisingLemmas.{AreRisingKeys}
 use Rattle.ist_core.proofs.SplitLemmas.{key_of_leaf, ideal_splits}
-use Rattle.ist_core.proofs.LeadingLemmas.{LiesIn, LeafLies, LeavesLie, mentioned_leaf}
-use Rattle.ist_core.proofs.LyingLemmas.{RowLies, split_lies}
-use Rattle.ist_core.proofs.OptionLemmas.{same_value, same_inner}
+use Rattle.ist_core.proofs.LeadingLemmas.{LiesIn, LeafLies, LeavesLie, mentioned_leaf, RowLies, split_lies}
 
 -- each key that leads to a slot still leads to it after the event
 abbrev pub LiesOn : Snapshot → Snapshot → Type 0
@@ -37,10 +24,8 @@ LiesOn t u = (key node i : ℕ) → LiesIn t key node i → LiesIn u key node i
 -- if each named leaf was named before or lies where its key leads, then all leaves lie where their
 -- keys lead
 pub lies_from : (t u : Snapshot) → AllGrow t.pieces u.pieces → LiesOn t u → WordsName t → LeavesLie
-    t
-    → AllCame LeafAt t (LeafLies u) u.pieces → WordCame LeafAt t (LeafLies u) anchor 0
-    (ref_of u.anchor)
-    → LeavesLie u
+    t → AllCame LeafAt t (LeafLies u) u.pieces → WordCame LeafAt t (LeafLies u) anchor 0
+    (ref_of u.anchor) → LeavesLie u
 unfolding AllCame SaysCame WordCame
 lies_from t u grows on names lie all word = record
     { each = λ node i leaf m. from node i leaf (came node i leaf m) }
@@ -52,8 +37,7 @@ lies_from t u grows on names lie all word = record
     came node i leaf (inr h) = all h.0 h.1 h.2 node i leaf h.3
 
     from : (node i leaf : ℕ) → WasNamedOrIsNew LeafAt t (LeafLies u) node i leaf → LeafLies u node i leaf
-    from node i leaf (inl m) r e =
-        let old = mentioned_leaf t node i leaf names m in
+    from node i leaf (inl m) r e = let old = mentioned_leaf t node i leaf names m in
         let same : old.0 ≡ r = cc (leaf_there t.pieces u.pieces grows leaf old.0 old.1) in
         subst (λ x. LiesIn u x.key node i) same
         (on old.0.key node i (lie.each node i leaf m old.0 old.1))
@@ -61,10 +45,8 @@ lies_from t u grows on names lie all word = record
 
 -- an event that leaves the rows and the anchor
 pub lies_same : (t u : Snapshot) → AllGrow t.pieces u.pieces → LiesOn t u → WordsName t → LeavesLie
-    t
-    → u.anchor ≡ t.anchor → u.pieces ≡ t.pieces → LeavesLie u
-lies_same t u grows on names lie word pieces =
-    lies_from t u grows on names lie
+    t → u.anchor ≡ t.anchor → u.pieces ≡ t.pieces → LeavesLie u
+lies_same t u grows on names lie word pieces = lies_from t u grows on names lie
     (subst (λ ps. AllCame LeafAt t (LeafLies u) ps) (sym pieces)
     (came_old LeafAt t (LeafLies u))) (anchor_old LeafAt t u (LeafLies u) word)
 
@@ -74,8 +56,7 @@ pub lies_changed : (t u : Snapshot) (at : ℕ) (f : Piece → Piece) → AllGrow
     → WordsName t → LeavesLie t → u.anchor ≡ t.anchor → u.pieces ≡ changed_at t.pieces at f
     → ((p : Piece) → SaysCame LeafAt t (LeafLies u) at p → SaysCame LeafAt t (LeafLies u) at (f p))
     → LeavesLie u
-lies_changed t u at f grows on names lie word pieces keeps =
-    lies_from t u grows on names lie
+lies_changed t u at f grows on names lie word pieces keeps = lies_from t u grows on names lie
     (subst (λ ps. AllCame LeafAt t (LeafLies u) ps) (sym pieces)
     (came-changed_at LeafAt t (LeafLies u) t.pieces at f (came_old LeafAt t (LeafLies u))
     (λ p _ old. keeps p old)))
@@ -88,14 +69,11 @@ pub lies_resolve : (t : Snapshot) (caller base : ℕ) → (h : CanResolve t call
     → t.pieces anchor ≡ None → WordsName t → AllGrow t.pieces (after t (Resolve caller base)).pieces
     → LiesOn t (after t (Resolve caller base)) → LeavesLie t
     → LeavesLie (after t (Resolve caller base))
-lies_resolve t caller base h free names grows on lie =
-    let change = h.change in
-    let u = resolved t (Some change) in
-    let New = LeafLies u in
+lies_resolve t caller base h free names grows on lie = let change = h.change in
+    let u = resolved t (Some change) in let New = LeafLies u in
     let side = word_mentioned LeafAt t New change.node change.index (ref_of (side_of change))
     (λ leaf e. inr (base, Change change, h.published, (refl, refl, either leaf e))) in
-    let is = rows_resolved t caller base h in
-    subst LeavesLie (sym is)
+    let is = rows_resolved t caller base h in subst LeavesLie (sym is)
     (lies_from t u (subst (λ x. AllGrow t.pieces x.pieces) is grows) (subst (λ x. LiesOn t x) is on)
     names lie
     (came-changed_at LeafAt t New t.pieces change.node (with_slot change.index (side_of change))
@@ -106,8 +84,7 @@ lies_resolve t caller base h free names grows on lie =
   where
     either : (leaf : ℕ) → ref_of (side_of h.change) ≡ Some (LeafAt leaf)
         → (ref_of h.change.from ≡ Some (LeafAt leaf)) ⊎ (ref_of h.change.to ≡ Some (LeafAt leaf))
-    either leaf =
-        elim (h.change.decision == decided_yes) as
+    either leaf = elim (h.change.decision == decided_yes) as
         (λ v. ref_of (if v then h.change.to else h.change.from) ≡ Some (LeafAt leaf) →
         (ref_of h.change.from ≡ Some (LeafAt leaf)) ⊎ (ref_of h.change.to ≡ Some (LeafAt leaf))) [
           | true ↦ λ e. inr e
@@ -149,8 +126,7 @@ pub root_lies : (u : Snapshot) (ps : Pieces) (word k : ℕ) (leaves : List Place
     (Inner r))
     → AreRisingKeys key_of_leaf leaves → (node i : ℕ)
     → ((ref : Ref) → ref_of word ≡ Some ref → Mentions u node i ref)
-    → Each (λ leaf. LiesIn u (key_of_leaf leaf) node i) leaves
-    → IsRoot ps word k leaves target rows
+    → Each (λ leaf. LiesIn u (key_of_leaf leaf) node i) leaves → IsRoot ps word k leaves target rows
     → Each (RowLies u) rows × ((leaf : ℕ) → ref_of word ≡ Some (LeafAt leaf) → LeafLies u node i
     leaf)
 root_lies u ps word k leaves target rows leaf_stands stand rise node i named lie

@@ -5,10 +5,8 @@ use Rattle.std.proofs.lemmas.List.{length-map}
 use Rattle.std.proofs.lemmas.Cmp.{nat_cmp_total}
 use Rattle.std.specs.FinMap as fin
 use Rattle.std.specs.Ordering.{nat_cmp}
-use Rattle.ist_core.specs.declared.commands.Command.{Command}
-use Rattle.ist_core.specs.declared.commands.Command.TheVariants.{Put, Remove, Get}
-use Rattle.ist_core.specs.declared.pairs.Pair.{Pair}
-use Rattle.ist_core.specs.Map.{Map, map_of, map_after, replay, pairs_of}
+use Rattle.ist_core.specs.Types.{Command, Put, Remove, Get, Pair}
+use Rattle.ist_core.specs.TreeTerms.{Map, map_of, map_after, replay, pairs_of}
 
 -- the entry of a pair
 abbrev pub entry : Pair → ℕ × ℕ
@@ -46,14 +44,10 @@ one_less false n = omega arith
 
 -- a command adds at most one key
 pub adds_one_key : (m : Map) (c : Command) → fin.len (map_after m c) ≤ fin.len m + 1
-adds_one_key m (Put key value) =
-    let long = fin.len-insert nat_cmp_total m key value in
-    let high = one_kept (fin.contains_key m key) (fin.len m) in
-    omega arith
-adds_one_key m (Remove key) =
-    let long = fin.len-remove nat_cmp_total m key in
-    let high = one_less (fin.contains_key m key) (fin.len m) in
-    omega arith
+adds_one_key m (Put key value) = let long = fin.len-insert nat_cmp_total m key value in
+    let high = one_kept (fin.contains_key m key) (fin.len m) in omega arith
+adds_one_key m (Remove key) = let long = fin.len-remove nat_cmp_total m key in
+    let high = one_less (fin.contains_key m key) (fin.len m) in omega arith
 adds_one_key m (Get key) = omega arith
 
 -- commands add at most as many keys as there are commands

@@ -1,26 +1,14 @@
 -- What is named for a slot stays named for it, so a child is only ever in one slot. Serves
 -- `laws.parents_are_one`.
-use Rattle.std.proofs.Common.{◌≡◌, ◌≢◌, ℕ, ◌⊎◌, ◌==◌, if◌then◌else◌, true, false, List, ◌∷◌, Option, Some, None, refl, sym, ap, ◌∙◌, subst, inl, inr, ⊎_elim}
-use Rattle.ist_core.specs.declared.pairs.Pair.{Pair}
-use Rattle.ist_core.specs.declared.states.ChangeRow.{ChangeRow}
-use Rattle.ist_core.specs.declared.events.Event.{Event}
-use Rattle.ist_core.specs.declared.events.Event.TheVariants.{Install, Resolve, Place}
-use Rattle.ist_core.specs.References.{Ref, Empty, Unset, LeafAt, InnerAt, ChangeAt, RebuildAt, ref_of}
-use Rattle.ist_core.specs.Statuses.{decided_yes}
-use Rattle.ist_core.specs.Pieces.{Piece, Leaf, Inner, Change, Rebuild}
-use Rattle.ist_core.specs.Snapshots.{Snapshot}
-use Rattle.ist_core.specs.StartLayout.{start}
-use Rattle.ist_core.specs.After.{side_of}
-use Rattle.ist_core.specs.Logs.{Log, GoesOn, same_log, one_event}
-use Rattle.ist_core.specs.Slots.{SlotHolds, in_anchor, in_row, change_reads, past_change, rebuild_reads, past_rebuild}
-use Rattle.ist_core.specs.Links.{IsChild}
-use Rattle.ist_core.specs.Growing.{AllGrow}
-use Rattle.ist_core.specs.Lawful.{EachEnabled, CanOpen, state_of}
+use Rattle.std.proofs.Common.{◌≡◌, ◌≢◌, ℕ, ◌⊎◌, List, ◌∷◌, Option, Some, None, refl, sym, ap, ◌∙◌, subst, inl, inr, ⊎_elim, arith}
+use Rattle.ist_core.specs.Types.{Pair, ChangeRow, Event, Install, Resolve, Place}
+use Rattle.ist_core.specs.WordTerms.{Ref, Empty, Unset, LeafAt, InnerAt, ChangeAt, RebuildAt, ref_of, Piece, Leaf, Inner, Change, Rebuild, start, SlotHolds, in_anchor, in_row, change_reads, past_change, rebuild_reads, past_rebuild}
+use Rattle.ist_core.specs.LogTerms.{Snapshot, side_of, Log, GoesOn, same_log, one_event, EachEnabled, CanOpen, state_of}
+use Rattle.ist_core.specs.TreeTerms.{IsChild, AllGrow}
 use Rattle.ist_core.proofs.ReferenceLemmas.{ref_of-unset}
 use Rattle.ist_core.proofs.SoundLemmas.{sound}
-use Rattle.ist_core.proofs.StartLemmas.{sound_start}
+use Rattle.ist_core.proofs.StepLemmas.{sound_start, grow_step}
 use Rattle.ist_core.proofs.GrowingLemmas.{change_there, rebuild_there}
-use Rattle.ist_core.proofs.StepLemmas.{grow_step}
 use Rattle.ist_core.proofs.FateLemmas.{enabled_before}
 use Rattle.ist_core.proofs.PlaceLemmas.{anchor_free}
 use Rattle.ist_core.proofs.RoomLemmas.{published_good, ref_of-change}
@@ -46,12 +34,10 @@ module _ (pairs : List Pair) (words : ℕ) (opens : CanOpen pairs words) where
   -- reference is neither a change nor Unset
   slot_step : (log : Log) (event : Event) → EachEnabled (start pairs words) (event ∷ log)
       → (node i word : ℕ) (ref : Ref) → ref_of word ≡ Some ref → ((base : ℕ) → ref ≢ ChangeAt base)
-      → ref ≢ Unset
-      → SlotHolds (state_of pairs words log) node i word
+      → ref ≢ Unset → SlotHolds (state_of pairs words log) node i word
       → Mentions (state_of pairs words (event ∷ log)) node i ref
   slot_step log (Install caller base rows) h node i word ref is no_change set slot =
-      let first = start pairs words in
-      let s = sound first log (sound_start pairs words) h.0 in
+      let first = start pairs words in let s = sound first log (sound_start pairs words) h.0 in
       let writes = install_writes first log caller base rows h.1 s (anchor_free pairs words log h.0)
       in
       ⊎_elim
@@ -132,8 +118,7 @@ module _ (pairs : List Pair) (words : ℕ) (opens : CanOpen pairs words) where
             (
               says.0 ∙ sym it.2.parent,
               says.1 ∙ sym it.2.index,
-              ⊎_elim
-                  (λ f. inl (ap InnerAt it.2.target ∙ f))
+              ⊎_elim (λ f. inl (ap InnerAt it.2.target ∙ f))
                   (λ f. inr (ap ref_of (it.2.rooted
                   (λ none. set (same_value (ref_of r.root) ref Unset f
                   (ap ref_of none ∙ ref_of-unset)))) ∙ f))
@@ -157,16 +142,7 @@ module _ (pairs : List Pair) (words : ℕ) (opens : CanOpen pairs words) where
 side_mentioned : (t : Snapshot) (base : ℕ) (r : ChangeRow) (ref : Ref)
     → t.pieces base ≡ Some (Change r) → ref_of (side_of r) ≡ Some ref
     → Mentions t r.node r.index ref
-side_mentioned t base r ref e is = inr (base, Change r, e, (refl, refl, either is))
-  where
-    either : ref_of (side_of r) ≡ Some ref → (ref_of r.from ≡ Some ref) ⊎ (ref_of r.to ≡ Some ref)
-    either =
-        elim (r.decision == decided_yes) as
-        (λ v. ref_of (if v then r.to else r.from) ≡ Some ref → (ref_of r.from ≡ Some ref) ⊎
-        (ref_of r.to ≡ Some ref)) [
-          | true ↦ λ e. inr e
-          | false ↦ λ e. inl e
-        ]
+side_mentioned t base r ref e is = grind arith
 
 -- what a slot reads as once changes are read away is named for it
 pub past_change_mentioned : (t : Snapshot) (node i word : ℕ) (ref : Ref) → WordsName t
@@ -231,8 +207,7 @@ pub one_parent : (pairs : List Pair) (words : ℕ) → CanOpen pairs words → (
 one_parent pairs words opens earlier log g h n i k j child c d =
     let before = names pairs words opens earlier
     (enabled_before (start pairs words) earlier log g h) in
-    let now = names pairs words opens log h in
-    (one_home pairs words opens log h).one n i k j child
+    let now = names pairs words opens log h in (one_home pairs words opens log h).one n i k j child
     (mentions_stay pairs words opens earlier log g h n i (InnerAt child) (λ base e. cc) (λ e. cc)
     (child_mentioned (state_of pairs words earlier) n i child before c))
     (child_mentioned (state_of pairs words log) k j child now d)

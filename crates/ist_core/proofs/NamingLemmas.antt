@@ -1,21 +1,15 @@
 -- The conjunct `names`: each word that names a row names a published one of its kind, and an inner
 -- row above its node.
 -- Serves the order law, and each law that follows a word.
-use Rattle.std.proofs.Common.{◌≡◌, ℕ, ◌<◌, slice_get, Option, Some, None, sym, ap, ◌∙◌, subst, ⊎_elim}
-use Rattle.ist_core.specs.declared.states.LeafRow.{LeafRow}
-use Rattle.ist_core.specs.declared.states.InnerRow.{InnerRow}
-use Rattle.ist_core.specs.declared.states.ChangeRow.{ChangeRow}
-use Rattle.ist_core.specs.declared.states.RebuildRow.{RebuildRow}
-use Rattle.ist_core.specs.RowLayout.{anchor}
-use Rattle.ist_core.specs.References.{Ref, Empty, Unset, LeafAt, InnerAt, ChangeAt, RebuildAt, ref_of}
-use Rattle.ist_core.specs.Pieces.{Pieces, Piece, Leaf, Inner, Change, Rebuild, changed_at, with_slot, with_status, counted, with_decision, drawn}
-use Rattle.ist_core.specs.Snapshots.{Snapshot}
-use Rattle.ist_core.specs.Growing.{AllGrow}
-use Rattle.ist_core.specs.Slots.{SlotHolds, in_anchor, in_row}
-use Rattle.ist_core.proofs.RowLemmas.{changed_at-some}
+use Rattle.std.proofs.Common.{◌≡◌, ℕ, ◌<◌, slice_get, Option, Some, None, sym, subst, ⊎_elim, arith}
+use Rattle.ist_core.specs.Types.{LeafRow, InnerRow, ChangeRow, RebuildRow}
+use Rattle.ist_core.specs.WordTerms.{anchor, Ref, Empty, Unset, LeafAt, InnerAt, ChangeAt, RebuildAt, ref_of, Pieces, Piece, Leaf, Inner, Change, Rebuild, changed_at, with_slot, with_status, counted, with_decision, drawn, SlotHolds, in_anchor, in_row}
+use Rattle.ist_core.specs.LogTerms.{Snapshot}
+use Rattle.ist_core.specs.TreeTerms.{AllGrow}
+use Rattle.ist_core.proofs.OptionLemmas.{changed_at-some}
 use Rattle.ist_core.proofs.GrowingLemmas.{leaf_there, inner_there, change_there, rebuild_there}
-use Rattle.ist_core.proofs.AddingLemmas.{Adds}
-use Rattle.ist_core.proofs.SlotLemmas.{get-set_some}
+use Rattle.ist_core.proofs.StepLemmas.{Adds}
+use Rattle.ist_core.proofs.RoomLemmas.{get-set_some}
 
 -- ---- what a word may name
 
@@ -98,27 +92,12 @@ inner_here_grows ps qs g base h = let it = inner_there ps qs g base h.0 h.1 in (
 -- a rebuild for a slot is still at its base when rows have grown
 pub rebuild_for_grows : (ps qs : Pieces) → AllGrow ps qs → (node i base : ℕ)
     → IsRebuildFor ps node i base → IsRebuildFor qs node i base
-rebuild_for_grows ps qs g node i base h =
-    let it = rebuild_there ps qs g base h.row h.published in
-    record {
-      row = it.0;
-      published = it.1;
-      parent = it.2.parent ∙ h.parent;
-      index = it.2.index ∙
-          h.index;
-    }
+rebuild_for_grows ps qs g node i base h = grind (arith, rebuild_there)
 
 -- a change of a slot is still at its base when rows have grown
 pub change_for_grows : (ps qs : Pieces) → AllGrow ps qs → (node i base : ℕ)
     → IsChangeFor ps node i base → IsChangeFor qs node i base
-change_for_grows ps qs g node i base h =
-    let it = change_there ps qs g base h.row h.published in
-    record {
-      row = it.0;
-      published = it.1;
-      node_is = ap (λ c. c.node) it.2.others ∙ h.node_is;
-      index = ap (λ c. c.index) it.2.others ∙ h.index;
-    }
+change_for_grows ps qs g node i base h = grind (arith, change_there)
 
 -- a side still names what it may when rows have grown
 pub side_grows : (ps qs : Pieces) → AllGrow ps qs → (node i : ℕ) (ref : Option Ref)
@@ -157,13 +136,8 @@ root_grows ps qs g target None h = absurd h
 pub row_grows : (ps qs : Pieces) → AllGrow ps qs → (base : ℕ) (p : Piece) → RowNames ps base p
     → RowNames qs base p
 row_grows ps qs g base (Leaf r) h = tt
-row_grows ps qs g base (Inner r) h = λ i word e. slot_grows ps qs g base i (ref_of word)
-    (h i word e)
-row_grows ps qs g base (Change r) h = (
-  side_grows ps qs g r.node r.index (ref_of r.from) h.0,
-  side_grows ps qs g r.node r.index
-      (ref_of r.to) h.1,
-)
+row_grows ps qs g base (Inner r) h = grind (arith, slot_grows)
+row_grows ps qs g base (Change r) h = grind (arith, side_grows)
 row_grows ps qs g base (Rebuild r) h =
     (h.0, inner_here_grows ps qs g r.target h.1, root_grows ps qs g r.target (ref_of r.root) h.2)
 
@@ -185,13 +159,10 @@ pub all_name-changed_at : (ps : Pieces) (at : ℕ) (f : Piece → Piece)
     (changed_at ps at f) at (f p))
     → AllName (changed_at ps at f) (changed_at ps at f)
 unfolding AllName
-all_name-changed_at ps at f g all keeps base q e =
-    let it = changed_at-some ps at base f q e in
-    let old = row_grows ps (changed_at ps at f) g base it.0 (all base it.0 it.1) in
-    ⊎_elim
+all_name-changed_at ps at f g all keeps base q e = let it = changed_at-some ps at base f q e in
+    let old = row_grows ps (changed_at ps at f) g base it.0 (all base it.0 it.1) in ⊎_elim
     (λ same. subst (λ x. RowNames (changed_at ps at f) base x) (sym same) old)
-    (λ new.
-    subst (λ x. RowNames (changed_at ps at f) base x) (sym new.1)
+    (λ new. subst (λ x. RowNames (changed_at ps at f) base x) (sym new.1)
     (subst (λ b. RowNames (changed_at ps at f) b (f it.0)) (sym new.0)
     (keeps it.0 (subst (λ b. ps b ≡ Some it.0) new.0 it.1)
     (subst (λ b. RowNames (changed_at ps at f) b it.0) new.0 old))))
@@ -200,13 +171,7 @@ all_name-changed_at ps at f g all keeps base q e =
 -- a row names what it may after a slot of it is written with such a word
 pub names-with_slot : (ps : Pieces) (node i word : ℕ) (p : Piece)
     → SlotNames ps node i (ref_of word) → RowNames ps node p → RowNames ps node (with_slot i word p)
-names-with_slot ps node i word (Inner r) k h =
-    λ j w e.
-    ⊎_elim
-    (λ x. subst (λ y. SlotNames ps node y (ref_of w)) (sym x.0)
-    (subst (λ y. SlotNames ps node i (ref_of y)) (sym x.1) k))
-    (λ x. h j w x)
-    (get-set_some r.slots i j word w e)
+names-with_slot ps node i word (Inner r) k h = grind (arith, get-set_some)
 names-with_slot ps node i word (Leaf r) k h = h
 names-with_slot ps node i word (Change r) k h = h
 names-with_slot ps node i word (Rebuild r) k h = h
@@ -248,10 +213,7 @@ names-with_decision ps base decision (Rebuild r) h = h
 -- the word of a slot names what it may
 pub slot_names : (t : Snapshot) (node i word : ℕ) → WordsName t → SlotHolds t node i word
     → SlotNames t.pieces node i (ref_of word)
-slot_names t node i word h (in_anchor a b e) =
-    subst (λ x. SlotNames t.pieces node i (ref_of x)) e
-    (subst (λ j. SlotNames t.pieces node j (ref_of t.anchor)) (sym b)
-    (subst (λ n. SlotNames t.pieces n 0 (ref_of t.anchor)) (sym a) h.anchor_slot))
+slot_names t node i word h (in_anchor a b e) = grind arith
 slot_names t node i word h (in_row r p e) = h.rows node (Inner r) p i word e
 
 -- what a change may put into a slot may be in the slot

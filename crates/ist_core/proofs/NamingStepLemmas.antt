@@ -1,32 +1,16 @@
 -- Each event keeps the conjunct `names`. Serves the order law.
-use Rattle.std.proofs.Common.{◌≡◌, ◌≢◌, ℕ, ◌⊎◌, ◌==◌, if◌then◌else◌, Bool, true, false, List, ◌∷◌, Some, None, option_map, refl, sym, ap, ◌∙◌, subst, inl, inr}
+use Rattle.std.proofs.Common.{◌≡◌, ℕ, ◌==◌, if◌then◌else◌, List, ◌∷◌, Some, None, refl, sym, subst, arith}
 use Rattle.std.proofs.lemmas.Bool.Decides.{eqb_tells}
-use Rattle.ist_core.specs.declared.lists.Row.{Row}
-use Rattle.ist_core.specs.declared.states.ChangeRow.{ChangeRow}
-use Rattle.ist_core.specs.declared.events.Event.{Event}
-use Rattle.ist_core.specs.declared.events.Event.TheVariants.{Enter, Reserve, Install, Okay, Decide, Resolve, Count, Mark, Pass, Finish, Root, Draw, Place, Lose}
-use Rattle.ist_core.specs.RowLayout.{anchor}
-use Rattle.ist_core.specs.References.{ChangeAt, IsGoodBase, ref_of, word_of}
-use Rattle.ist_core.specs.Statuses.{marked_word, finished_word, decided_yes}
-use Rattle.ist_core.specs.Elements.{Among, Each}
-use Rattle.ist_core.specs.Pieces.{Pieces, Piece, Inner, Change, Rebuild, row_at, with_inners, changed_at, with_slot, with_status, counted, with_decision, with_root, drawn}
-use Rattle.ist_core.specs.Snapshots.{Snapshot, bases_of}
-use Rattle.ist_core.specs.After.{after, with_fresh, decision_word, side_of, resolved}
-use Rattle.ist_core.specs.Logs.{Log, state}
-use Rattle.ist_core.specs.Installing.{CanInstall}
-use Rattle.ist_core.specs.Deciding.{CanResolve}
-use Rattle.ist_core.specs.Building.{CanRoot, CanPlace}
-use Rattle.ist_core.specs.Enabled.{Enabled}
-use Rattle.ist_core.specs.Growing.{Grows, AllGrow}
-use Rattle.ist_core.proofs.ElementLemmas.{each-among}
-use Rattle.ist_core.proofs.RowLemmas.{with_row-same}
+use Rattle.ist_core.specs.Types.{Row, ChangeRow, Event, Enter, Reserve, Install, Okay, Decide, Resolve, Count, Mark, Pass, Finish, Root, Draw, Place, Lose}
+use Rattle.ist_core.specs.WordTerms.{anchor, ChangeAt, IsGoodBase, ref_of, word_of, marked_word, finished_word, Pieces, Piece, Change, Rebuild, row_at, with_inners, changed_at, with_slot, with_status, counted, with_decision, with_root, drawn}
+use Rattle.ist_core.specs.LogTerms.{Among, Each, Snapshot, bases_of, after, decision_word, side_of, resolved, Log, state, Enabled}
+use Rattle.ist_core.specs.TreeTerms.{CanInstall, CanResolve, CanRoot, CanPlace, Grows, AllGrow}
+use Rattle.ist_core.proofs.OptionLemmas.{each-among, with_row-same}
 use Rattle.ist_core.proofs.MoveLemmas.{HeldLieApart}
 use Rattle.ist_core.proofs.InstallLemmas.{with_installed}
-use Rattle.ist_core.proofs.AddingLemmas.{IsInstalledWith, adds_install, adds-with_inners}
+use Rattle.ist_core.proofs.StepLemmas.{IsInstalledWith, adds_install, adds-with_inners, grow_step, rows_resolved, rows_placed, holds_installed, known}
 use Rattle.ist_core.proofs.GrowingLemmas.{all_grow_added, all_grow-changed_at, grows-with_slot, grows-with_root}
-use Rattle.ist_core.proofs.StepLemmas.{grow_step, rows_resolved, rows_placed, holds_installed, known}
-use Rattle.ist_core.proofs.RoomLemmas.{ref_of-change}
-use Rattle.ist_core.proofs.SlotLemmas.{anchor_slot}
+use Rattle.ist_core.proofs.RoomLemmas.{ref_of-change, anchor_slot}
 use Rattle.ist_core.proofs.NamingLemmas.{AllName, SideNames, SlotNames, RootNames, RowNames, WordsName, IsChangeFor, slot_grows, root_grows, all_name_added, all_name-changed_at, names-with_slot, names-with_status, names-counted, names-drawn, names-with_decision, slot_names, side_slot}
 use Rattle.ist_core.proofs.InstallNamingLemmas.{installed_names}
 use Rattle.ist_core.proofs.TreeLemmas.{IsTreeRow, root_tree, tree_of_ideal, tree_slot, tree_root, tree_rows}
@@ -34,11 +18,7 @@ use Rattle.ist_core.proofs.TreeLemmas.{IsTreeRow, root_tree, tree_of_ideal, tree
 -- a row that the change leaves as it is stays
 pub changed_at-fixed : (ps : Pieces) (at base : ℕ) (f : Piece → Piece) (p : Piece)
     → ps base ≡ Some p → f p ≡ p → changed_at ps at f base ≡ Some p
-changed_at-fixed ps at base f p e same =
-    elim (base == at) as (λ v. (if v then option_map f (ps base) else ps base) ≡ Some p) [
-      | true ↦ ap (option_map f) e ∙ ap (λ x. Some x) same
-      | false ↦ e
-    ]
+changed_at-fixed ps at base f p e same = grind arith
 
 -- ---- the shapes of events
 
@@ -49,14 +29,7 @@ names_changed : (t u : Snapshot) (at : ℕ) (f : Piece → Piece) → AllGrow t.
     → WordsName u
 unfolding AllName
 names_changed t u at f g pieces word keeps o =
-    record {
-      rows = subst (λ qs. (base : ℕ) (p : Piece) → qs base ≡ Some p → RowNames qs base p)
-          (sym pieces)
-          (all_name-changed_at t.pieces at f (subst (λ qs. AllGrow t.pieces qs) pieces g) o.rows
-          (λ p _ h. keeps (changed_at t.pieces at f) p h));
-      anchor_slot = subst (λ x. SlotNames u.pieces anchor 0 (ref_of x)) (sym word)
-          (slot_grows t.pieces u.pieces g anchor 0 (ref_of t.anchor) o.anchor_slot);
-    }
+    grind (arith, RowNames, all_name-changed_at, anchor_slot, SlotNames, slot_grows)
 
 -- an event that writes a slot keeps what words name, if the rows before the write name what they
 -- may
@@ -67,36 +40,25 @@ names_written : (t u : Snapshot) (ps : Pieces) (node i word : ℕ) → AllName p
     → WordsName u
 unfolding AllName
 names_written t u ps node i word all g pieces is zero_there h o =
-    let here = subst (λ qs. SlotNames qs node i (ref_of word)) (sym pieces) h in
-    record {
-      rows = subst (λ qs. (base : ℕ) (p : Piece) → qs base ≡ Some p → RowNames qs base p)
-          (sym pieces)
-          (all_name-changed_at ps node (with_slot i word)
-          (all_grow-changed_at ps node (with_slot i word) (λ p _. grows-with_slot i word p)) all
-          (λ p _ k. names-with_slot (changed_at ps node (with_slot i word)) node i word p h k));
-      anchor_slot = subst (λ x. SlotNames u.pieces anchor 0 (ref_of x)) (sym is)
-          (at here (node == anchor) (eqb_tells node anchor));
-    }
-  where
-    at : SlotNames u.pieces node i (ref_of word) → (v : Bool)
-        → (((node == anchor) ≡ true) × (node ≡ anchor)) ⊎
-        (((node == anchor) ≡ false) × (node ≢ anchor))
-        → SlotNames u.pieces anchor 0 (ref_of (if node == anchor then word else t.anchor))
-    at here v (inl k) =
-        subst (λ b. SlotNames u.pieces anchor 0 (ref_of (if b then word else t.anchor))) (sym k.0)
-        (subst (λ j. SlotNames u.pieces anchor j (ref_of word)) (zero_there k.1)
-        (subst (λ n. SlotNames u.pieces n i (ref_of word)) k.1 here))
-    at here v (inr k) =
-        subst (λ b. SlotNames u.pieces anchor 0 (ref_of (if b then word else t.anchor))) (sym k.0)
-        (slot_grows t.pieces u.pieces g anchor 0 (ref_of t.anchor) o.anchor_slot)
+    grind (
+      arith,
+      SlotNames,
+      RowNames,
+      all_name-changed_at,
+      all_grow-changed_at,
+      grows-with_slot,
+      names-with_slot,
+      anchor_slot,
+      eqb_tells,
+      slot_grows,
+    )
 
 -- ---- the events that do something
 
 -- the change of an Install is published by it
 pub installed_stands : (ps : Pieces) (base : ℕ) (change : ChangeRow) (fresh : List Row)
     → with_installed ps base change fresh base ≡ Some (Change change)
-installed_stands ps base change fresh = with_row-same (with_fresh ps change fresh) base
-    (Change change)
+installed_stands ps base change fresh = grind (arith, with_row-same)
 
 -- all rows of a table name what they may
 pub all_name : (t : Snapshot) → WordsName t → AllName t.pieces t.pieces
@@ -105,13 +67,11 @@ all_name t o = o.rows
 
 names_install : (first : Snapshot) (log : Log) (caller base : ℕ) (rows : List Row)
     → (h : CanInstall first log caller base rows) → HeldLieApart (state first log)
-    → (state first log).pieces anchor ≡ None
-    → IsGoodBase base
+    → (state first log).pieces anchor ≡ None → IsGoodBase base
     → ((at : ℕ) (p : Piece) → with_installed (state first log).pieces base h.change h.fresh at ≡
     Some p → IsGoodBase at)
     → WordsName (state first log) → WordsName (after (state first log) (Install caller base rows))
-names_install first log caller base rows h sound free good_here good o =
-    let t = state first log in
+names_install first log caller base rows h sound free good_here good o = let t = state first log in
     let holds = holds_installed first log caller base rows h in
     let qs = with_installed t.pieces base h.change h.fresh in
     let adds = adds_install first log caller base h.change h.fresh h.fits holds sound in
@@ -145,17 +105,13 @@ names_install first log caller base rows h sound free good_here good o =
 pub side_names : (ps : Pieces) (node i : ℕ) (change : ChangeRow)
     → SideNames ps node i (ref_of change.from) → SideNames ps node i (ref_of change.to)
     → SideNames ps node i (ref_of (side_of change))
-side_names ps node i change from to =
-    elim (change.decision == decided_yes) as
-    (λ v. SideNames ps node i (ref_of (if v then change.to else change.from)))
-    [ true ↦ to | false ↦ from ]
+side_names ps node i change from to = grind (arith, SideNames)
 
 names_resolve : (first : Snapshot) (log : Log) (caller base : ℕ)
     → (h : CanResolve (state first log) caller base) → HeldLieApart (state first log)
     → (state first log).pieces anchor ≡ None
     → WordsName (state first log) → WordsName (after (state first log) (Resolve caller base))
-names_resolve first log caller base h sound free o =
-    let t = state first log in
+names_resolve first log caller base h sound free o = let t = state first log in
     let word = side_of h.change in
     let rs = changed_at t.pieces h.change.node (with_slot h.change.index word) in
     let row = o.rows base (Change h.change) h.published in
@@ -172,19 +128,15 @@ names_resolve first log caller base h sound free o =
 -- the rows of a tree name what they may
 tree_born : (ps : Pieces) (rows : List ℕ) → Each (IsTreeRow ps) rows → (base : ℕ) (p : Piece)
     → Among base rows → ps base ≡ Some p → RowNames ps base p
-tree_born ps rows all base p i e =
-    let it = each-among (IsTreeRow ps) base rows all i in
-    known (λ x. RowNames ps base x) (ps base) p (Inner it.row) e it.published it.names
+tree_born ps rows all base p i e = grind (arith, each-among, IsTreeRow, known, RowNames)
 
 names_root : (first : Snapshot) (log : Log) (caller rebuild word : ℕ) (rows : List Row)
     → (h : CanRoot (state first log) caller rebuild word rows) → HeldLieApart (state first log)
     → WordsName (state first log)
     → WordsName (after (state first log) (Root caller rebuild word rows))
 unfolding AllName
-names_root first log caller rebuild word rows h sound o =
-    let t = state first log in
-    let u = after t (Root caller rebuild word rows) in
-    let qs = with_inners t.pieces rows in
+names_root first log caller rebuild word rows h sound o = let t = state first log in
+    let u = after t (Root caller rebuild word rows) in let qs = with_inners t.pieces rows in
     let rs = changed_at qs rebuild (with_root word) in
     let adds = adds-with_inners t caller rows h.held sound in
     let grows = all_grow_added t.pieces qs adds.keeps in
@@ -214,10 +166,8 @@ names_place : (first : Snapshot) (log : Log) (caller rebuild i word : ℕ) (rows
     → WordsName (state first log)
     → WordsName (after (state first log) (Place caller rebuild i word rows))
 unfolding AllName
-names_place first log caller rebuild i word rows h sound o =
-    let t = state first log in
-    let u = after t (Place caller rebuild i word rows) in
-    let qs = with_inners t.pieces rows in
+names_place first log caller rebuild i word rows h sound o = let t = state first log in
+    let u = after t (Place caller rebuild i word rows) in let qs = with_inners t.pieces rows in
     let rs = changed_at qs h.root (with_slot i word) in
     let adds = adds-with_inners t caller rows h.held sound in
     let grows = all_grow_added t.pieces qs adds.keeps in
@@ -274,11 +224,8 @@ names_step first log (Finish caller node keys) h s free good o =
 names_step first log (Draw caller rebuild part) h s free good o =
     names_changed _ _ rebuild drawn (grow_step first log (Draw caller rebuild part) h s) refl refl
     (λ ps p k. names-drawn ps rebuild p k) o
-names_step first log (Enter caller) h s free good o = record
-    { rows = o.rows; anchor_slot = o.anchor_slot }
-names_step first log (Reserve caller base size) h s free good o = record
-    { rows = o.rows; anchor_slot = o.anchor_slot }
+names_step first log (Enter caller) h s free good o = grind (arith, anchor_slot)
+names_step first log (Reserve caller base size) h s free good o = grind (arith, anchor_slot)
 names_step first log (Okay caller change) h s free good o = o
 names_step first log (Pass caller node i word) h s free good o = o
-names_step first log (Lose caller bases) h s free good o = record
-    { rows = o.rows; anchor_slot = o.anchor_slot }
+names_step first log (Lose caller bases) h s free good o = grind (arith, anchor_slot)

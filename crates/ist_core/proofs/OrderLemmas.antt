@@ -1,24 +1,15 @@
 -- What words name after a lawful log, and that children lie above their parents. Serves
 -- `laws.children_lie_above`.
-use Rattle.std.proofs.Common.{◌≡◌, ℕ, ◌<◌, ◌⊎◌, List, [], ◌∷◌, length, Option, Some, None, refl, sym, ap, ◌∙◌, subst, inl, inr, ⊎_elim}
-use Rattle.ist_core.specs.declared.pairs.Pair.{Pair}
-use Rattle.ist_core.specs.declared.lists.Row.{Row}
-use Rattle.ist_core.specs.References.{Ref, Empty, Unset, LeafAt, InnerAt, ChangeAt, RebuildAt, IsGoodBase, ref_of}
-use Rattle.ist_core.specs.Pieces.{Piece, Change, Rebuild, row_at}
-use Rattle.ist_core.specs.Snapshots.{Snapshot, HoldsRow}
-use Rattle.ist_core.specs.StartLayout.{start}
-use Rattle.ist_core.specs.Logs.{Log}
-use Rattle.ist_core.specs.After.{side_of}
-use Rattle.ist_core.specs.Slots.{change_reads, past_change, rebuild_reads, past_rebuild}
+use Rattle.std.proofs.Common.{◌≡◌, ℕ, ◌<◌, ◌⊎◌, List, [], ◌∷◌, length, Option, Some, None, refl, sym, ap, ◌∙◌, subst, inl, inr, ⊎_elim, arith}
+use Rattle.ist_core.specs.Types.{Pair, Row}
+use Rattle.ist_core.specs.WordTerms.{Ref, Empty, Unset, LeafAt, InnerAt, ChangeAt, RebuildAt, IsGoodBase, ref_of, Piece, Change, Rebuild, row_at, start, change_reads, past_change, rebuild_reads, past_rebuild}
+use Rattle.ist_core.specs.LogTerms.{Snapshot, HoldsRow, Log, side_of, EachEnabled, CanOpen, state_of}
 use Rattle.ist_core.specs.Naming.{NamesRow, no_row, not_yet, a_leaf, an_inner_row, a_change, a_rebuild}
-use Rattle.ist_core.specs.Links.{IsChild}
-use Rattle.ist_core.specs.Installing.{CanInstall}
-use Rattle.ist_core.specs.Lawful.{EachEnabled, CanOpen, state_of}
-use Rattle.ist_core.proofs.ElementLemmas.{each-among}
+use Rattle.ist_core.specs.TreeTerms.{IsChild, CanInstall}
+use Rattle.ist_core.proofs.OptionLemmas.{each-among}
 use Rattle.ist_core.proofs.SoundLemmas.{sound}
-use Rattle.ist_core.proofs.StartLemmas.{sound_start}
+use Rattle.ist_core.proofs.StepLemmas.{sound_start, holds_installed}
 use Rattle.ist_core.proofs.InstallLemmas.{with_installed, publishes_install}
-use Rattle.ist_core.proofs.StepLemmas.{holds_installed}
 use Rattle.ist_core.proofs.PlaceLemmas.{anchor_free}
 use Rattle.ist_core.proofs.RoomLemmas.{published_good, held_good}
 use Rattle.ist_core.proofs.NamingLemmas.{SideNames, SlotNames, WordsName, slot_names}
@@ -29,20 +20,15 @@ module _ (pairs : List Pair) (words : ℕ) (opens : CanOpen pairs words) where
   -- the rows of an Install lie at good bases
   pub install_good : (log : Log) → EachEnabled (start pairs words) log
       → (caller base : ℕ) (rows : List Row)
-      (h : CanInstall (start pairs words) log caller base rows)
-      → IsGoodBase base ×
+      (h : CanInstall (start pairs words) log caller base rows) → IsGoodBase base ×
       ((at : ℕ) (p : Piece) → with_installed (state_of pairs words log).pieces base h.change h.fresh
       at ≡ Some p → IsGoodBase at)
-  install_good log e caller base rows h =
-      let t = state_of pairs words log in
+  install_good log e caller base rows h = let t = state_of pairs words log in
       let holds = holds_installed (start pairs words) log caller base rows h in
       let all = row_at base (Change h.change) ∷ h.fresh in (
         held_good pairs words opens log caller base 9 e holds.0,
-        λ at p there.
-            ⊎_elim
-            (λ old. published_good pairs words opens log at p e old)
-            (λ new.
-            subst IsGoodBase new.2
+        λ at p there. ⊎_elim (λ old. published_good pairs words opens log at p e old)
+            (λ new. subst IsGoodBase new.2
             (held_good pairs words opens log caller new.0.base (length new.0.words) e
             (each-among (λ row. HoldsRow t caller row.base (length row.words)) new.0 all holds
             new.1)))
@@ -54,8 +40,7 @@ module _ (pairs : List Pair) (words : ℕ) (opens : CanOpen pairs words) where
   pub names : (log : Log) → EachEnabled (start pairs words) log
       → WordsName (state_of pairs words log)
   names [] h = names_start pairs words opens
-  names (event ∷ log) h =
-      names_step (start pairs words) log event h.1
+  names (event ∷ log) h = names_step (start pairs words) log event h.1
       (sound (start pairs words) log (sound_start pairs words) h.0)
       (anchor_free pairs words log h.0) (install_good log h.0) (names log h.0)
 
@@ -85,8 +70,7 @@ pub past_rebuild_above : (t : Snapshot) (node i child : ℕ) (ref : Option Ref) 
 past_rebuild_above t node i child (Some Empty) o h e = absurd (cc)
 past_rebuild_above t node i child (Some Unset) o h e = absurd h
 past_rebuild_above t node i child (Some (LeafAt base)) o h e = absurd (cc)
-past_rebuild_above t node i child (Some (InnerAt base)) o h e = let same : base ≡ child = cc in
-    subst (λ b. node < b) same h.0
+past_rebuild_above t node i child (Some (InnerAt base)) o h e = grind arith
 past_rebuild_above t node i child (Some (ChangeAt base)) o h e = absurd h
 past_rebuild_above t node i child (Some (RebuildAt base)) o h e =
     let row = o.rows base (Rebuild h.row) h.published in
@@ -99,8 +83,7 @@ past_rebuild_above t node i child None o h e = absurd h
 -- an inner child lies above its parent
 pub child_above : (t : Snapshot) (node i child : ℕ) → WordsName t → IsChild t node i child
     → node < child
-child_above t node i child o c =
-    ⊎_elim
+child_above t node i child o c = ⊎_elim
     (λ side. past_rebuild_above t node i child (past_change t.pieces (ref_of c.word)) o side
     c.reads)
     (λ unset. absurd (clash (past_change t.pieces (ref_of c.word)) unset c.reads))

@@ -1,38 +1,25 @@
 -- An inner row is only ever the logical child of one slot. Serves `laws.parents_are_one`.
-use Rattle.std.proofs.Common.{◌≡◌, ℕ, ◌+◌, ◌⊎◌, List, [], ◌∷◌, length, Option, Some, refl, sym, subst, inl, inr, arith}
-use Rattle.ist_core.specs.declared.pairs.Pair.{Pair}
-use Rattle.ist_core.specs.declared.lists.Row.{Row}
-use Rattle.ist_core.specs.declared.events.Event.{Event}
-use Rattle.ist_core.specs.declared.events.Event.TheVariants.{Enter, Reserve, Install, Okay, Decide, Resolve, Count, Mark, Pass, Finish, Root, Draw, Place, Lose}
-use Rattle.ist_core.specs.RowLayout.{anchor, first_row}
-use Rattle.ist_core.specs.Shapes.{ideal_words}
-use Rattle.ist_core.specs.References.{Ref, InnerAt, ChangeAt, ref_of, word_of}
-use Rattle.ist_core.specs.Statuses.{marked_word, finished_word}
-use Rattle.ist_core.specs.Elements.{Among, Each, Distinct}
-use Rattle.ist_core.specs.Pieces.{Pieces, Piece, Inner, Change, row_at, with_slot, with_status, counted, with_decision, drawn}
-use Rattle.ist_core.specs.StartLayout.{start, tree_at, rows_from}
-use Rattle.ist_core.specs.After.{after, decision_word}
-use Rattle.ist_core.specs.Logs.{Log}
-use Rattle.ist_core.specs.Installing.{CanInstall, new_leaf}
-use Rattle.ist_core.specs.Lawful.{EachEnabled, CanOpen, state_of}
-use Rattle.ist_core.proofs.ElementLemmas.{each-among}
-use Rattle.ist_core.proofs.PieceLemmas.{among-pieces_of}
+use Rattle.std.proofs.Common.{◌≡◌, ℕ, ◌+◌, ◌⊎◌, List, [], ◌∷◌, length, Option, Some, refl, sym, subst, inl, inr, arith, ◌≤◌, ⊎_elim}
+use Rattle.ist_core.specs.Types.{Pair, Row, Event, Enter, Reserve, Install, Okay, Decide, Resolve, Count, Mark, Pass, Finish, Root, Draw, Place, Lose}
+use Rattle.ist_core.specs.WordTerms.{anchor, first_row, ideal_words, Ref, InnerAt, ChangeAt, ref_of, word_of, marked_word, finished_word, Pieces, Piece, Change, row_at, with_slot, with_status, counted, with_decision, drawn, start, tree_at, rows_from}
+use Rattle.ist_core.specs.LogTerms.{Among, Each, Distinct, after, decision_word, Log, EachEnabled, CanOpen, state_of}
+use Rattle.ist_core.specs.TreeTerms.{CanInstall, new_leaf}
+use Rattle.ist_core.proofs.OptionLemmas.{each-among, among-pieces_of}
 use Rattle.ist_core.proofs.SoundLemmas.{sound}
-use Rattle.ist_core.proofs.StartLemmas.{sound_start}
+use Rattle.ist_core.proofs.StepLemmas.{sound_start, IsInstalledWith, adds_install, holds_installed, known}
 use Rattle.ist_core.proofs.InstallLemmas.{with_installed}
 use Rattle.ist_core.proofs.FreshLemmas.{fresh_stands}
-use Rattle.ist_core.proofs.AddingLemmas.{IsInstalledWith, adds_install}
-use Rattle.ist_core.proofs.StepLemmas.{holds_installed, known}
 use Rattle.ist_core.proofs.PlaceLemmas.{anchor_free}
-use Rattle.ist_core.proofs.RoomLemmas.{published_good, ref_of-change}
-use Rattle.ist_core.proofs.SlotLemmas.{anchor_slot}
+use Rattle.ist_core.proofs.RoomLemmas.{published_good, ref_of-change, anchor_slot}
 use Rattle.ist_core.proofs.TreeLemmas.{IsTreeRow, tree_rows}
 use Rattle.ist_core.proofs.StartTreeLemmas.{IsLeafRow, leaf_row, HangsAs, start_hangs, start_anchor, between_once}
 use Rattle.ist_core.proofs.OrderLemmas.{names, install_good}
 use Rattle.ist_core.proofs.BranchLemmas.{HangsIn, hangs_once}
 use Rattle.ist_core.proofs.HomeLemmas.{Says, Mentions, HasOneHome, came_old, came_added, came-changed_at, came-with_slot, came-with_status, came-counted, came-drawn, came-with_decision, one_home_from, one_home_same, anchor_came}
 use Rattle.ist_core.proofs.HomeStepLemmas.{one_home_changed, one_home_resolve, one_home_root, one_home_place, word_of_other}
-use Rattle.ist_core.proofs.HomeInstallLemmas.{NewPair, pair_new, installed_says}
+use Rattle.ist_core.proofs.BornLemmas.{NewPair, pair_new, installed_says}
+use Rattle.ist_core.proofs.FieldLemmas.{field_in, field_rare, rows_fresh, LeavesField, has_step}
+use Rattle.std.proofs.lemmas.Bool.Decides.{eqb_tells}
 
 module _ (pairs : List Pair) (words : ℕ) (opens : CanOpen pairs words) where
   -- ---- one home after each event
@@ -42,15 +29,12 @@ module _ (pairs : List Pair) (words : ℕ) (opens : CanOpen pairs words) where
       (h : CanInstall (start pairs words) log caller base rows)
       → HasOneHome (state_of pairs words log)
       → HasOneHome (after (state_of pairs words log) (Install caller base rows))
-  one_home_install log e caller base rows h home =
-      let t = state_of pairs words log in
-      let first = start pairs words in
-      let s = sound first log (sound_start pairs words) e in
+  one_home_install log e caller base rows h home = let t = state_of pairs words log in
+      let first = start pairs words in let s = sound first log (sound_start pairs words) e in
       let holds = holds_installed first log caller base rows h in
       let good = install_good pairs words opens log e caller base rows h in
       let qs = with_installed t.pieces base h.change h.fresh in
-      let word = word_of (ChangeAt base) in
-      let New = NewPair first log h.change h.fresh h.fits in
+      let word = word_of (ChangeAt base) in let New = NewPair first log h.change h.fresh h.fits in
       let slot = word_of_other InnerAt t New h.change.node h.change.index (ref_of word)
       (ChangeAt base) (ref_of-change base good.0) (λ child k. cc) in
       let u = after t (Install caller base (row_at base (Change h.change) ∷ h.fresh)) in
@@ -59,8 +43,7 @@ module _ (pairs : List Pair) (words : ℕ) (opens : CanOpen pairs words) where
       (pair_new first log caller base h.change h.fresh s holds h.in_slot h.fits)
       (came-changed_at InnerAt t New qs h.change.node (with_slot h.change.index word)
       (came_added InnerAt t New t.pieces qs (IsInstalledWith first log base h.change h.fresh h.fits)
-      (adds_install first log caller base h.change h.fresh h.fits holds s)
-      (came_old InnerAt t New)
+      (adds_install first log caller base h.change h.fresh h.fits holds s) (came_old InnerAt t New)
       (λ at p born _. installed_says first log caller base h.change h.fresh s holds h.in_slot h.fits
       (λ leaf f. good.1 leaf (new_leaf h.change)
       (fresh_stands first log caller base h.change h.fresh s t.pieces h.fits holds leaf
@@ -113,23 +96,11 @@ module _ (pairs : List Pair) (words : ℕ) (opens : CanOpen pairs words) where
 
   start_says : (rows : List ℕ) → Each (IsTreeRow (start pairs words).pieces) rows
       → (base : ℕ) (p : Piece) → (start pairs words).pieces base ≡ Some p
-      → IsLeafRow p ⊎ Among base rows
-      → (node i child : ℕ) → Says base p node i (InnerAt child)
+      → IsLeafRow p ⊎ Among base rows → (node i child : ℕ) → Says base p node i (InnerAt child)
       → HangsIn (start pairs words).pieces anchor 0 (tree_at first_row pairs) rows node i child
   start_says rows all base _ e (inl (leaf_row r)) node i child says = absurd says
   start_says rows all base p e (inr k) node i child says =
-      let ps = (start pairs words).pieces in
-      let it = each-among (IsTreeRow ps) base rows all k in
-      known (λ x. Says base x node i (InnerAt child) → HangsIn ps anchor 0 (tree_at first_row pairs)
-      rows node i child) (ps base) p (Inner it.row) e it.published
-      (λ s. inr record {
-        among = subst (λ b. Among b rows) (sym s.0) k;
-        row = it.row;
-        published = subst (λ b. ps b ≡ Some (Inner it.row)) (sym s.0) it.published;
-        word = s.1;
-        in_slot = s.2;
-        reads = s.3;
-      }) says
+      grind (arith, each-among, IsTreeRow, known, Says, HangsIn)
 
   one_home_start : HasOneHome (start pairs words)
   one_home_start = record {
@@ -171,3 +142,52 @@ module _ (pairs : List Pair) (words : ℕ) (opens : CanOpen pairs words) where
       → HasOneHome (state_of pairs words log)
   one_home [] h = one_home_start
   one_home (event ∷ log) h = one_home_step log event h (one_home log h.0)
+
+-- ---- a number that a row has: its count, if it is an inner row, or its draw word, if it is a rebuild.
+-- Fresh rows have 0, and only a Count or a Draw raises it. Serves `TallyLemmas` and `DrawnLemmas`.
+
+-- what the functions make of an inner row's count and of a rebuild's draw word, and 0 of other rows
+abbrev pub number_in : (ℕ → ℕ) → (ℕ → ℕ) → Piece → ℕ
+number_in of_count of_draw = field_in (λ _ n. of_count n) (λ _ n. of_draw n) 0
+
+-- the row at the place, if any, has at most this number
+abbrev pub NumberAtMost : (Piece → ℕ) → ℕ → Pieces → ℕ → Type 0
+NumberAtMost number place ps most = (q : Piece) → ps place ≡ Some q → number q ≤ most
+
+module _ (of_count of_draw : ℕ → ℕ) (no_count : of_count 0 ≡ 0) (no_draw : of_draw 0 ≡ 0) where
+  -- the number of a row
+  abbrev number : Piece → ℕ
+  number = number_in of_count of_draw
+
+  -- what it is of an inner row
+  abbrev by_count : ℕ → ℕ → ℕ
+  by_count = λ _ n. of_count n
+
+  -- what it is of a rebuild
+  abbrev by_draw : ℕ → ℕ → ℕ
+  by_draw = λ _ n. of_draw n
+
+  -- each row of a new table has 0
+  pub start_fresh : (pairs : List Pair) (words most place : ℕ)
+      → NumberAtMost number place (start pairs words).pieces most
+  start_fresh pairs words most place q e =
+      let none = each-among (λ row. number row.1 ≡ 0) (place, q) (rows_from first_row pairs)
+      (rows_fresh by_count by_draw 0 no_count no_draw (length pairs) first_row pairs)
+      (among-pieces_of (rows_from first_row pairs) place q e) in
+      omega arith
+
+  -- an event that leaves the number keeps the bound
+  pub number_kept : (pairs : List Pair) (words : ℕ) (log : Log) (place most : ℕ) (event : Event)
+      → LeavesField number event → EachEnabled (start pairs words) (event ∷ log)
+      → NumberAtMost number place (state_of pairs words log).pieces most
+      → NumberAtMost number place (state_of pairs words (event ∷ log)).pieces most
+  number_kept pairs words log place most event same h old q e =
+      ⊎_elim (λ none. let zero = none.1 in omega arith)
+      (λ set.
+      let it = has_step number 0 (field_rare by_count by_draw 0 no_count no_draw)
+      (start pairs words) log event h.1
+      (sound (start pairs words) log (sound_start pairs words) h.0) same place (number q) set.1
+      (q, e, refl) in
+      let before = old it.0 it.1 in let is = it.2 in
+      omega arith)
+      (eqb_tells (number q) 0)

@@ -1,29 +1,16 @@
 -- Where rows lie after a lawful log. Serves `laws.rows_lie_apart`.
 use Rattle.std.proofs.Common.{◌≡◌, ◌≢◌, ℕ, ◌+◌, ◌<◌, ◌≤◌, ◌⊎◌, List, [], ◌∷◌, length, Option, Some, None, refl, sym, ap, ◌∙◌, subst, inl, inr, ⊎_elim, arith}
 use Rattle.std.proofs.lemmas.Bool.Decides.{eqb_tells}
-use Rattle.ist_core.specs.declared.pairs.Pair.{Pair}
-use Rattle.ist_core.specs.declared.lists.HeldRow.{HeldRow}
-use Rattle.ist_core.specs.declared.events.Event.{Event}
-use Rattle.ist_core.specs.declared.events.Event.TheVariants.{Reserve, Lose}
-use Rattle.ist_core.specs.RowLayout.{first_row, anchor}
-use Rattle.ist_core.specs.Shapes.{ideal_words}
-use Rattle.ist_core.specs.Elements.{Among}
-use Rattle.ist_core.specs.Pieces.{Piece, Leaf, Inner, Change, Rebuild, size_of}
-use Rattle.ist_core.specs.Snapshots.{Snapshot}
-use Rattle.ist_core.specs.StartLayout.{start, rows_from}
-use Rattle.ist_core.specs.Logs.{Log, Reserves, Loses}
-use Rattle.ist_core.specs.Enabled.{Enabled}
-use Rattle.ist_core.specs.Lawful.{EachEnabled, state_of}
-use Rattle.ist_core.specs.Rows.{IsSetAside, at_start, by_caller, Apart, IsWithin}
-use Rattle.ist_core.proofs.ElementLemmas.{among-append}
-use Rattle.ist_core.proofs.PieceLemmas.{among-pieces_of}
+use Rattle.ist_core.specs.Types.{Pair, HeldRow, Event, Reserve, Lose}
+use Rattle.ist_core.specs.WordTerms.{first_row, anchor, ideal_words, Piece, Leaf, Inner, Change, Rebuild, size_of, start, rows_from}
+use Rattle.ist_core.specs.LogTerms.{Among, Snapshot, Log, Reserves, Loses, Enabled, EachEnabled, state_of}
+use Rattle.ist_core.specs.TreeTerms.{IsSetAside, at_start, by_caller, Apart, IsWithin}
+use Rattle.ist_core.proofs.OptionLemmas.{among-append, among-pieces_of, same_value, no_value}
 use Rattle.ist_core.proofs.MoveLemmas.{HeldLieApart, Moves}
-use Rattle.ist_core.proofs.EventMoveLemmas.{reserve_positive}
+use Rattle.ist_core.proofs.HoldingLemmas.{reserve_positive, next-state}
 use Rattle.ist_core.proofs.SoundLemmas.{moves_or_reserves, sound}
-use Rattle.ist_core.proofs.StartLemmas.{sound_start}
-use Rattle.ist_core.proofs.SpendingLemmas.{next-state}
+use Rattle.ist_core.proofs.StepLemmas.{sound_start}
 use Rattle.ist_core.proofs.LayoutLemmas.{fills_within, fills_apart, fills_rows}
-use Rattle.ist_core.proofs.OptionLemmas.{same_value, no_value}
 
 -- each row has a word
 pub size_positive : (p : Piece) → 0 < size_of p
@@ -71,10 +58,8 @@ module _ (pairs : List Pair) (words : ℕ) where
   pub next_after_fixed : (log : Log) → EachEnabled (start pairs words) log
       → first_row ≤ (state_of pairs words log).next
   next_after_fixed [] h = omega arith
-  next_after_fixed (event ∷ log) h =
-      let low = next_after_fixed log h.0 in
-      let more = next-state (start pairs words) log event h.1 in
-      omega arith
+  next_after_fixed (event ∷ log) h = let low = next_after_fixed log h.0 in
+      let more = next-state (start pairs words) log event h.1 in omega arith
 
   -- what an event reserves begins at the first free word, and has a word
   reserve_place : (log : Log) (event : Event) (caller base size : ℕ)
@@ -82,8 +67,7 @@ module _ (pairs : List Pair) (words : ℕ) where
       → (base ≡ (state_of pairs words log).next) × (0 < size) ×
       ((state_of pairs words (event ∷ log)).next ≡ base + size)
   reserve_place log (Reserve c b z) caller base size h r =
-      let some = reserve_positive (state_of pairs words log) c b z h in
-      let same = r.2 in
+      let some = reserve_positive (state_of pairs words log) c b z h in let same = r.2 in
       (sym r.1 ∙ h.base_is, omega arith, (λ i. r.1 i + r.2 i))
   reserve_place log _ caller base size h r = absurd r
 
@@ -95,20 +79,14 @@ module _ (pairs : List Pair) (words : ℕ) where
       let inside = fills_within first_row (first_row + ideal_words (length pairs))
       (rows_from first_row pairs) base c.0 rows
       (among-pieces_of (rows_from first_row pairs) base c.0 c.1) in
-      let low = inside.0 in
-      let high = inside.1 in
-      let some = size_positive c.0 in
-      let same = c.2 in
+      let low = inside.0 in let high = inside.1 in let some = size_positive c.0 in let same = c.2 in
       record { some = omega arith; after_fixed = low; below_next = omega arith }
   claimed_within (event ∷ log) base size h (inl c) =
       let place = reserve_place log event c.0 base size h.1 c.1 in
-      let low = next_after_fixed log h.0 in
-      let here = place.0 in
-      let next = place.2 in
+      let low = next_after_fixed log h.0 in let here = place.0 in let next = place.2 in
       record { some = place.1; after_fixed = omega arith; below_next = omega arith }
   claimed_within (event ∷ log) base size h (inr c) =
-      let before = claimed_within log base size h.0 c in
-      let high = before.below_next in
+      let before = claimed_within log base size h.0 c in let high = before.below_next in
       let more = next-state (start pairs words) log event h.1 in
       record { some = before.some; after_fixed = before.after_fixed; below_next = omega arith }
 
@@ -116,16 +94,14 @@ module _ (pairs : List Pair) (words : ℕ) where
   pub claimed_apart : (log : Log) (base size other more : ℕ) → EachEnabled (start pairs words) log
       → Claimed log base size → Claimed log other more
       → ((base ≡ other) × (size ≡ more)) ⊎ ((base ≢ other) × Apart base size other more)
-  claimed_apart [] base size other more h c d =
-      ⊎_elim
+  claimed_apart [] base size other more h c d = ⊎_elim
       (λ e. inl (
         e.1,
         sym c.2 ∙ ap size_of
             (same_value ((start pairs words).pieces base) c.0 d.0 c.1
             (subst (λ b. (start pairs words).pieces b ≡ Some d.0) (sym e.1) d.1)) ∙ d.2,
       ))
-      (λ e.
-      let rows = fills_rows (length pairs) first_row pairs (omega arith) in
+      (λ e. let rows = fills_rows (length pairs) first_row pairs (omega arith) in
       let one = among-pieces_of (rows_from first_row pairs) base c.0 c.1 in
       let two = among-pieces_of (rows_from first_row pairs) other d.0 d.1 in
       let apart = fills_apart first_row (first_row + ideal_words (length pairs))
@@ -136,28 +112,11 @@ module _ (pairs : List Pair) (words : ℕ) where
             (subst (λ y. Apart base (size_of c.0) other y) d.2 apart),
       ))
       (eqb_tells base other)
-  claimed_apart (event ∷ log) base size other more h (inl c) (inl d) =
-      let one = reserve_place log event c.0 base size h.1 c.1 in
-      let two = reserve_place log event d.0 other more h.1 d.1 in
-      let here = one.0 in
-      let there = two.0 in
-      let end = one.2 in
-      let stop = two.2 in
-      inl (here ∙ sym there, omega arith)
+  claimed_apart (event ∷ log) base size other more h (inl c) (inl d) = grind (arith, reserve_place)
   claimed_apart (event ∷ log) base size other more h (inl c) (inr d) =
-      let place = reserve_place log event c.0 base size h.1 c.1 in
-      let before = claimed_within log other more h.0 d in
-      let here = place.0 in
-      let high = before.below_next in
-      let some = before.some in
-      inr ((λ e. omega arith), inr (omega arith))
+      grind (arith, reserve_place, claimed_within)
   claimed_apart (event ∷ log) base size other more h (inr c) (inl d) =
-      let place = reserve_place log event d.0 other more h.1 d.1 in
-      let before = claimed_within log base size h.0 c in
-      let here = place.0 in
-      let high = before.below_next in
-      let some = before.some in
-      inr ((λ e. omega arith), inl (omega arith))
+      grind (arith, reserve_place, claimed_within)
   claimed_apart (event ∷ log) base size other more h (inr c) (inr d) = claimed_apart log base size
       other more h.0 c d
 
@@ -181,10 +140,8 @@ module _ (pairs : List Pair) (words : ℕ) where
       → HeldLieApart (state_of pairs words (event ∷ log)) → IsPlaced log (state_of pairs words log)
       → Moves (state_of pairs words log) (state_of pairs words (event ∷ log)) event
       → IsPlaced (event ∷ log) (state_of pairs words (event ∷ log))
-  placed_moves log event s v k m =
-      let t = state_of pairs words log in
-      let u = state_of pairs words (event ∷ log) in
-      record {
+  placed_moves log event s v k m = let t = state_of pairs words log in
+      let u = state_of pairs words (event ∷ log) in record {
         published = λ base p e. inr (⊎_elim (stood base p e) (was_held base p e) (m.from base p e));
         held = λ h i. inr (k.held h (m.kept h i));
       }
@@ -193,8 +150,7 @@ module _ (pairs : List Pair) (words : ℕ) where
       stood : (base : ℕ) (p : Piece) → (state_of pairs words (event ∷ log)).pieces base ≡ Some p
           → (q : Piece) × ((state_of pairs words log).pieces base ≡ Some q)
           → Claimed log base (size_of p)
-      stood base p e q =
-          let there = m.stays base q.0 q.1 in
+      stood base p e q = let there = m.stays base q.0 q.1 in
           let same = same_value ((state_of pairs words (event ∷ log)).pieces base) p there.0 e
           there.1 in
           subst (λ z. Claimed log base z) (sym (ap size_of same ∙ there.2))
@@ -222,28 +178,22 @@ module _ (pairs : List Pair) (words : ℕ) where
 
   placed_reserve : (log : Log) (c b z : ℕ) → IsPlaced log (state_of pairs words log)
       → IsPlaced (Reserve c b z ∷ log) (state_of pairs words (Reserve c b z ∷ log))
-  placed_reserve log c b z k =
-      record {
-        published = λ base p e. inr (k.published base p e);
-        held = λ h i.
-            ⊎_elim
-            (λ a. inr (k.held h a))
-            (λ a. ⊎_elim (λ e. inl (c, (refl, ap (λ x. x.base) (sym e), ap (λ x. x.size) (sym e))))
-            (λ n. absurd n) a)
-            (among-append h (state_of pairs words log).held
-            (record { caller = c; base = b; size = z } ∷ []) i);
-      }
+  placed_reserve log c b z k = record {
+    published = λ base p e. inr (k.published base p e);
+    held = λ h i. ⊎_elim (λ a. inr (k.held h a))
+        (λ a. ⊎_elim (λ e. inl (c, (refl, ap (λ x. x.base) (sym e), ap (λ x. x.size) (sym e))))
+        (λ n. absurd n) a)
+        (among-append h (state_of pairs words log).held
+        (record { caller = c; base = b; size = z } ∷ []) i);
+  }
 
   -- the rows after a log from a new table were set aside
   pub placed : (log : Log) → EachEnabled (start pairs words) log
       → IsPlaced log (state_of pairs words log)
   placed [] h = record { published = λ base p e. (p, e, refl); held = λ g i. absurd i }
-  placed (event ∷ log) h =
-      let s = sound (start pairs words) log (sound_start pairs words) h.0 in
+  placed (event ∷ log) h = let s = sound (start pairs words) log (sound_start pairs words) h.0 in
       let v = sound (start pairs words) (event ∷ log) (sound_start pairs words) h in
-      let k = placed log h.0 in
-      ⊎_elim
-      (λ m. placed_moves log event s v k m)
+      let k = placed log h.0 in ⊎_elim (λ m. placed_moves log event s v k m)
       (λ r. subst (λ e. IsPlaced (e ∷ log) (state_of pairs words (e ∷ log))) (sym r.is)
       (placed_reserve log r.caller r.base r.size k))
       (moves_or_reserves (start pairs words) log event h.1 s)

@@ -1,10 +1,8 @@
 -- Prefixes of logs: a longer log, by any events or by certain ones, and what stays true of it. The
 -- moments of a log are its prefixes. Serves each law about longer logs.
 use Rattle.std.proofs.Common.{[], inl, inr, length, arith, ◌∷◌, ◌++◌, ◌≤◌}
-use Rattle.ist_core.specs.declared.events.Event.{Event}
-use Rattle.ist_core.specs.Authors.{GoesOnBy, no_more, one_more}
-use Rattle.ist_core.specs.Logs.{Ever, GoesOn, Happened, Log, one_event, same_log, state}
-use Rattle.ist_core.specs.Snapshots.{Snapshot}
+use Rattle.ist_core.specs.Types.{Event}
+use Rattle.ist_core.specs.LogTerms.{GoesOnBy, no_more, one_more, Ever, GoesOn, Happened, Log, one_event, same_log, state, Snapshot}
 
 -- ---- longer logs
 

@@ -1,27 +1,9 @@
 -- The log of a whole rebuild is lawful. Serves `examples.a_rebuild_is_lawful`.
 use Rattle.std.proofs.Common.{ℕ, ◌<◌, true, List, [], ◌∷◌, Some, refl, inl, inr, arith}
-use Rattle.ist_core.specs.declared.states.LeafRow.{LeafRow}
-use Rattle.ist_core.specs.declared.states.InnerRow.{InnerRow}
-use Rattle.ist_core.specs.declared.states.ChangeRow.{ChangeRow}
-use Rattle.ist_core.specs.declared.states.RebuildRow.{RebuildRow}
-use Rattle.ist_core.specs.declared.events.Event.TheVariants.{Reserve, Okay, Decide, Mark, Pass}
-use Rattle.ist_core.specs.Arithmetic.{degree, square_root, root_up_to, part_len, part_lens}
-use Rattle.ist_core.specs.Shapes.{ideal_words, ideal_words_within, share_from, share_from_is}
-use Rattle.ist_core.specs.References.{LeafAt, InnerAt, ref_of}
-use Rattle.ist_core.specs.Statuses.{start_kind, finish_kind}
-use Rattle.ist_core.specs.Pieces.{Pieces, with_inners}
-use Rattle.ist_core.specs.StartLayout.{rows_within}
-use Rattle.ist_core.specs.Logs.{state, Log}
-use Rattle.ist_core.specs.Slots.{in_anchor, anchor_is}
-use Rattle.ist_core.specs.Leaves.{PlacedLeaf, HasLeaves, leaf_here, row_here, no_slot, one_slot}
-use Rattle.ist_core.specs.Ideals.{IsTop, IsIdeal, of_one, of_more, no_part, one_part}
-use Rattle.ist_core.specs.Rebuilding.{IsStarted}
-use Rattle.ist_core.specs.Fairness.{at_end, from_right, no_build}
-use Rattle.ist_core.specs.Deciding.{CanOkay, CanDecide, CanResolve}
-use Rattle.ist_core.specs.Marking.{CanMark, as_target, CanPass, CanFinish, one_key, past_end, one_passed}
-use Rattle.ist_core.specs.Building.{CanRoot, root_whole}
-use Rattle.ist_core.specs.Enabled.{CanReserve}
-use Rattle.ist_core.specs.Lawful.{EachEnabled}
+use Rattle.ist_core.specs.Types.{LeafRow, InnerRow, ChangeRow, RebuildRow, Reserve, Okay, Decide, Mark, Pass}
+use Rattle.ist_core.specs.WordTerms.{degree, square_root, root_up_to, part_len, part_lens, ideal_words, ideal_words_within, share_from, share_from_is, LeafAt, InnerAt, ref_of, start_kind, finish_kind, Pieces, with_inners, rows_within, in_anchor, anchor_is, IsTop, IsIdeal, of_one, of_more, no_part, one_part}
+use Rattle.ist_core.specs.LogTerms.{state, Log, at_end, from_right, no_build, CanReserve, EachEnabled}
+use Rattle.ist_core.specs.TreeTerms.{PlacedLeaf, HasLeaves, leaf_here, row_here, no_slot, one_slot, IsStarted, CanOkay, CanDecide, CanResolve, CanMark, as_target, CanPass, CanFinish, one_key, past_end, one_passed, CanRoot, root_whole}
 use Rattle.ist_core.specs.ExampleLogs.{start_installed, rebuild_started, rebuild_finished, root_rows, rebuild_rooted}
 use Rattle.ist_core.proofs.StartExampleLemmas.{two, start_is_lawful}
 
@@ -32,8 +14,7 @@ the_start decision = record {
   kind = start_kind;
   node = 2;
   index = 0;
-  from =
-      34;
+  from = 34;
   to = 124;
   owner = 0;
   key = 0;
@@ -47,8 +28,7 @@ the_finish decision = record {
   kind = finish_kind;
   node = 2;
   index = 0;
-  from =
-      124;
+  from = 124;
   to = 234;
   owner = 0;
   key = 0;
@@ -67,8 +47,7 @@ the_row status = record {
   degree = 2;
   size = 2;
   keys = 20 ∷ [];
-  slots =
-      89 ∷ 105 ∷ [];
+  slots = 89 ∷ 105 ∷ [];
 }
 
 -- the leaf with the lower key
@@ -109,8 +88,7 @@ start_resolved = record {
   known = omega arith;
   change = the_start 1;
   published = refl;
-  decided = λ
-      e. omega arith;
+  decided = λ e. omega arith;
   in_slot = in_anchor refl refl refl;
 }
 
@@ -127,23 +105,21 @@ is_started = record {
   change = the_start 1;
   published = refl;
   kind = refl;
-  decision =
-      refl;
+  decision = refl;
   to = refl;
 }
 
 marked : CanMark (state two rebuild_started) rebuild_started 0 4
 unfolding rows_within degree square_root root_up_to part_len part_lens ideal_words
     ideal_words_within
-marked =
-    record {
-      known = omega arith;
-      row = the_row 0;
-      published = refl;
-      row_open = refl;
-      called = as_target 15 record { row = the_rebuild 7; published = refl; target_is = refl }
-          is_started;
-    }
+marked = record {
+  known = omega arith;
+  row = the_row 0;
+  published = refl;
+  row_open = refl;
+  called = as_target 15 record { row = the_rebuild 7; published = refl; target_is = refl }
+      is_started;
+}
 
 passed_low : CanPass (state two (Mark 0 4 ∷ rebuild_started)) 0 4 0 89
 unfolding ref_of rows_within degree square_root root_up_to part_len part_lens ideal_words
@@ -177,15 +153,14 @@ both_passed = Pass 0 4 1 105 ∷ Pass 0 4 0 89 ∷ Mark 0 4 ∷ rebuild_started
 finished : CanFinish (state two both_passed) both_passed 0 4 2
 unfolding ref_of rows_within degree square_root root_up_to part_len part_lens ideal_words
     ideal_words_within
-finished =
-    record {
-      known = omega arith;
-      row = the_row 1;
-      published = refl;
-      marked = refl;
-      passed = one_passed 89 (inr (inl (refl, refl, refl))) one_key
-          (one_passed 105 (inl (refl, refl, refl)) one_key past_end);
-    }
+finished = record {
+  known = omega arith;
+  row = the_row 1;
+  published = refl;
+  marked = refl;
+  passed = one_passed 89 (inr (inl (refl, refl, refl))) one_key
+      (one_passed 105 (inl (refl, refl, refl)) one_key past_end);
+}
 
 finished_log : EachEnabled two rebuild_finished
 finished_log = ((((started, marked), passed_low), passed_high), finished)
@@ -193,20 +168,19 @@ finished_log = ((((started, marked), passed_low), passed_high), finished)
 -- ---- the root
 
 root_reserved : CanReserve (state two rebuild_finished) 0 29 7
-root_reserved =
-    record {
-      known = omega arith;
-      base_is = refl;
-      room = omega arith;
-      fair = record {
-        building = [];
-        spare = 7 ∷ [];
-        merge = from_right 7 at_end;
-        builds = no_build;
-        few = (inr (inr (inl refl)), tt);
-        one_each = ((λ k. k), tt);
-      };
-    }
+root_reserved = record {
+  known = omega arith;
+  base_is = refl;
+  room = omega arith;
+  fair = record {
+    building = [];
+    spare = 7 ∷ [];
+    merge = from_right 7 at_end;
+    builds = no_build;
+    few = (inr (inr (inl refl)), tt);
+    one_each = ((λ k. k), tt);
+  };
+}
 
 abbrev root_held : Log
 root_held = Reserve 0 29 7 ∷ rebuild_finished
@@ -216,16 +190,7 @@ with_root_row = with_inners (state two root_held).pieces root_rows
 
 root_top : IsTop with_root_row 29 (the_row 0) both 4
 unfolding degree square_root root_up_to part_len part_lens
-root_top = record {
-  published = refl;
-  two = omega arith;
-  higher = omega arith;
-  status = refl;
-  count = refl;
-  degree = refl;
-  size = refl;
-  keys = refl;
-}
+root_top = grind (arith, two)
 
 low_part : IsIdeal with_root_row (LeafAt 11) (record { base = 11; row = low } ∷ []) 29 []
 unfolding rows_within degree square_root root_up_to part_len part_lens ideal_words
@@ -252,8 +217,7 @@ still_started = record {
   change = the_start 1;
   published = refl;
   kind = refl;
-  decision =
-      refl;
+  decision = refl;
   to = refl;
 }
 
@@ -266,21 +230,20 @@ target_leaves = row_here (the_row 11) refl
 rooted : CanRoot (state two root_held) 0 15 234 root_rows
 unfolding ref_of rows_within degree square_root root_up_to part_len part_lens ideal_words
     ideal_words_within
-rooted =
-    record {
-      known = omega arith;
-      row = the_rebuild 7;
-      published = refl;
-      started = still_started;
-      rootless = refl;
-      k = 2;
-      finished = record { row = the_row 11; published = refl; status = refl };
-      leaves = both;
-      reached = target_leaves;
-      root = root_whole (InnerAt 29) two_is_few refl root_ideal;
-      once = ((λ k. k), tt);
-      held = (inl refl, tt);
-    }
+rooted = record {
+  known = omega arith;
+  row = the_rebuild 7;
+  published = refl;
+  started = still_started;
+  rootless = refl;
+  k = 2;
+  finished = record { row = the_row 11; published = refl; status = refl };
+  leaves = both;
+  reached = target_leaves;
+  root = root_whole (InnerAt 29) two_is_few refl root_ideal;
+  once = ((λ k. k), tt);
+  held = (inl refl, tt);
+}
 
 -- the rebuild has its root
 pub rooted_log : EachEnabled two rebuild_rooted

@@ -1,7 +1,6 @@
 -- Rows among which no change was decided no. Serves the `examples` that install a change.
-use Rattle.std.proofs.Common.{◌≡◌, ℕ, ◌==◌, ◌≢◌, true, false, if◌then◌else◌, Option, Some, None, option_map, refl, subst, arith}
-use Rattle.ist_core.specs.Statuses.{decided_no}
-use Rattle.ist_core.specs.Pieces.{Pieces, Piece, Leaf, Inner, Change, Rebuild, with_row, changed_at, with_slot, with_status, with_decision, with_root}
+use Rattle.std.proofs.Common.{◌≡◌, ℕ, ◌≢◌, Option, Some, None, option_map, refl, arith}
+use Rattle.ist_core.specs.WordTerms.{decided_no, Pieces, Piece, Leaf, Inner, Change, Rebuild, with_row, changed_at, with_slot, with_status, with_decision, with_root}
 
 -- the row is no change that was decided no
 unfoldable pub NotRefused : Piece → Type 0
@@ -15,11 +14,7 @@ NoneDecidedNo ps = (base : ℕ) (p : Piece) → ps base ≡ Some p → NotRefuse
 -- putting a row that isn't a refused change adds no refusal
 pub none_refused-with_row : (ps : Pieces) (at : ℕ) (p : Piece) → NotRefused p → NoneDecidedNo ps
     → NoneDecidedNo (with_row ps at (Some p))
-none_refused-with_row ps at p h all base q e =
-    elim (base == at) as (λ b. (if b then Some p else ps base) ≡ Some q → NotRefused q) [
-      | true ↦ λ found. let same : p ≡ q = cc in subst NotRefused same h
-      | false ↦ λ found. all base q found
-    ] e
+none_refused-with_row ps at p h all base q e = grind arith
 
 mapped : (f : Piece → Piece) (o : Option Piece) (q : Piece) → option_map f o ≡ Some q
     → (p : Piece) × (o ≡ Some p) × (f p ≡ q)
@@ -30,13 +25,7 @@ mapped f (Some p) q e = (p, refl, (cc))
 pub none_refused-changed_at : (ps : Pieces) (at : ℕ) (f : Piece → Piece)
     → ((p : Piece) → NotRefused p → NotRefused (f p)) → NoneDecidedNo ps
     → NoneDecidedNo (changed_at ps at f)
-none_refused-changed_at ps at f keeps all base q e =
-    elim (base == at) as (λ b. (if b then option_map f (ps base) else ps base) ≡ Some q → NotRefused
-    q) [
-      | true ↦ λ found. let it = mapped f (ps base) q found in subst NotRefused it.2
-          (keeps it.0 (all base it.0 it.1))
-      | false ↦ λ found. all base q found
-    ] e
+none_refused-changed_at ps at f keeps all base q e = grind (arith, mapped)
 
 -- writing a slot refuses nothing
 pub slot_keeps : (i word : ℕ) (p : Piece) → NotRefused p → NotRefused (with_slot i word p)

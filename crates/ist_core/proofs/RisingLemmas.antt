@@ -5,10 +5,9 @@ use Rattle.std.proofs.lemmas.Bool.Decides.{leb_tells}
 use Rattle.std.proofs.lemmas.List.{length-take-le}
 use Rattle.std.proofs.lemmas.List.Sums.{sum_by-cons}
 use Rattle.std.specs.List.{sum}
-use Rattle.ist_core.specs.Arithmetic.{child_count, part_lens}
-use Rattle.ist_core.specs.Elements.{Among, Each}
-use Rattle.ist_core.specs.Parts.{cut, parts, first_keys}
-use Rattle.ist_core.proofs.ElementLemmas.{each_append, each-among}
+use Rattle.ist_core.specs.WordTerms.{child_count, cut, parts, first_keys}
+use Rattle.ist_core.specs.LogTerms.{Among, Each}
+use Rattle.ist_core.proofs.OptionLemmas.{each_append, each-among}
 use Rattle.ist_core.proofs.PartLemmas.{sum-part_lens}
 use Rattle.ist_core.proofs.LayoutLemmas.{AllSome, part_lens_some}
 
@@ -29,14 +28,7 @@ child_count-low k ks x h = at (leb_tells k x) (sum_by-cons (λ key. cond (nat_le
 -- a key above the one looked for doesn't count
 pub child_count-high : (k : ℕ) (ks : List ℕ) (x : ℕ) → x < k
     → child_count (k ∷ ks) x ≡ child_count ks x
-child_count-high k ks x h = at (leb_tells k x) (sum_by-cons (λ key. cond (nat_le key x) 1 0) k ks)
-  where
-    at : ((nat_le k x ≡ true) × (k ≤ x)) ⊎ ((nat_le k x ≡ false) × (x < k))
-        → child_count (k ∷ ks) x ≡ cond (nat_le k x) 1 0 + child_count ks x
-        → child_count (k ∷ ks) x ≡ child_count ks x
-    at (inl e) f = let low = e.1 in absurd (omega arith)
-    at (inr e) f = let none : child_count (k ∷ ks) x ≡ 0 + child_count ks x = subst
-        (λ b. child_count (k ∷ ks) x ≡ cond b 1 0 + child_count ks x) e.0 f in omega arith
+child_count-high k ks x h = grind (arith, leb_tells, sum_by-cons)
 
 -- if each key is above x, the child for x is the first
 pub child_count-none : (ks : List ℕ) (x : ℕ) → Each (λ k. x < k) ks → child_count ks x ≡ 0
@@ -119,16 +111,14 @@ module _ {A : Type 0} (key : A → ℕ) where
   each_of_cut P [] xs h = tt
   each_of_cut P (n ∷ ns) xs h = (
     each_take P n xs h,
-    each_of_cut P ns (drop n xs)
-        (each_drop P n xs h),
+    each_of_cut P ns (drop n xs) (each_drop P n xs h),
   )
 
   -- what is true of each element of each part is true of each element of one part
   pub part_of_each : (P : A → Type 0) (ps : List (List A)) (j : ℕ) (part : List A) → EachOf P ps
       → slice_get ps j ≡ Some part → Each P part
   part_of_each P [] j part h e = absurd (cc)
-  part_of_each P (p ∷ ps) zero part h e = let same : p ≡ part = cc in subst (λ xs. Each P xs) same
-      h.0
+  part_of_each P (p ∷ ps) zero part h e = grind arith
   part_of_each P (p ∷ ps) (suc j) part h e = part_of_each P ps j part h.1 e
 
   -- the keys of the parts are strictly increasing, and no part is empty
@@ -144,10 +134,8 @@ module _ {A : Type 0} (key : A → ℕ) where
   cut_rises : (ns : List ℕ) (xs : List A) → AllSome ns → sum ns ≤ length xs → AreRisingKeys xs
       → PartsRise (cut ns xs)
   cut_rises [] xs some fits h = tt
-  cut_rises (n ∷ ns) xs some fits h =
-      let all = sum_by-cons (λ x. x) n ns in
-      let less = length-drop n xs in
-      let long = length-take-le n xs (omega arith) in
+  cut_rises (n ∷ ns) xs some fits h = let all = sum_by-cons (λ x. x) n ns in
+      let less = length-drop n xs in let long = length-take-le n xs (omega arith) in
       let one = some.0 in (
         omega arith,
         rises_take n xs h,
@@ -159,8 +147,7 @@ module _ {A : Type 0} (key : A → ℕ) where
 
   -- the parts of a strictly increasing list of at least two
   pub parts_rise : (xs : List A) → 2 ≤ length xs → AreRisingKeys xs → PartsRise (parts xs)
-  parts_rise xs two h = cut_rises (part_lens (length xs)) xs (part_lens_some (length xs) two)
-      (let whole = sum-part_lens (length xs) in omega arith) h
+  parts_rise xs two h = grind (arith, cut_rises, part_lens_some, sum-part_lens)
 
   -- the keys of each part are strictly increasing
   pub part_rises : (ps : List (List A)) (j : ℕ) (part : List A) → PartsRise ps
@@ -186,8 +173,7 @@ module _ {A : Type 0} (key : A → ℕ) where
       → slice_get ps j ≡ Some part → Among x part → child_count (first_keys key ps) (key x) ≡ suc j
   child_among [] j part x h e i = absurd (cc)
   child_among ([] ∷ ps) j part x h e i = let some = h.0 in absurd (omega arith)
-  child_among ((y ∷ ys) ∷ ps) zero part x h e i =
-      let same : y ∷ ys ≡ part = cc in
+  child_among ((y ∷ ys) ∷ ps) zero part x h e i = let same : y ∷ ys ≡ part = cc in
       let here = subst (λ xs. Among x xs) (sym same) i in
       let above = each-among (λ z. EachOf (λ w. key z < key w) ps) x (y ∷ ys) h.2 here in
       let low : key y ≤ key x = ⊎_elim (λ f. let g = ap key f in omega arith)
@@ -198,16 +184,14 @@ module _ {A : Type 0} (key : A → ℕ) where
       let below = part_of_each (λ z. key y < key z) ps j part h.2.0 e in
       let low = each-among (λ z. key y < key z) x part below i in
       let rest = child_among ps j part x h.3 e i in
-      let more = child_count-low (key y) (first_keys key ps) (key x) (omega arith) in
-      omega arith
+      let more = child_count-low (key y) (first_keys key ps) (key x) (omega arith) in omega arith
 
   -- with the first key of each part but the first as keys, the child for a key of part j is child j
   pub child_of_part : (ps : List (List A)) (j : ℕ) (part : List A) (x : A) → PartsRise ps
       → slice_get ps j ≡ Some part → Among x part
       → child_count (first_keys key (drop 1 ps)) (key x) ≡ j
   child_of_part [] j part x h e i = absurd (cc)
-  child_of_part (p ∷ ps) zero part x h e i =
-      let same : p ≡ part = cc in
+  child_of_part (p ∷ ps) zero part x h e i = let same : p ≡ part = cc in
       child_count-none (first_keys key ps) (key x)
       (first_keys_above x ps (each-among (λ z. EachOf (λ w. key z < key w) ps) x p h.2
       (subst (λ xs. Among x xs) (sym same) i)))

@@ -1,41 +1,50 @@
 -- The keys of a rebuild's root are the first keys of the parts of its target's leaves. Serves the order law at a Place.
-use Rattle.std.proofs.Common.{◌≡◌, ◌≢◌, ℕ, ◌≤◌, List, [], ◌∷◌, length, drop, Option, Some, refl, sym, ap, ◌∙◌, subst, ⊎_elim}
-use Rattle.ist_core.specs.declared.pairs.Pair.{Pair}
-use Rattle.ist_core.specs.declared.lists.Row.{Row}
-use Rattle.ist_core.specs.declared.states.InnerRow.{InnerRow}
-use Rattle.ist_core.specs.declared.states.RebuildRow.{RebuildRow}
-use Rattle.ist_core.specs.declared.events.Event.{Event}
-use Rattle.ist_core.specs.declared.events.Event.TheVariants.{Count, Mark, Finish, Root, Draw}
-use Rattle.ist_core.specs.RowLayout.{first_row}
-use Rattle.ist_core.specs.References.{Ref, Unset, InnerAt, ref_of, unset_word}
-use Rattle.ist_core.specs.Statuses.{marked_word, finished_word}
-use Rattle.ist_core.specs.Parts.{parts, first_keys}
-use Rattle.ist_core.specs.Pieces.{Pieces, Piece, Leaf, Inner, Change, Rebuild, with_inners, changed_at, with_root}
-use Rattle.ist_core.specs.Snapshots.{Snapshot, bases_of}
-use Rattle.ist_core.specs.StartLayout.{start, rows_from}
-use Rattle.ist_core.specs.Logs.{Log}
-use Rattle.ist_core.specs.Leaves.{PlacedLeaf, HasLeaves}
-use Rattle.ist_core.specs.Ideals.{IsTop, IsIdeal, of_none, of_one, of_more}
-use Rattle.ist_core.specs.Building.{IsRoot, root_whole, root_top}
-use Rattle.ist_core.specs.Lawful.{EachEnabled, CanOpen, state_of}
-use Rattle.ist_core.proofs.ElementLemmas.{each-among}
-use Rattle.ist_core.proofs.RowLemmas.{changed_at-some}
-use Rattle.ist_core.proofs.PieceLemmas.{among-pieces_of}
+use Rattle.std.proofs.Common.{◌≡◌, ℕ, List, refl, ◌≢◌, ◌≤◌, [], ◌∷◌, length, drop, Option, Some, sym, ap, ◌∙◌, subst, ⊎_elim, arith}
+use Rattle.ist_core.specs.Types.{Pair, Row, InnerRow, RebuildRow, Event, Count, Mark, Finish, Root, Draw}
+use Rattle.ist_core.specs.WordTerms.{unset_word, Piece, with_status, counted, drawn, rows_within, first_row, Ref, Unset, InnerAt, ref_of, marked_word, finished_word, parts, first_keys, Pieces, Leaf, Inner, Change, Rebuild, with_inners, changed_at, with_root, start, rows_from, IsTop, IsIdeal, of_none, of_one, of_more}
+use Rattle.ist_core.specs.LogTerms.{Each, Snapshot, bases_of, Log, EachEnabled, CanOpen, state_of}
+use Rattle.ist_core.proofs.FieldLemmas.{IsRare, LeavesField, Has, has_rooted, has_step, field_in}
+use Rattle.ist_core.specs.TreeTerms.{PlacedLeaf, HasLeaves, IsRoot, root_whole, root_top}
+use Rattle.ist_core.proofs.OptionLemmas.{each-among, changed_at-some, among-pieces_of, same_value, same_rebuild, same_inner}
 use Rattle.ist_core.proofs.ReferenceLemmas.{ref_of-unset}
 use Rattle.ist_core.proofs.SoundLemmas.{sound}
-use Rattle.ist_core.proofs.StartLemmas.{sound_start}
-use Rattle.ist_core.proofs.AddingLemmas.{adds-with_inners}
+use Rattle.ist_core.proofs.StepLemmas.{sound_start, adds-with_inners}
 use Rattle.ist_core.proofs.GrowingLemmas.{inner_there, rebuild_there}
 use Rattle.ist_core.proofs.NamingLemmas.{InnerHere, RootNames}
 use Rattle.ist_core.proofs.NamingStepLemmas.{changed_at-fixed}
 use Rattle.ist_core.proofs.OrderLemmas.{names}
-use Rattle.ist_core.proofs.FieldLemmas.{LeavesField, Has, has_rooted, has_step}
-use Rattle.ist_core.proofs.RootFieldLemmas.{root_in, status_same, count_same, draw_same, root_rare, start_rootless}
 use Rattle.ist_core.proofs.DrawLemmas.{finished_grows}
 use Rattle.ist_core.proofs.SplitLemmas.{key_of_leaf}
 use Rattle.ist_core.proofs.KeepingLemmas.{IsFinishedNode, leaves_kept}
-use Rattle.ist_core.proofs.OptionLemmas.{same_value, same_rebuild, same_inner}
 use Rattle.ist_core.proofs.FateLemmas.{grow_after}
+use Rattle.ist_core.proofs.FieldLemmas as fields
+
+-- ---- the root of a rebuild as a field that few events write. Serves the law on the keys of a root.
+
+-- the word of a rebuild's root, and Unset of other rows
+abbrev pub root_in : Piece → ℕ
+root_in = field_in (λ _ _. unset_word) (λ root _. root) unset_word
+
+-- a status leaves the root of a row
+pub status_same : (word : ℕ) (p : Piece) → root_in (with_status word p) ≡ root_in p
+status_same = fields.status_same (λ _ _. unset_word) (λ root _. root) unset_word (λ _ _ _. refl)
+
+-- a Count leaves the root of a row
+pub count_same : (p : Piece) → root_in (counted p) ≡ root_in p
+count_same = fields.count_same (λ _ _. unset_word) (λ root _. root) unset_word (λ _ _. refl)
+
+-- a Draw leaves the root of a row
+pub draw_same : (p : Piece) → root_in (drawn p) ≡ root_in p
+draw_same = fields.draw_same (λ _ _. unset_word) (λ root _. root) unset_word (λ _ _. refl)
+
+-- few events write a root
+pub root_rare : IsRare root_in unset_word
+root_rare = fields.field_rare (λ _ _. unset_word) (λ root _. root) unset_word refl refl
+
+-- the rows of a new tree have no root
+pub start_rootless : (fuel base : ℕ) (pairs : List Pair)
+    → Each (λ row. root_in row.1 ≡ unset_word) (rows_within fuel base pairs)
+start_rootless = fields.rows_fresh (λ _ _. unset_word) (λ root _. root) unset_word refl refl
 
 -- ---- the keys of a root
 
@@ -68,8 +77,7 @@ top_of ps word k leaves target rows (root_whole ref few e ideal) root is = at re
     at _ _ _ of_none e = absurd (cc)
     at _ _ _ (of_one f g) e = absurd (cc)
     at _ leaves _ (of_more {base = base} r top below) e = let here : base ≡ root = cc in (r, subst (λ b. IsTop ps b r leaves target) here top)
-top_of ps word k leaves target rows (root_top base row many e top unset one) root is =
-    (row, subst (λ b. IsTop ps b row leaves target) (cc) top)
+top_of ps word k leaves target rows (root_top base row many e top unset one) root is = grind arith
 
 module _ (pairs : List Pair) (words : ℕ) (opens : CanOpen pairs words) where
   -- the cut of a row stays as rows grow
@@ -77,19 +85,18 @@ module _ (pairs : List Pair) (words : ℕ) (opens : CanOpen pairs words) where
       → (target : ℕ) (r s : InnerRow) → s.keys ≡ r.keys
       → IsCutBy (state_of pairs words log) target r
       → IsCutBy (state_of pairs words (event ∷ log)) target s
-  cut_stays log event h target r s keys cut =
-      record {
-        finished = (
-          cut.finished.0,
-          finished_grows (state_of pairs words log)
-              (state_of pairs words (event ∷ log)) target cut.finished.0 (grow_after pairs words log event h)
-              cut.finished.1,
-        );
-        leaves = cut.leaves;
-        reached = leaves_kept pairs words opens log event h target cut.leaves cut.finished cut.reached;
-        two = cut.two;
-        keys = keys ∙ cut.keys;
-      }
+  cut_stays log event h target r s keys cut = record {
+    finished = (
+      cut.finished.0,
+      finished_grows (state_of pairs words log)
+          (state_of pairs words (event ∷ log)) target cut.finished.0 (grow_after pairs words log event h)
+          cut.finished.1,
+    );
+    leaves = cut.leaves;
+    reached = leaves_kept pairs words opens log event h target cut.leaves cut.finished cut.reached;
+    two = cut.two;
+    keys = keys ∙ cut.keys;
+  }
 
   -- a root that was set before the event
   old_root : (log : Log) (event : Event) → EachEnabled (start pairs words) (event ∷ log)
@@ -112,8 +119,7 @@ module _ (pairs : List Pair) (words : ℕ) (opens : CanOpen pairs words) where
       inner_root ref target e n = let it : RootNames t.pieces target (Some (InnerAt root)) = subst (λ x. RootNames t.pieces target x) e n in it.1
 
       at : (p : Piece) → t.pieces base ≡ Some p → root_in p ≡ row.root → IsCutBy u row.target r
-      at (Rebuild q) e same =
-          let g = grow_after pairs words log event h in
+      at (Rebuild q) e same = let g = grow_after pairs words log event h in
           let it = rebuild_there t.pieces u.pieces g base q e in
           let now = same_rebuild (u.pieces base) it.0 row it.1 there in
           let names_root = ap ref_of same ∙ is in
@@ -132,10 +138,8 @@ module _ (pairs : List Pair) (words : ℕ) (opens : CanOpen pairs words) where
       → ref_of word ≡ Some (InnerAt root)
       → (state_of pairs words (Root caller rebuild word rows ∷ log)).pieces root ≡ Some (Inner r)
       → IsCutBy (state_of pairs words (Root caller rebuild word rows ∷ log)) h.1.row.target r
-  new_root log caller rebuild word rows h root r is published =
-      let can = h.1 in
-      let t = state_of pairs words log in
-      let qs = with_inners t.pieces rows in
+  new_root log caller rebuild word rows h root r is published = let can = h.1 in
+      let t = state_of pairs words log in let qs = with_inners t.pieces rows in
       let top = top_of qs word can.k can.leaves can.row.target (bases_of rows) can.root root is in
       let stands = changed_at-fixed qs rebuild root (with_root word) (Inner top.0) top.1.published refl in
       let same = same_inner (changed_at qs rebuild (with_root word) root) top.0 r stands published in
@@ -160,13 +164,10 @@ module _ (pairs : List Pair) (words : ℕ) (opens : CanOpen pairs words) where
       (Finish caller node keys) h (status_same (finished_word keys)) cut base row root r there is
       published
   cut_step log (Root caller rebuild word rows) h cut base row root r there is published =
-      let t = state_of pairs words log in
-      let qs = with_inners t.pieces rows in
+      let t = state_of pairs words log in let qs = with_inners t.pieces rows in
       let s = sound (start pairs words) log (sound_start pairs words) h.0 in
-      let it = changed_at-some qs rebuild base (with_root word) (Rebuild row) there in
-      ⊎_elim
-      (λ same.
-      old_root log (Root caller rebuild word rows) h cut base row root r there is published
+      let it = changed_at-some qs rebuild base (with_root word) (Rebuild row) there in ⊎_elim
+      (λ same. old_root log (Root caller rebuild word rows) h cut base row root r there is published
       (has_rooted root_in unset_word root_rare t caller rebuild word rows h.1 s base row.root
       (root_set row.root root is) (it.0, it.1, ap root_in (sym same))))
       (λ new.

@@ -1,9 +1,9 @@
 -- Words that aren't Unset. Serves the laws on slots that stay set.
 use Rattle.std.proofs.Common.{◌≡◌, ◌≢◌, ℕ, ◌*◌, ◌+◌, Some, sym, ap, ◌∙◌, arith}
 use Rattle.std.proofs.lemmas.Option.{same_Some}
-use Rattle.ist_core.specs.Installing.{HasRoomFor, nothing, same_key}
-use Rattle.ist_core.specs.References.{ChangeAt, Ref, Unset, ref_of, unset_word, word_of}
-use Rattle.ist_core.specs.Snapshots.{Snapshot}
+use Rattle.ist_core.specs.TreeTerms.{HasRoomFor, nothing, same_key}
+use Rattle.ist_core.specs.WordTerms.{ChangeAt, Ref, Unset, ref_of, unset_word, word_of}
+use Rattle.ist_core.specs.LogTerms.{Snapshot}
 use Rattle.ist_core.proofs.ReferenceLemmas.{ref_of-unset}
 
 -- a word that reads as anything but Unset isn't Unset

@@ -2,9 +2,7 @@
 use Rattle.std.proofs.Common.{◌≡◌, ◌∙◌, ℕ, zero, suc, ◌+◌, ◌<◌, ◌≤◌, max, List, [], ◌∷◌, ◌++◌, map, refl, sym, ap, arith}
 use Rattle.std.proofs.lemmas.List.Sums.{sum-map}
 use Rattle.std.specs.List.{sum, sum_by, flat_map, fold, range_with_len}
-use Rattle.ist_core.specs.Arithmetic.{degree, part_len, part_lens}
-use Rattle.ist_core.specs.RowLayout.{inner_words}
-use Rattle.ist_core.specs.Shapes.{ideal_words_within, ideal_words, shape_within, shape, depth_within, depth}
+use Rattle.ist_core.specs.WordTerms.{degree, part_len, part_lens, inner_words, ideal_words_within, ideal_words, shape_within, shape, depth_within, depth}
 use Rattle.ist_core.proofs.PartLemmas.{part_len-lt}
 
 -- two functions give the same for each part of n keys
@@ -19,8 +17,7 @@ map_parts_same {A} f g n same = each (range_with_len 0 (degree n))
   where
     each : (js : List ℕ) → map f (map (part_len n) js) ≡ map g (map (part_len n) js)
     each [] = refl
-    each (j ∷ js) =
-        ap (λ x. x ∷ map f (map (part_len n) js)) (same j)
+    each (j ∷ js) = ap (λ x. x ∷ map f (map (part_len n) js)) (same j)
         ∙ ap (λ xs. g (part_len n j) ∷ xs) (each js)
 
 -- functions that agree on the parts have the same sum over them
@@ -37,8 +34,7 @@ join_parts_same f g n same = each (range_with_len 0 (degree n))
   where
     each : (js : List ℕ) → flat_map f (map (part_len n) js) ≡ flat_map g (map (part_len n) js)
     each [] = refl
-    each (j ∷ js) =
-        ap (λ xs. xs ++ flat_map f (map (part_len n) js)) (same j)
+    each (j ∷ js) = ap (λ xs. xs ++ flat_map f (map (part_len n) js)) (same j)
         ∙ ap (λ xs. g (part_len n j) ++ xs) (each js)
 
 -- ---- one level per key is enough: fuel above the size changes nothing
@@ -64,8 +60,7 @@ shape_enough f g zero h k = refl
 shape_enough f g (suc zero) h k = refl
 shape_enough zero g (suc (suc m)) h k = absurd (omega arith)
 shape_enough (suc f) zero (suc (suc m)) h k = absurd (omega arith)
-shape_enough (suc f) (suc g) (suc (suc m)) h k =
-    ap (λ xs. inner_words (degree (suc (suc m))) ∷ xs)
+shape_enough (suc f) (suc g) (suc (suc m)) h k = ap (λ xs. inner_words (degree (suc (suc m))) ∷ xs)
     (join_parts_same (shape_within f) (shape_within g) (suc (suc m))
     (λ j. let l = part_len-lt (suc (suc m)) j (omega arith) in
     shape_enough f g (part_len (suc (suc m)) j) (omega arith) (omega arith)))
@@ -77,8 +72,7 @@ depth_enough f g zero h k = refl
 depth_enough f g (suc zero) h k = refl
 depth_enough zero g (suc (suc m)) h k = absurd (omega arith)
 depth_enough (suc f) zero (suc (suc m)) h k = absurd (omega arith)
-depth_enough (suc f) (suc g) (suc (suc m)) h k =
-    ap (λ xs. suc (fold max 0 xs))
+depth_enough (suc f) (suc g) (suc (suc m)) h k = ap (λ xs. suc (fold max 0 xs))
     (map_parts_same (depth_within f) (depth_within g) (suc (suc m))
     (λ j. let l = part_len-lt (suc (suc m)) j (omega arith) in
     depth_enough f g (part_len (suc (suc m)) j) (omega arith) (omega arith)))
@@ -91,11 +85,9 @@ pub ideal_words_many : (n : ℕ) → 2 ≤ n
 unfolding ideal_words ideal_words_within
 ideal_words_many zero h = absurd (omega arith)
 ideal_words_many (suc zero) h = absurd (omega arith)
-ideal_words_many (suc (suc m)) h =
-    ap (λ x. inner_words (degree (suc (suc m))) + x)
+ideal_words_many (suc (suc m)) h = ap (λ x. inner_words (degree (suc (suc m))) + x)
     (sum_parts_same (ideal_words_within (suc m)) ideal_words (suc (suc m))
-    (λ j. let k = part_len (suc (suc m)) j in
-    let l = part_len-lt (suc (suc m)) j h in
+    (λ j. let k = part_len (suc (suc m)) j in let l = part_len-lt (suc (suc m)) j h in
     ideal_words_enough (suc m) k k (omega arith) (omega arith)))
 
 -- an ideal tree of no key has no inner row
@@ -115,16 +107,13 @@ shape_few (suc zero) h = shape_one
 shape_few (suc (suc n)) h = absurd (omega arith)
 
 -- the shape of a node is its row's length and the shapes of its parts
-pub shape_many : (n : ℕ) → 2 ≤ n
-    → shape n ≡ inner_words (degree n) ∷ flat_map shape (part_lens n)
+pub shape_many : (n : ℕ) → 2 ≤ n → shape n ≡ inner_words (degree n) ∷ flat_map shape (part_lens n)
 unfolding shape shape_within
 shape_many zero h = absurd (omega arith)
 shape_many (suc zero) h = absurd (omega arith)
-shape_many (suc (suc m)) h =
-    ap (λ xs. inner_words (degree (suc (suc m))) ∷ xs)
+shape_many (suc (suc m)) h = ap (λ xs. inner_words (degree (suc (suc m))) ∷ xs)
     (join_parts_same (shape_within (suc m)) shape (suc (suc m))
-    (λ j. let k = part_len (suc (suc m)) j in
-    let l = part_len-lt (suc (suc m)) j h in
+    (λ j. let k = part_len (suc (suc m)) j in let l = part_len-lt (suc (suc m)) j h in
     shape_enough (suc m) k k (omega arith) (omega arith)))
 
 -- the depth of a node is one more than the depth of its deepest part
@@ -132,9 +121,7 @@ pub depth_many : (n : ℕ) → 2 ≤ n → depth n ≡ suc (fold max 0 (map dept
 unfolding depth depth_within
 depth_many zero h = absurd (omega arith)
 depth_many (suc zero) h = absurd (omega arith)
-depth_many (suc (suc m)) h =
-    ap (λ xs. suc (fold max 0 xs))
+depth_many (suc (suc m)) h = ap (λ xs. suc (fold max 0 xs))
     (map_parts_same (depth_within (suc m)) depth (suc (suc m))
-    (λ j. let k = part_len (suc (suc m)) j in
-    let l = part_len-lt (suc (suc m)) j h in
+    (λ j. let k = part_len (suc (suc m)) j in let l = part_len-lt (suc (suc m)) j h in
     depth_enough (suc m) k k (omega arith) (omega arith)))

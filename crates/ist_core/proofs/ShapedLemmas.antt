@@ -1,37 +1,15 @@
 -- The conjunct `shaped`: an inner row has `degree` slots and one key less. Serves the image law.
-use Rattle.std.proofs.Common.{◌≡◌, ◌≤◌, ℕ, zero, suc, ◌+◌, List, [], ◌∷◌, length, replicate, Some, refl, sym, ap, ◌∙◌, subst, arith}
+use Rattle.std.proofs.Common.{◌≡◌, ◌≤◌, ℕ, zero, suc, List, [], ◌∷◌, length, replicate, Some, refl, sym, ap, ◌∙◌, subst, arith}
 use Rattle.std.specs.List.{flat_map}
-use Rattle.ist_core.specs.declared.pairs.Pair.{Pair}
-use Rattle.ist_core.specs.declared.lists.Row.{Row}
-use Rattle.ist_core.specs.declared.states.InnerRow.{InnerRow}
-use Rattle.ist_core.specs.declared.states.LeafRow.{LeafRow}
-use Rattle.ist_core.specs.declared.states.ChangeRow.{ChangeRow}
-use Rattle.ist_core.specs.declared.events.Event.{Event}
-use Rattle.ist_core.specs.Arithmetic.{degree}
-use Rattle.ist_core.specs.RowLayout.{first_row}
-use Rattle.ist_core.specs.References.{Ref, unset_word}
-use Rattle.ist_core.specs.Statuses.{open_word}
-use Rattle.ist_core.specs.Elements.{Among, Each}
+use Rattle.ist_core.specs.Types.{Pair, Row, InnerRow, LeafRow, ChangeRow, Event}
+use Rattle.ist_core.specs.WordTerms.{degree, first_row, Ref, unset_word, open_word, parts, Pieces, Piece, Leaf, Inner, with_inners, top_row, start, placed_parts, rows_within, rows_from, IsTop, IsIdeal, AreIdeal, of_none, of_one, of_more, no_part, one_part}
+use Rattle.ist_core.specs.LogTerms.{Among, Each, Snapshot, bases_of, Log, state, Enabled, EachEnabled, state_of}
 use Rattle.ist_core.specs.Naming.{HasDegree}
-use Rattle.ist_core.specs.Parts.{parts}
-use Rattle.ist_core.specs.Pieces.{Pieces, Piece, Leaf, Inner, with_inners}
-use Rattle.ist_core.specs.Snapshots.{Snapshot, bases_of}
-use Rattle.ist_core.specs.StartLayout.{top_row, start, placed_parts, rows_within, rows_from}
-use Rattle.ist_core.specs.Leaves.{PlacedLeaf}
-use Rattle.ist_core.specs.Ideals.{IsTop, IsIdeal, AreIdeal, of_none, of_one, of_more, no_part, one_part}
-use Rattle.ist_core.specs.Building.{IsRoot, root_whole, root_top}
-use Rattle.ist_core.specs.Logs.{Log, state}
-use Rattle.ist_core.specs.Installing.{FitsKind}
-use Rattle.ist_core.specs.Enabled.{Enabled}
-use Rattle.ist_core.specs.Lawful.{EachEnabled, state_of}
-use Rattle.ist_core.specs.Growing.{Grows, leaf_stays, inner_grows, change_grows, rebuild_grows}
-use Rattle.ist_core.proofs.ElementLemmas.{each_append, each-among}
-use Rattle.ist_core.proofs.PieceLemmas.{among-pieces_of}
+use Rattle.ist_core.specs.TreeTerms.{PlacedLeaf, IsRoot, root_whole, root_top, FitsKind, Grows, leaf_stays, inner_grows, change_grows, rebuild_grows}
+use Rattle.ist_core.proofs.OptionLemmas.{each_append, each-among, among-pieces_of}
 use Rattle.ist_core.proofs.SoundLemmas.{sound}
-use Rattle.ist_core.proofs.StartLemmas.{sound_start}
+use Rattle.ist_core.proofs.StepLemmas.{sound_start, known, IsInstalledWith, installed_has}
 use Rattle.ist_core.proofs.LayoutLemmas.{keys_of_parts, length-parts, slots_of-top_row}
-use Rattle.ist_core.proofs.StepLemmas.{known}
-use Rattle.ist_core.proofs.AddingLemmas.{IsInstalledWith, installed_has}
 use Rattle.ist_core.proofs.BornLemmas.{Born, by_install, by_root, by_place, Comes, from_old, from_born, comes}
 
 -- the row has slots and keys as its degree says, if it is an inner row
@@ -42,11 +20,7 @@ IsShaped _ = Unit {0}
 -- growing keeps the shape
 pub grows_shaped : (p q : Piece) → Grows p q → IsShaped p → IsShaped q
 grows_shaped _ _ leaf_stays h = tt
-grows_shaped _ _ (inner_grows {old = r} {new = s} g) h = record {
-  keys = ap (λ ks. length ks + 1) g.keys ∙ h.keys ∙ sym g.degree;
-  slots = g.slots ∙ h.slots ∙
-      sym g.degree;
-}
+grows_shaped _ _ (inner_grows {old = r} {new = s} g) h = grind arith
 grows_shaped _ _ (change_grows g) h = tt
 grows_shaped _ _ (rebuild_grows g) h = tt
 
@@ -55,8 +29,7 @@ grows_shaped _ _ (rebuild_grows g) h = tt
 installed_shaped : (first : Snapshot) (log : Log) (at : ℕ) (change : ChangeRow) (fresh : List Row)
     (fits : FitsKind first log change fresh) (base : ℕ) (p : Piece)
     → IsInstalledWith first log at change fresh fits base p → IsShaped p
-installed_shaped = installed_has IsShaped (λ r. tt) (λ r. tt)
-    (λ key left right. record { keys = refl; slots = refl }) (λ r rootless undrawn. tt)
+installed_shaped = grind (arith, installed_has)
 
 -- there is an open inner row of this shape at the base
 pub record StandsShaped (ps : Pieces) (base : ℕ) : Type 0 where
@@ -67,8 +40,7 @@ pub record StandsShaped (ps : Pieces) (base : ℕ) : Type 0 where
 
 -- there are as many slots over parts as parts
 slots_of_parts : (ps : Pieces) (words : List ℕ) (following : List (List PlacedLeaf)) (above : ℕ)
-    (rows : List ℕ)
-    → AreIdeal ps words following above rows → length words ≡ length following
+    (rows : List ℕ) → AreIdeal ps words following above rows → length words ≡ length following
 slots_of_parts ps _ _ above _ no_part = refl
 slots_of_parts ps _ _ above _ (one_part {words = words} {rest = rest} {following = following} ref e first
     more) = let rest_same = slots_of_parts ps words following above rest more in omega arith
@@ -76,18 +48,12 @@ slots_of_parts ps _ _ above _ (one_part {words = words} {rest = rest} {following
 -- the top row of an ideal subtree is shaped, if it has one slot for each part
 top_shaped : (ps : Pieces) (base : ℕ) (r : InnerRow) (leaves : List PlacedLeaf) (above : ℕ)
     → IsTop ps base r leaves above → length r.slots ≡ degree (length leaves) → HasDegree r
-top_shaped ps base r leaves above top slots =
-    record {
-      keys = ap (λ ks. length ks + 1) top.keys ∙ keys_of_parts (λ leaf. leaf.row.key) leaves top.two
-          ∙ sym top.degree;
-      slots = slots ∙ sym top.degree;
-    }
+top_shaped ps base r leaves above top slots = grind (arith, keys_of_parts)
 
 mutual
   -- each inner row of an ideal subtree is shaped
   pub ideal_shaped : (ps : Pieces) (ref : Ref) (leaves : List PlacedLeaf) (above : ℕ)
-      (rows : List ℕ)
-      → IsIdeal ps ref leaves above rows → Each (StandsShaped ps) rows
+      (rows : List ℕ) → IsIdeal ps ref leaves above rows → Each (StandsShaped ps) rows
   ideal_shaped ps _ _ _ _ of_none = tt
   ideal_shaped ps _ _ _ _ (of_one same e) = tt
   ideal_shaped ps _ _ above _ (of_more {base = base} {leaves = leaves} {rows = rows} r top below) = (
@@ -102,8 +68,7 @@ mutual
   )
 
   parts_shaped : (ps : Pieces) (words : List ℕ) (following : List (List PlacedLeaf)) (above : ℕ)
-      (rows : List ℕ)
-      → AreIdeal ps words following above rows → Each (StandsShaped ps) rows
+      (rows : List ℕ) → AreIdeal ps words following above rows → Each (StandsShaped ps) rows
   parts_shaped ps _ _ _ _ no_part = tt
   parts_shaped ps _ _ above _ (one_part {words = words} {here = here} {rest = rest} {part = part}
       {following = following} ref e first more) =
@@ -117,8 +82,7 @@ length_unset (suc n) = let rest = length_unset n in omega arith
 -- each inner row of a root is shaped
 pub root_shaped : (ps : Pieces) (word k : ℕ) (leaves : List PlacedLeaf) (target : ℕ) (rows : List ℕ)
     → IsRoot ps word k leaves target rows → Each (StandsShaped ps) rows
-root_shaped ps word k leaves target rows (root_whole ref few e ideal) = ideal_shaped ps ref leaves
-    target rows ideal
+root_shaped ps word k leaves target rows (root_whole ref few e ideal) = grind (arith, ideal_shaped)
 root_shaped ps word k leaves target rows (root_top base row many e top unset one) =
     subst (λ bs. Each (StandsShaped ps) bs) (sym one) (
       record {
@@ -133,8 +97,7 @@ root_shaped ps word k leaves target rows (root_top base row many e top unset one
 
 tree_shaped : (ps : Pieces) (rows : List ℕ) (base : ℕ) (p : Piece) → Each (StandsShaped ps) rows
     → Among base rows → ps base ≡ Some p → IsShaped p
-tree_shaped ps rows base p all i e = let it = each-among (StandsShaped ps) base rows all i in known
-    IsShaped (ps base) p (Inner it.row) e it.published it.shaped
+tree_shaped ps rows base p all i e = grind (arith, each-among, known)
 
 -- each row that an event publishes has its shape
 born_shaped : (first : Snapshot) (log : Log) (event : Event) (base : ℕ) (p : Piece)
@@ -146,9 +109,7 @@ born_shaped first log _ base p can (by_root {word = word} {rows = rows} i e) =
     (root_shaped (with_inners (state first log).pieces rows) word can.k can.leaves
     can.row.target (bases_of rows) can.root) i e
 born_shaped first log _ base p can (by_place {rows = rows} i e) =
-    tree_shaped (with_inners (state first log).pieces rows) (bases_of rows) base p
-    (ideal_shaped (with_inners (state first log).pieces rows) can.ref can.part can.root
-    (bases_of rows) can.ideal) i e
+    grind (arith, tree_shaped, ideal_shaped)
 
 -- ---- a new table
 

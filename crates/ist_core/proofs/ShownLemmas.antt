@@ -1,31 +1,22 @@
 -- Which words a state shows: one at each place, which is the image's word and in no held or lost
 -- row. Serves what the laws and the rule say of words.
-use Rattle.std.proofs.Common.{List, Some, None, ap, arith, refl, slice_get, sym, subst, inl, inr, ℕ, ⊎_elim, ◌+◌, ◌<◌, ◌∙◌, ◌≡◌, ◌≤◌, ◌⊎◌}
-use Rattle.ist_core.specs.declared.pairs.Pair.{Pair}
-use Rattle.ist_core.specs.Images.{IsImage}
-use Rattle.ist_core.specs.Lawful.{EachEnabled, state_of}
-use Rattle.ist_core.specs.Logs.{Log}
-use Rattle.ist_core.specs.Pieces.{Piece, size_of, words_of}
-use Rattle.ist_core.specs.RowLayout.{anchor_slot_place, anchor_status_place, callers_place, first_row, next_place}
-use Rattle.ist_core.specs.Rows.{IsSetAside}
-use Rattle.ist_core.specs.Shown.{IsShown, shown_callers, shown_free, shown_next, shown_row, shown_slot, shown_status}
-use Rattle.ist_core.specs.Snapshots.{Snapshot}
-use Rattle.ist_core.specs.StartLayout.{start}
-use Rattle.ist_core.specs.Statuses.{open_word}
+use Rattle.std.proofs.Common.{List, Some, None, ap, arith, refl, slice_get, sym, subst, inl, inr, ℕ, ⊎_elim, ◌+◌, ◌<◌, ◌≡◌, ◌≤◌, ◌⊎◌}
+use Rattle.ist_core.specs.Types.{Pair}
+use Rattle.ist_core.specs.WordTerms.{IsImage, Piece, size_of, words_of, anchor_slot_place, anchor_status_place, callers_place, first_row, next_place, start, open_word}
+use Rattle.ist_core.specs.LogTerms.{EachEnabled, state_of, Log, IsShown, shown_callers, shown_free, shown_next, shown_row, shown_slot, shown_status, Snapshot}
+use Rattle.ist_core.specs.TreeTerms.{IsSetAside}
 use Rattle.ist_core.proofs.ImageLemmas.{get_below}
 use Rattle.ist_core.proofs.PlaceLemmas.{claimed_apart, claimed_set_aside, claimed_within, next_after_fixed, placed}
 use Rattle.ist_core.proofs.OptionLemmas.{same_value, no_value}
 
 -- the image has each word that is shown
 pub image_shows : (t : Snapshot) (image : List ℕ) → IsImage t image → {place word : ℕ}
-    → IsShown t place word
-    → slice_get image place ≡ Some word
+    → IsShown t place word → slice_get image place ≡ Some word
 image_shows t image is shown_next = is.next
 image_shows t image is shown_callers = is.callers
 image_shows t image is shown_status = is.anchor_status
 image_shows t image is shown_slot = is.anchor_slot
-image_shows t image is (shown_row base p k e at) =
-    is.rows base p e k (get_below (words_of p) k _ at) ∙ at
+image_shows t image is (shown_row base p k e at) = grind (arith, get_below)
 image_shows t image is (shown_free low high) = is.free _ low high
 
 -- a word of a published row is shown at its place
@@ -43,8 +34,7 @@ shown_in_anchor {t = t} {word = word} at is =
 -- ---- one word at a place
 
 same_get : (xs ys : List ℕ) (j k w v : ℕ) → xs ≡ ys → j ≡ k → slice_get xs j ≡ Some w
-    → slice_get ys k ≡ Some v
-    → w ≡ v
+    → slice_get ys k ≡ Some v → w ≡ v
 same_get xs ys j k w v e f g h = cc
 
 module _ (pairs : List Pair) (words : ℕ) (log : Log)
@@ -72,13 +62,9 @@ module _ (pairs : List Pair) (words : ℕ) (log : Log)
       at shown_status is = let low = inside in absurd (omega arith)
       at shown_slot is = let low = inside in absurd (omega arith)
       at (shown_free far near) is = let end = high in let short = less in absurd (omega arith)
-      at (shown_row other q j f g) is =
-          let short = get_below (words_of q) j _ g in
-          let long = less in
-          ⊎_elim
-          (λ one.
-          let base_is = one.0 in
-          same_get (words_of q) (words_of p) j k _ w
+      at (shown_row other q j f g) is = let short = get_below (words_of q) j _ g in
+          let long = less in ⊎_elim
+          (λ one. let base_is = one.0 in same_get (words_of q) (words_of p) j k _ w
           (ap words_of
           (same_value ((state_of pairs words log).pieces base) q p
           (subst (λ b. (state_of pairs words log).pieces b ≡ Some q) base_is f) e))
@@ -94,8 +80,7 @@ module _ (pairs : List Pair) (words : ℕ) (log : Log)
   fixed_row other j q f =
       let inside = claimed_within pairs words log other (size_of q) enabled
       ((placed pairs words log enabled).published other q f) in
-      let low = inside.after_fixed in
-      omega arith
+      let low = inside.after_fixed in omega arith
 
   -- the word that is shown at `next_place` is the first free place
   pub next_word : (place v : ℕ) → IsShown (state_of pairs words log) place v → place ≡ next_place
@@ -104,26 +89,19 @@ module _ (pairs : List Pair) (words : ℕ) (log : Log)
   next_word _ _ shown_callers is = absurd (omega arith)
   next_word _ _ shown_status is = absurd (omega arith)
   next_word _ _ shown_slot is = absurd (omega arith)
-  next_word _ _ (shown_free far near) is =
-      let low = next_after_fixed pairs words log enabled in
-      absurd (omega arith)
-  next_word _ _ (shown_row other q j f g) is =
-      let low = fixed_row other j q f in
+  next_word _ _ (shown_free far near) is = grind (arith, next_after_fixed)
+  next_word _ _ (shown_row other q j f g) is = let low = fixed_row other j q f in
       absurd (omega arith)
 
   -- the word that is shown at the anchor's place is the anchor's
   pub anchor_word : (place v : ℕ) → IsShown (state_of pairs words log) place v
-      → place ≡ anchor_slot_place
-      → v ≡ (state_of pairs words log).anchor
+      → place ≡ anchor_slot_place → v ≡ (state_of pairs words log).anchor
   anchor_word _ _ shown_next is = absurd (omega arith)
   anchor_word _ _ shown_callers is = absurd (omega arith)
   anchor_word _ _ shown_status is = absurd (omega arith)
   anchor_word _ _ shown_slot is = refl
-  anchor_word _ _ (shown_free far near) is =
-      let low = next_after_fixed pairs words log enabled in
-      absurd (omega arith)
-  anchor_word _ _ (shown_row other q j f g) is =
-      let low = fixed_row other j q f in
+  anchor_word _ _ (shown_free far near) is = grind (arith, next_after_fixed)
+  anchor_word _ _ (shown_row other q j f g) is = let low = fixed_row other j q f in
       absurd (omega arith)
 
   -- the word that is shown at the callers' place is their number
@@ -133,51 +111,33 @@ module _ (pairs : List Pair) (words : ℕ) (log : Log)
   callers_word _ _ shown_callers is = refl
   callers_word _ _ shown_status is = absurd (omega arith)
   callers_word _ _ shown_slot is = absurd (omega arith)
-  callers_word _ _ (shown_free far near) is =
-      let low = next_after_fixed pairs words log enabled in
-      absurd (omega arith)
-  callers_word _ _ (shown_row other q j f g) is =
-      let low = fixed_row other j q f in
+  callers_word _ _ (shown_free far near) is = grind (arith, next_after_fixed)
+  callers_word _ _ (shown_row other q j f g) is = let low = fixed_row other j q f in
       absurd (omega arith)
 
   -- the word that is shown at the anchor's status is the open word
   status_word : (place v : ℕ) → IsShown (state_of pairs words log) place v
-      → place ≡ anchor_status_place
-      → v ≡ open_word
+      → place ≡ anchor_status_place → v ≡ open_word
   status_word _ _ shown_next is = absurd (omega arith)
   status_word _ _ shown_callers is = absurd (omega arith)
   status_word _ _ shown_status is = refl
   status_word _ _ shown_slot is = absurd (omega arith)
-  status_word _ _ (shown_free far near) is =
-      let low = next_after_fixed pairs words log enabled in
-      absurd (omega arith)
-  status_word _ _ (shown_row other q j f g) is =
-      let low = fixed_row other j q f in
+  status_word _ _ (shown_free far near) is = grind (arith, next_after_fixed)
+  status_word _ _ (shown_row other q j f g) is = let low = fixed_row other j q f in
       absurd (omega arith)
 
   -- a free word is 0
   free_word : (place v : ℕ) → IsShown (state_of pairs words log) place v
-      → (state_of pairs words log).next ≤ place
-      → v ≡ 0
-  free_word _ _ shown_next far =
-      let low = next_after_fixed pairs words log enabled in
-      absurd (omega arith)
-  free_word _ _ shown_callers far =
-      let low = next_after_fixed pairs words log enabled in
-      absurd (omega arith)
-  free_word _ _ shown_status far =
-      let low = next_after_fixed pairs words log enabled in
-      absurd (omega arith)
-  free_word _ _ shown_slot far =
-      let low = next_after_fixed pairs words log enabled in
-      absurd (omega arith)
+      → (state_of pairs words log).next ≤ place → v ≡ 0
+  free_word _ _ shown_next far = grind (arith, next_after_fixed)
+  free_word _ _ shown_callers far = grind (arith, next_after_fixed)
+  free_word _ _ shown_status far = grind (arith, next_after_fixed)
+  free_word _ _ shown_slot far = grind (arith, next_after_fixed)
   free_word _ _ (shown_free far near) _ = refl
-  free_word _ _ (shown_row other q j f g) far =
-      let short = get_below (words_of q) j _ g in
+  free_word _ _ (shown_row other q j f g) far = let short = get_below (words_of q) j _ g in
       let inside = claimed_within pairs words log other (size_of q) enabled
       ((placed pairs words log enabled).published other q f) in
-      let high = inside.below_next in
-      absurd (omega arith)
+      let high = inside.below_next in absurd (omega arith)
 
   -- a place shows one word
   pub one_word : (place word other : ℕ) → IsShown (state_of pairs words log) place word
@@ -212,9 +172,7 @@ module _ (pairs : List Pair) (words : ℕ) (log : Log)
       at shown_status = let here = low in inl (omega arith)
       at shown_slot = let here = low in inl (omega arith)
       at (shown_free far near) = let end = high in inr (omega arith)
-      at (shown_row other p k e read) =
-          let inside = get_below (words_of p) k _ read in
-          ⊎_elim
+      at (shown_row other p k e read) = let inside = get_below (words_of p) k _ read in ⊎_elim
           (λ same. absurd (no_value ((state_of pairs words log).pieces base) p none
           (subst (λ b. (state_of pairs words log).pieces b ≡ Some p) same.0 e)))
           (λ apart. ⊎_elim (λ l. inl (omega arith)) (λ l. inr (omega arith)) apart.1)

@@ -1,14 +1,10 @@
 -- A row keeps its length, and each reserved row has a word. Serves `laws.rows_are_known`.
-use Rattle.std.proofs.Common.{◌≡◌, ℕ, zero, suc, ◌-◌, ◌<◌, List, [], ◌∷◌, ◌++◌, length, slice_set, Option, Some, None, refl, ap, arith, length-append}
+use Rattle.std.proofs.Common.{◌≡◌, ℕ, zero, suc, ◌-◌, ◌<◌, List, [], ◌∷◌, ◌++◌, length, slice_set, Option, Some, None, refl, arith, length-append}
 use Rattle.std.proofs.lemmas.List.{length-set, take-append-drop}
 use Rattle.std.specs.List.{flat_map}
-use Rattle.ist_core.specs.Arithmetic.{degree, part_len, part_lens}
-use Rattle.ist_core.specs.Shapes.{shape, shape_within}
-use Rattle.ist_core.specs.Elements.{Among, Each}
-use Rattle.ist_core.specs.Pieces.{Piece, Leaf, Inner, Change, Rebuild, size_of, inner_of, with_slot, with_status, with_decision, with_root, counted, drawn}
-use Rattle.ist_core.specs.Snapshots.{Snapshot}
-use Rattle.ist_core.specs.Fairness.{IsFair, AreBuilds, no_build, last_build, stuck_build, IsBuild, build_whole, build_top, build_part, IsMerge, at_end, from_left, from_right, spare_sizes}
-use Rattle.ist_core.proofs.ElementLemmas.{each_append, each-append, each-among}
+use Rattle.ist_core.specs.WordTerms.{degree, part_len, part_lens, shape, shape_within, Piece, Leaf, Inner, Change, Rebuild, size_of, inner_of, with_slot, with_status, with_decision, with_root, counted, drawn}
+use Rattle.ist_core.specs.LogTerms.{Among, Each, Snapshot, IsFair, AreBuilds, no_build, last_build, stuck_build, IsBuild, build_whole, build_top, build_part, IsMerge, at_end, from_left, from_right, spare_sizes}
+use Rattle.ist_core.proofs.OptionLemmas.{each_append, each-append, each-among}
 
 -- ---- changed rows
 
@@ -76,10 +72,7 @@ size_of-inner_of [] p e = absurd (cc)
 size_of-inner_of (a ∷ []) p e = absurd (cc)
 size_of-inner_of (a ∷ b ∷ []) p e = absurd (cc)
 size_of-inner_of (a ∷ b ∷ c ∷ []) p e = absurd (cc)
-size_of-inner_of (status ∷ count ∷ degree ∷ size ∷ rest) p e =
-    let read = ap size_in e in
-    let whole = ap length (take-append-drop (degree - 1) rest) in
-    omega (arith, read, whole)
+size_of-inner_of (status ∷ count ∷ degree ∷ size ∷ rest) p e = grind (arith, take-append-drop)
 
 -- ---- reserved sizes
 
@@ -99,8 +92,7 @@ shape_positive fuel (suc zero) = tt
 shape_positive zero (suc (suc n)) = tt
 shape_positive (suc fuel) (suc (suc n)) = (
   omega arith,
-  flat_positive (shape_within fuel) (λ k. shape_positive fuel k)
-      (part_lens (suc (suc n))),
+  flat_positive (shape_within fuel) (λ k. shape_positive fuel k) (part_lens (suc (suc n))),
 )
 
 build_positive : (k : ℕ) (sizes : List ℕ) → IsBuild k sizes → Positive sizes
@@ -116,8 +108,7 @@ builds_positive t _ (last_build {sizes = sizes} rest h) =
 builds_positive t _ (stuck_build {sizes = sizes} {more = more} s h) =
     let whole = build_positive s.building.k (sizes ++ s.next_size ∷ s.rest) s.building.build in
     each_append (λ size. 0 < size) sizes more
-    (each-append (λ size. 0 < size) sizes (s.next_size ∷ s.rest) whole).0
-    (builds_positive t more h)
+    (each-append (λ size. 0 < size) sizes (s.next_size ∷ s.rest) whole).0 (builds_positive t more h)
 
 merge_positive : (sizes left right : List ℕ) → IsMerge sizes left right → Positive left
     → Positive right → Positive sizes
@@ -138,5 +129,4 @@ spare_positive (size ∷ sizes) h = (
 
 -- fair sizes are above 0
 pub fair_positive : (t : Snapshot) (sizes : List ℕ) → IsFair t sizes → Positive sizes
-fair_positive t sizes f = merge_positive sizes f.building f.spare f.merge
-    (builds_positive t f.building f.builds) (spare_positive f.spare f.few)
+fair_positive t sizes f = grind (arith, merge_positive, builds_positive, spare_positive)

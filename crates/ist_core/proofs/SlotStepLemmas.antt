@@ -1,29 +1,15 @@
 -- What each event leaves in the slots and in the rows of changes. Serves the frozen-slot law and
 -- the one-parent law.
-use Rattle.std.proofs.Common.{◌≡◌, ◌≢◌, ℕ, ◌+◌, ◌⊎◌, ◌==◌, if◌then◌else◌, Bool, true, false, List, ◌∷◌, Some, None, option_map, refl, sym, ap, ◌∙◌, subst, arith}
+use Rattle.std.proofs.Common.{◌≡◌, ◌≢◌, ℕ, ◌+◌, ◌⊎◌, ◌==◌, if◌then◌else◌, true, false, List, ◌∷◌, Some, None, option_map, refl, sym, ap, ◌∙◌, subst, arith}
 use Rattle.std.proofs.lemmas.Bool.Decides.{nat_tests}
-use Rattle.ist_core.specs.declared.lists.Row.{Row}
-use Rattle.ist_core.specs.declared.states.InnerRow.{InnerRow}
-use Rattle.ist_core.specs.declared.states.ChangeRow.{ChangeRow}
-use Rattle.ist_core.specs.declared.events.Event.{Event}
-use Rattle.ist_core.specs.declared.events.Event.TheVariants.{Install, Decide, Resolve, Count, Mark, Finish, Root, Draw, Place}
-use Rattle.ist_core.specs.RowLayout.{anchor}
-use Rattle.ist_core.specs.References.{ChangeAt, word_of, unset_word}
-use Rattle.ist_core.specs.Statuses.{marked_word, finished_word}
-use Rattle.ist_core.specs.Pieces.{Pieces, Piece, Inner, Change, row_at, with_inners, changed_at, with_slot, with_status, counted, with_decision, with_root, drawn}
-use Rattle.ist_core.specs.Snapshots.{Snapshot}
-use Rattle.ist_core.specs.After.{after, decision_word, side_of, resolved}
-use Rattle.ist_core.specs.Logs.{Log, state}
-use Rattle.ist_core.specs.Slots.{SlotHolds, in_row}
-use Rattle.ist_core.specs.Installing.{CanInstall}
-use Rattle.ist_core.specs.Deciding.{CanResolve}
-use Rattle.ist_core.specs.Building.{CanPlace}
-use Rattle.ist_core.specs.Enabled.{Enabled}
+use Rattle.ist_core.specs.Types.{Row, InnerRow, ChangeRow, Event, Install, Decide, Resolve, Count, Mark, Finish, Root, Draw, Place}
+use Rattle.ist_core.specs.WordTerms.{anchor, ChangeAt, word_of, unset_word, marked_word, finished_word, Pieces, Piece, Inner, Change, row_at, with_inners, changed_at, with_slot, with_status, counted, with_decision, with_root, drawn, SlotHolds, in_row}
+use Rattle.ist_core.specs.LogTerms.{Snapshot, after, decision_word, side_of, resolved, Log, state, Enabled}
+use Rattle.ist_core.specs.TreeTerms.{CanInstall, CanResolve, CanPlace}
 use Rattle.ist_core.proofs.MoveLemmas.{HeldLieApart}
 use Rattle.ist_core.proofs.InstallLemmas.{with_installed}
-use Rattle.ist_core.proofs.AddingLemmas.{adds_install, adds-with_inners}
-use Rattle.ist_core.proofs.StepLemmas.{rows_resolved, rows_placed, holds_installed}
-use Rattle.ist_core.proofs.SlotLemmas.{slot_now, slot_written, slot_kept, no_row}
+use Rattle.ist_core.proofs.StepLemmas.{adds_install, adds-with_inners, rows_resolved, rows_placed, holds_installed}
+use Rattle.ist_core.proofs.RoomLemmas.{slot_now, slot_written, slot_kept, no_row}
 use Rattle.ist_core.proofs.NamingStepLemmas.{changed_at-fixed, installed_stands}
 
 -- ---- the events that write a slot
@@ -33,12 +19,7 @@ pub install_stands : (first : Snapshot) (log : Log) (caller base : ℕ) (rows : 
     (h : CanInstall first log caller base rows)
     → (after (state first log) (Install caller base rows)).pieces base ≡ Some (Change h.change)
 install_stands first log caller base rows h =
-    let t = state first log in
-    let qs = with_installed t.pieces base h.change h.fresh in
-    subst (λ xs. (after t (Install caller base xs)).pieces base ≡ Some (Change h.change))
-    (sym h.rows_are)
-    (changed_at-fixed qs h.change.node base (with_slot h.change.index (word_of (ChangeAt base)))
-    (Change h.change) (installed_stands t.pieces base h.change h.fresh) refl)
+    grind (arith, with_installed, changed_at-fixed, installed_stands)
 
 -- slot i of the node held the old word and now holds the new one; each other slot holds what it
 -- held
@@ -52,12 +33,10 @@ pub record WritesSlot (t u : Snapshot) (node i new old : ℕ) : Type 0 where
 -- an Install writes its change's slot: `from` becomes the change's word
 pub install_writes : (first : Snapshot) (log : Log) (caller base : ℕ) (rows : List Row)
     → (h : CanInstall first log caller base rows) → HeldLieApart (state first log)
-    → (state first log).pieces anchor ≡ None
-    → WritesSlot (state first log)
+    → (state first log).pieces anchor ≡ None → WritesSlot (state first log)
     (after (state first log) (Install caller base rows)) h.change.node h.change.index
     (word_of (ChangeAt base)) h.change.from
-install_writes first log caller base rows h sound free =
-    let t = state first log in
+install_writes first log caller base rows h sound free = let t = state first log in
     let qs = with_installed t.pieces base h.change h.fresh in
     let keeps = (adds_install first log caller base h.change h.fresh h.fits
     (holds_installed first log caller base rows h) sound).keeps in
@@ -78,8 +57,7 @@ pub resolve_writes : (t : Snapshot) (caller base : ℕ) → (h : CanResolve t ca
     → t.pieces anchor ≡ None
     → WritesSlot t (after t (Resolve caller base)) h.change.node h.change.index (side_of h.change)
     (word_of (ChangeAt base))
-resolve_writes t caller base h free =
-    let u = resolved t (Some h.change) in
+resolve_writes t caller base h free = let u = resolved t (Some h.change) in
     let old = word_of (ChangeAt base) in
     subst (λ x. WritesSlot t x h.change.node h.change.index (side_of h.change) old)
     (sym (rows_resolved t caller base h))
@@ -93,19 +71,14 @@ resolve_writes t caller base h free =
 
 -- writing a slot of another node leaves the anchor's word
 pub elsewhere : (node word old : ℕ) → node ≢ anchor → old ≡ (if node == anchor then word else old)
-elsewhere node word old ne = at (node == anchor) refl
-  where
-    at : (v : Bool) → (node == anchor) ≡ v → old ≡ (if v then word else old)
-    at true e = let same : node ≡ anchor = grind (arith, nat_tests) in absurd (ne same)
-    at false e = refl
+elsewhere node word old ne = grind (arith, nat_tests)
 
 -- a Place writes a slot of the root: Unset becomes its word
 pub place_writes : (t : Snapshot) (caller rebuild i word : ℕ) (rows : List Row)
     → (h : CanPlace t caller rebuild i word rows) → HeldLieApart t → t.pieces anchor ≡ None
     → WritesSlot t (after t (Place caller rebuild i word rows)) h.root i word unset_word
 place_writes t caller rebuild i word rows h sound free =
-    let u = after t (Place caller rebuild i word rows) in
-    let qs = with_inners t.pieces rows in
+    let u = after t (Place caller rebuild i word rows) in let qs = with_inners t.pieces rows in
     let keeps = (adds-with_inners t caller rows h.held sound).keeps in
     let here : SlotHolds t h.root i unset_word = in_row h.root_row h.root_published h.free in
     let same = elsewhere h.root word t.anchor
@@ -175,8 +148,7 @@ slot_stays first log (Finish caller node keys) h s none = slots_changed _ _ node
     (λ r. (record r { status = finished_word keys }, refl, refl))
 slot_stays first log (Draw caller rebuild part) h s none = slots_changed _ _ rebuild drawn refl refl
     (λ r. (r, refl, refl))
-slot_stays first log (Root caller rebuild word rows) h s none =
-    let t = state first log in
+slot_stays first log (Root caller rebuild word rows) h s none = let t = state first log in
     let keeps = (adds-with_inners t caller rows h.held s).keeps in
     slot_kept t (after t (Root caller rebuild word rows)) refl
     (λ base r e. inner_kept (with_inners t.pieces rows) rebuild (with_root word)
@@ -195,8 +167,7 @@ pub change_stays : (first : Snapshot) (log : Log) (event : Event) → Enabled fi
     → HeldLieApart (state first log) → IsNoDecide event → (at : ℕ) (r : ChangeRow)
     → (state first log).pieces at ≡ Some (Change r)
     → (state first (event ∷ log)).pieces at ≡ Some (Change r)
-change_stays first log (Install caller base rows) h s none at r e =
-    let t = state first log in
+change_stays first log (Install caller base rows) h s none at r e = let t = state first log in
     let qs = with_installed t.pieces base h.change h.fresh in
     let keeps = (adds_install first log caller base h.change h.fresh h.fits
     (holds_installed first log caller base rows h) s).keeps in
@@ -205,25 +176,13 @@ change_stays first log (Install caller base rows) h s none at r e =
     (Change r) (keeps at (Change r) e) refl)
 change_stays first log (Decide caller base said) h s none at r e = absurd none
 change_stays first log (Resolve caller base) h s none at r e =
-    let t = state first log in
-    subst (λ u. u.pieces at ≡ Some (Change r)) (sym (rows_resolved t caller base h))
-    (changed_at-fixed t.pieces h.change.node at (with_slot h.change.index (side_of h.change))
-    (Change r) e refl)
-change_stays first log (Count caller node) h s none at r e = changed_at-fixed
-    (state first log).pieces node at counted (Change r) e refl
-change_stays first log (Mark caller node) h s none at r e = changed_at-fixed
-    (state first log).pieces node at (with_status marked_word) (Change r) e refl
-change_stays first log (Finish caller node keys) h s none at r e = changed_at-fixed
-    (state first log).pieces node at (with_status (finished_word keys)) (Change r) e refl
-change_stays first log (Draw caller rebuild part) h s none at r e = changed_at-fixed
-    (state first log).pieces rebuild at drawn (Change r) e refl
+    grind (arith, rows_resolved, changed_at-fixed)
+change_stays first log (Count caller node) h s none at r e = grind (arith, changed_at-fixed)
+change_stays first log (Mark caller node) h s none at r e = grind (arith, changed_at-fixed)
+change_stays first log (Finish caller node keys) h s none at r e = grind (arith, changed_at-fixed)
+change_stays first log (Draw caller rebuild part) h s none at r e = grind (arith, changed_at-fixed)
 change_stays first log (Root caller rebuild word rows) h s none at r e =
-    let t = state first log in
-    changed_at-fixed (with_inners t.pieces rows) rebuild at (with_root word) (Change r)
-    ((adds-with_inners t caller rows h.held s).keeps at (Change r) e) refl
+    grind (arith, changed_at-fixed, adds-with_inners)
 change_stays first log (Place caller rebuild i word rows) h s none at r e =
-    let t = state first log in
-    subst (λ ps. ps at ≡ Some (Change r)) (sym (rows_placed t caller rebuild i word rows h))
-    (changed_at-fixed (with_inners t.pieces rows) h.root at (with_slot i word) (Change r)
-    ((adds-with_inners t caller rows h.held s).keeps at (Change r) e) refl)
+    grind (arith, rows_placed, changed_at-fixed, adds-with_inners)
 change_stays first log _ h s none at r e = e

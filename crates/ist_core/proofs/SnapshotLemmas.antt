@@ -1,11 +1,11 @@
 -- A state and the snapshot that it shows determine each other. Serves `laws.states_are_shown`.
-use Rattle.std.proofs.Common.{◌≡◌, ℕ, Option, Some, None, refl, sym, ◌∙◌}
+use Rattle.std.proofs.Common.{◌≡◌, ℕ, Option, Some, None, refl, arith}
 use Rattle.std.specs.Ordering.{nat_cmp}
 use Rattle.std.specs.Cmp.{nat_cmp_total}
 use Rattle.std.specs.FinMap as fin
-use Rattle.ist_core.specs.declared.states.State.{State}
-use Rattle.ist_core.specs.Pieces.{Piece, Leaf, Inner, Change, Rebuild, as_leaf, as_inner, as_change, as_rebuild}
-use Rattle.ist_core.specs.Snapshots.{Snapshot, Shows}
+use Rattle.ist_core.specs.Types.{State}
+use Rattle.ist_core.specs.WordTerms.{Piece, Leaf, Inner, Change, Rebuild, as_leaf, as_inner, as_change, as_rebuild}
+use Rattle.ist_core.specs.LogTerms.{Snapshot, Shows}
 
 -- maps with the same row at each base are equal
 same_rows : {X : Type 0} (m n : fin.FinMap nat_cmp X)
@@ -14,28 +14,7 @@ same_rows m n alike = fin.same_map nat_cmp_total fin.nat_cmp-IsAntisymmetric m n
 
 -- two states that show one snapshot are equal
 pub one_state : (s u : State) (t : Snapshot) → Shows s t → Shows u t → s ≡ u
-one_state s u t a b =
-    let words = a.words ∙ sym b.words in
-    let next = a.next ∙ sym b.next in
-    let callers = a.callers ∙ sym b.callers in
-    let anchor = a.anchor ∙ sym b.anchor in
-    let leaves = same_rows s.leaves u.leaves (λ base. a.leaves base ∙ sym (b.leaves base)) in
-    let inners = same_rows s.inners u.inners (λ base. a.inners base ∙ sym (b.inners base)) in
-    let changes = same_rows s.changes u.changes (λ base. a.changes base ∙ sym (b.changes base)) in
-    let rebuilds = same_rows s.rebuilds u.rebuilds (λ base. a.rebuilds base ∙ sym (b.rebuilds base))
-    in
-    let held = a.held ∙ sym b.held in
-    λ i. record {
-      words = words i;
-      next = next i;
-      callers = callers i;
-      anchor = anchor i;
-      leaves = leaves i;
-      inners = inners i;
-      changes = changes i;
-      rebuilds = rebuilds i;
-      held = held i;
-    }
+one_state s u t a b = grind (arith, same_rows)
 
 -- rows that are the same by each kind are the same
 same_piece : (p q : Option Piece) → as_leaf p ≡ as_leaf q → as_inner p ≡ as_inner q
@@ -57,9 +36,4 @@ same_piece (Some (Rebuild x)) _ l i c r = absurd (cc)
 -- one state shows the rows of one snapshot
 pub one_snapshot : (s : State) (t u : Snapshot) → Shows s t → Shows s u → (base : ℕ)
     → t.pieces base ≡ u.pieces base
-one_snapshot s t u a b base =
-    same_piece (t.pieces base) (u.pieces base)
-    (sym (a.leaves base) ∙ b.leaves base)
-    (sym (a.inners base) ∙ b.inners base)
-    (sym (a.changes base) ∙ b.changes base)
-    (sym (a.rebuilds base) ∙ b.rebuilds base)
+one_snapshot s t u a b base = grind (arith, same_piece)

@@ -1,31 +1,22 @@
 -- After a lawful log held rows lie apart, and each row that was reserved is known. Serves
 -- `laws.rows_are_known`.
-use Rattle.std.proofs.Common.{◌≡◌, ℕ, ◌+◌, ◌<◌, ◌⊎◌, [], ◌∷◌, Option, Some, None, refl, sym, ap, ◌∙◌, subst, inl, inr, ⊎_elim, arith}
-use Rattle.ist_core.specs.declared.lists.HeldRow.{HeldRow}
-use Rattle.ist_core.specs.declared.events.Event.{Event}
-use Rattle.ist_core.specs.declared.events.Event.TheVariants.{Reserve}
-use Rattle.ist_core.specs.Elements.{Among}
-use Rattle.ist_core.specs.Pieces.{Piece}
-use Rattle.ist_core.specs.Snapshots.{Snapshot, HoldsRow}
-use Rattle.ist_core.specs.After.{after}
-use Rattle.ist_core.specs.Logs.{Log, state, Happened, Reserves, Loses}
-use Rattle.ist_core.specs.Enabled.{Enabled, CanReserve}
-use Rattle.ist_core.specs.Lawful.{EachEnabled}
-use Rattle.ist_core.proofs.ElementLemmas.{among-append, among_left, among_right}
+use Rattle.std.proofs.Common.{◌≡◌, ℕ, ◌+◌, ◌<◌, ◌⊎◌, [], ◌∷◌, None, refl, sym, ap, ◌∙◌, subst, inl, inr, ⊎_elim, arith}
+use Rattle.ist_core.specs.Types.{HeldRow, Event, Reserve}
+use Rattle.ist_core.specs.LogTerms.{Among, Snapshot, HoldsRow, after, Log, state, Happened, Reserves, Loses, Enabled, CanReserve, EachEnabled}
+use Rattle.ist_core.proofs.OptionLemmas.{among-append, among_left, among_right}
 use Rattle.ist_core.proofs.MoveLemmas.{HeldLieApart, Moves, StandsWith}
-use Rattle.ist_core.proofs.EventMoveLemmas.{reserve_positive, moves}
+use Rattle.ist_core.proofs.HoldingLemmas.{reserve_positive, moves}
 
 sound_moves : (t u : Snapshot) (event : Event) → HeldLieApart t → Moves t u event → HeldLieApart u
-sound_moves t u event s m =
-    record {
-      below = λ base p e.
-          let under = ⊎_elim (λ w. s.below base w.0 w.1)
-          (λ w. subst (λ b. b < t.next) w.2 (s.held_below w.0 w.1)) (m.from base p e) in
-          subst (λ n. base < n) (sym m.next) under;
-      held_below = λ h i. subst (λ n. h.base < n) (sym m.next) (s.held_below h (m.kept h i));
-      unpublished = λ h i. m.unpublished h i (s.unpublished h (m.kept h i));
-      once = λ g h i j e. s.once g h (m.kept g i) (m.kept h j) e;
-    }
+sound_moves t u event s m = record {
+  below = λ base p e.
+      let under = ⊎_elim (λ w. s.below base w.0 w.1)
+      (λ w. subst (λ b. b < t.next) w.2 (s.held_below w.0 w.1)) (m.from base p e) in
+      subst (λ n. base < n) (sym m.next) under;
+  held_below = λ h i. subst (λ n. h.base < n) (sym m.next) (s.held_below h (m.kept h i));
+  unpublished = λ h i. m.unpublished h i (s.unpublished h (m.kept h i));
+  once = λ g h i j e. s.once g h (m.kept g i) (m.kept h j) e;
+}
 
 module _ (t : Snapshot) (caller base size : ℕ) (h : CanReserve t caller base size) (s : HeldLieApart t)
   where
@@ -45,28 +36,22 @@ module _ (t : Snapshot) (caller base size : ℕ) (h : CanReserve t caller base s
 
     -- no row lies at the first free word
     free_there : t.pieces base ≡ None
-    free_there = at (t.pieces base) refl
-      where
-        at : (o : Option Piece) → t.pieces base ≡ o → t.pieces base ≡ None
-        at None e = e
-        at (Some p) e = let low = s.below base p e in let is = h.base_is in absurd (omega arith)
+    free_there = grind arith
 
     sound_reserve : HeldLieApart (after t (Reserve caller base size))
     unfolding new_row
-    sound_reserve =
-        record {
-          below = λ at p e. let low = s.below at p e in let is = h.base_is in omega arith;
-          held_below = λ g i.
-              ⊎_elim
-              (λ k. let low = s.held_below g k in let is = h.base_is in let lower : g.base < base +
-              size = omega arith in lower)
-              (λ e. let some = positive in let same : g.base ≡ base = ap (λ x. x.base) e in let
-              lower : g.base < base + size = omega arith in lower)
-              (held_or_new g i);
-          unpublished = λ g i. ⊎_elim (λ k. s.unpublished g k)
-              (λ e. subst (λ x. t.pieces x.base ≡ None) (sym e) free_there) (held_or_new g i);
-          once = λ f g i j e. both f g e (held_or_new f i) (held_or_new g j);
-        }
+    sound_reserve = record {
+      below = λ at p e. let low = s.below at p e in let is = h.base_is in omega arith;
+      held_below = λ g i. ⊎_elim
+          (λ k. let low = s.held_below g k in let is = h.base_is in let lower : g.base < base +
+          size = omega arith in lower)
+          (λ e. let some = positive in let same : g.base ≡ base = ap (λ x. x.base) e in let
+          lower : g.base < base + size = omega arith in lower)
+          (held_or_new g i);
+      unpublished = λ g i. ⊎_elim (λ k. s.unpublished g k)
+          (λ e. subst (λ x. t.pieces x.base ≡ None) (sym e) free_there) (held_or_new g i);
+      once = λ f g i j e. both f g e (held_or_new f i) (held_or_new g j);
+    }
       where
         both : (f g : HeldRow) → f.base ≡ g.base → Among f t.held ⊎ (f ≡ new_row)
             → Among g t.held ⊎ (g ≡ new_row) → f ≡ g
@@ -89,15 +74,13 @@ pub record IsReserve (first : Snapshot) (log : Log) (event : Event) : Type 0 whe
 pub moves_or_reserves : (first : Snapshot) (log : Log) (event : Event) → Enabled first log event
     → HeldLieApart (state first log)
     → Moves (state first log) (state first (event ∷ log)) event ⊎ IsReserve first log event
-moves_or_reserves first log (Reserve caller base size) h s = inr record
-    { caller = caller; base = base; size = size; is = refl; can = h }
+moves_or_reserves first log (Reserve caller base size) h s = grind arith
 moves_or_reserves first log event h s = inl (moves first log event refl h s)
 
 -- after an enabled event held rows still lie apart
 sound_step : (first : Snapshot) (log : Log) (event : Event) → Enabled first log event
     → HeldLieApart (state first log) → HeldLieApart (state first (event ∷ log))
-sound_step first log event h s =
-    ⊎_elim
+sound_step first log event h s = ⊎_elim
     (λ m. sound_moves (state first log) (state first (event ∷ log)) event s m)
     (λ r. subst (λ e. HeldLieApart (after (state first log) e)) (sym r.is)
     (sound_reserve (state first log) r.caller r.base r.size r.can s))
@@ -122,16 +105,13 @@ known_moves : (t u : Snapshot) (log : Log) (event : Event) (caller base size : �
 known_moves t u log event caller base size m (inl (inl held)) =
     ⊎_elim (λ k. inl k) (λ lost. inr (inl lost))
     (m.fate record { caller = caller; base = base; size = size } held)
-known_moves t u log event caller base size m (inl (inr stands)) = inl
-    (inr (subst (λ n. StandsWith u.pieces base n) stands.2 (m.stays base stands.0 stands.1)))
+known_moves t u log event caller base size m (inl (inr stands)) = grind (arith, StandsWith)
 known_moves t u log event caller base size m (inr lost) = inr (inr lost)
 
 known_reserve : (t : Snapshot) (log : Log) (c b z caller base size : ℕ)
     → Known t log caller base size
     → Known (after t (Reserve c b z)) (Reserve c b z ∷ log) caller base size
-known_reserve t log c b z caller base size (inl (inl held)) =
-    inl (inl (among_left record { caller = caller; base = base; size = size } t.held
-    (record { caller = c; base = b; size = z } ∷ []) held))
+known_reserve t log c b z caller base size (inl (inl held)) = grind (arith, among_left)
 known_reserve t log c b z caller base size (inl (inr stands)) = inl (inr stands)
 known_reserve t log c b z caller base size (inr lost) = inr (inr lost)
 
@@ -139,8 +119,7 @@ known_step : (first : Snapshot) (log : Log) (event : Event) (caller base size : 
     → Enabled first log event → HeldLieApart (state first log)
     → Known (state first log) log caller base size
     → Known (state first (event ∷ log)) (event ∷ log) caller base size
-known_step first log event caller base size h s k =
-    ⊎_elim
+known_step first log event caller base size h s k = ⊎_elim
     (λ m. known_moves (state first log) (state first (event ∷ log)) log event caller base size m k)
     (λ r. subst (λ e. Known (after (state first log) e) (e ∷ log) caller base size) (sym r.is)
     (known_reserve (state first log) log r.caller r.base r.size caller base size k))
@@ -149,11 +128,7 @@ known_step first log event caller base size h s k =
 -- the row that an event reserves is then held
 held_now : (t : Snapshot) (event : Event) (caller base size : ℕ) → Reserves caller base size event
     → HoldsRow (after t event) caller base size
-held_now t (Reserve c b z) caller base size h =
-    let it = among_right record { caller = c; base = b; size = z } t.held
-    (record { caller = c; base = b; size = z } ∷ []) (inl refl) in
-    subst (λ x. Among x (after t (Reserve c b z)).held)
-    (λ i. record { caller = h.0 i; base = h.1 i; size = h.2 i }) it
+held_now t (Reserve c b z) caller base size h = grind (arith, among_right)
 held_now t _ c b z h = absurd h
 
 -- each row that was reserved is known
@@ -161,8 +136,7 @@ pub known : (first : Snapshot) (log : Log) (caller base size : ℕ) → HeldLieA
     → EachEnabled first log → Happened (Reserves caller base size) log
     → Known (state first log) log caller base size
 known first [] caller base size s h r = absurd r
-known first (event ∷ log) caller base size s h (inl now) = inl
-    (inl (held_now (state first log) event caller base size now))
+known first (event ∷ log) caller base size s h (inl now) = grind (arith, held_now)
 known first (event ∷ log) caller base size s h (inr before) =
     known_step first log event caller base size h.1 (sound first log s h.0)
     (known first log caller base size s h.0 before)

@@ -3,24 +3,14 @@ use Rattle.std.proofs.Common.{◌≡◌, ℕ, zero, suc, ◌+◌, ◌<◌, ◌�
 use Rattle.std.specs.List.{sum, sum_by, flat_map}
 use Rattle.std.proofs.lemmas.List.{length-take-le}
 use Rattle.std.proofs.lemmas.List.Sums.{sum_by-cons}
-use Rattle.ist_core.specs.declared.pairs.Pair.{Pair}
-use Rattle.ist_core.specs.declared.states.LeafRow.{LeafRow}
-use Rattle.ist_core.specs.Arithmetic.{degree, part_lens}
-use Rattle.ist_core.specs.RowLayout.{first_row, place_limit, inner_words, anchor}
-use Rattle.ist_core.specs.Shapes.{ideal_words}
-use Rattle.ist_core.specs.References.{Ref, InnerAt, IsGoodRef, ref_of, word_of}
-use Rattle.ist_core.specs.Elements.{Among, Distinct}
-use Rattle.ist_core.specs.Parts.{cut, parts}
-use Rattle.ist_core.specs.Pieces.{Pieces, Piece, Leaf, Inner, size_of, with_row}
-use Rattle.ist_core.specs.StartLayout.{start, tree_at, bases_from, placed_parts, top_row, rows_within, rows_from, pieces_of}
-use Rattle.ist_core.specs.Lawful.{CanOpen}
-use Rattle.ist_core.proofs.ElementLemmas.{among-append, among_left, among_right, each-among}
-use Rattle.ist_core.proofs.RowLemmas.{with_row-same, with_row-other}
+use Rattle.ist_core.specs.Types.{Pair, LeafRow}
+use Rattle.ist_core.specs.WordTerms.{degree, part_lens, first_row, place_limit, inner_words, anchor, ideal_words, Ref, InnerAt, IsGoodRef, ref_of, word_of, cut, parts, Pieces, Piece, Leaf, Inner, size_of, start, tree_at, bases_from, placed_parts, top_row, rows_within, rows_from, pieces_of}
+use Rattle.ist_core.specs.LogTerms.{Among, Distinct, CanOpen}
+use Rattle.ist_core.proofs.OptionLemmas.{among-append, among_left, among_right, each-among, with_row-same, with_row-other, among-pieces_of}
 use Rattle.ist_core.proofs.ReferenceLemmas.{ref_of-word_of}
 use Rattle.ist_core.proofs.ShapeLemmas.{ideal_words_many}
 use Rattle.ist_core.proofs.PartLemmas.{sum-part_lens, part_len-lt}
 use Rattle.ist_core.proofs.WordLemmas.{ideal_words_one}
-use Rattle.ist_core.proofs.PieceLemmas.{among-pieces_of}
 use Rattle.ist_core.proofs.StepLemmas.{known}
 use Rattle.ist_core.proofs.PlaceLemmas.{size_positive}
 use Rattle.ist_core.proofs.LayoutLemmas.{FillWords, fills_within, fills_rows, among_part_lens}
@@ -32,16 +22,10 @@ use Rattle.ist_core.proofs.TreeLemmas.{IsTree, AreTrees, tree_none, tree_leaf, t
 pub pieces_of-among : (from to : ℕ) (rows : List (ℕ × Piece)) (base : ℕ) (p : Piece)
     → FillWords from rows to → Among (base, p) rows → pieces_of rows base ≡ Some p
 pieces_of-among from to [] base p h i = absurd i
-pieces_of-among from to (row ∷ rows) base p h (inl e) =
-    let here : base ≡ row.0 = ap (λ x. x.0) e in
-    let is : p ≡ row.1 = ap (λ x. x.1) e in
-    subst (λ b. with_row (pieces_of rows) row.0 (Some row.1) b ≡ Some p) (sym here)
-    (with_row-same (pieces_of rows) row.0 row.1 ∙ ap (λ x. Some x) (sym is))
+pieces_of-among from to (row ∷ rows) base p h (inl e) = grind (arith, with_row-same)
 pieces_of-among from to (row ∷ rows) base p h (inr i) =
     let following = fills_within (from + size_of row.1) to rows base p h.1 i in
-    let low = following.0 in
-    let first = h.0 in
-    let some = size_positive row.1 in
+    let low = following.0 in let first = h.0 in let some = size_positive row.1 in
     with_row-other (pieces_of rows) row.0 base (Some row.1) (λ e. omega arith) ∙ pieces_of-among
     (from + size_of row.1) to rows base p h.1 i
 
@@ -80,8 +64,7 @@ pub between_once : (from to : ℕ) (bases : List ℕ) → Between from bases to 
 between_once from to [] h = tt
 between_once from to (base ∷ bases) h = (
   (λ i. let low = between_above (base + 1) to base bases h.1 i in omega arith),
-  between_once
-      (base + 1) to bases h.1,
+  between_once (base + 1) to bases h.1,
 )
 
 -- a tree of these rows, which lie between the two places, hangs at the reference
@@ -107,13 +90,8 @@ record HangAs (ps : Pieces) (words : List ℕ) (following : List (List Pair)) (a
 tree_good : (base : ℕ) (pairs : List Pair) → GoodFrom base (ideal_words (length pairs))
     → IsGoodRef (tree_at base pairs)
 tree_good base [] good = tt
-tree_good base (pair ∷ []) good = let low = good.0 in let high = good.1 in let two = ideal_words_one
-    in record { after_fixed = low; below_limit = omega arith }
-tree_good base (pair ∷ more ∷ pairs) good =
-    let low = good.0 in
-    let high = good.1 in
-    let words = ideal_words_many (length (pair ∷ more ∷ pairs)) (omega arith) in
-    record { after_fixed = low; below_limit = omega arith }
+tree_good base (pair ∷ []) good = grind (arith, ideal_words_one)
+tree_good base (pair ∷ more ∷ pairs) good = grind (arith, ideal_words_many)
 
 module _ (ps : Pieces) where
   -- these rows are published
@@ -133,22 +111,11 @@ module _ (ps : Pieces) where
       (cut ns xs) above
       (flat_map (λ part. rows_within fuel part.0 part.1) (zip (bases_from from ns) (cut ns xs)))
       from (from + sum_by ideal_words ns)
-  parts_hang fuel from above [] xs fits higher good stand each = record {
-    rows = [];
-    trees = no_tree;
-    between = omega arith;
-    each = λ base p i. absurd i;
-    splits =
-        no_split;
-  }
+  parts_hang fuel from above [] xs fits higher good stand each = grind (arith, no_tree, no_split)
   parts_hang fuel from above (n ∷ ns) xs fits higher good stand each =
-      let all = sum_by-cons (λ x. x) n ns in
-      let words = sum_by-cons ideal_words n ns in
-      let less = length-drop n xs in
-      let low = good.0 in
-      let high = good.1 in
-      let long = length-take-le n xs (omega arith) in
-      let same = ap ideal_words long in
+      let all = sum_by-cons (λ x. x) n ns in let words = sum_by-cons ideal_words n ns in
+      let less = length-drop n xs in let low = good.0 in let high = good.1 in
+      let long = length-take-le n xs (omega arith) in let same = ap ideal_words long in
       let here = rows_within fuel from (take n xs) in
       let more = flat_map (λ part. rows_within fuel part.0 part.1)
       (zip (bases_from (from + ideal_words n) ns) (cut ns (drop n xs))) in
@@ -168,8 +135,7 @@ module _ (ps : Pieces) where
             (subst (λ to. Between (from + ideal_words n) rest.rows to)
             (let end : from + ideal_words n + sum_by ideal_words ns ≡ from + sum_by ideal_words
             (n ∷ ns) = omega arith in end) rest.between);
-        each = λ base p i.
-            ⊎_elim
+        each = λ base p i. ⊎_elim
             (λ k. ⊎_elim (λ l. inl l) (λ l. inr (among_left base first.rows rest.rows l))
             (first.each base p k))
             (λ k. ⊎_elim (λ l. inl l) (λ l. inr (among_right base first.rows rest.rows l))
@@ -186,41 +152,27 @@ module _ (ps : Pieces) where
       → HangsAs ps (tree_at base pairs) pairs above (rows_within fuel base pairs) base
       (base + ideal_words (length pairs))
   unfolding rows_within
-  rows_hang fuel base above [] h higher good stand = record {
+  rows_hang fuel base above [] h higher good stand = grind (arith, tree_none, split_none)
+  rows_hang fuel base above (pair ∷ []) h higher good stand = record {
     rows = [];
-    tree = tree_none;
+    tree = tree_leaf record { key = pair.key; value = pair.value }
+        (stand base (Leaf record { key = pair.key; value = pair.value }) (inl refl));
     between = omega arith;
-    each = λ b p i. absurd i;
-    splits =
-        split_none;
+    each = λ b p i. ⊎_elim (λ e. inl (subst IsLeafRow (sym (ap (λ x. x.1) e)) (leaf_row _)))
+        (λ n. absurd n) i;
+    splits = split_leaf record { key = pair.key; value = pair.value }
+        (stand base (Leaf record { key = pair.key; value = pair.value }) (inl refl)) refl;
   }
-  rows_hang fuel base above (pair ∷ []) h higher good stand =
-      record {
-        rows = [];
-        tree = tree_leaf record { key = pair.key; value = pair.value }
-            (stand base (Leaf record { key = pair.key; value = pair.value }) (inl refl));
-        between = omega arith;
-        each = λ b p i. ⊎_elim (λ e. inl (subst IsLeafRow (sym (ap (λ x. x.1) e)) (leaf_row _)))
-            (λ n. absurd n) i;
-        splits = split_leaf record { key = pair.key; value = pair.value }
-            (stand base (Leaf record { key = pair.key; value = pair.value }) (inl refl)) refl;
-      }
   rows_hang zero base above (pair ∷ more ∷ pairs) h higher good stand = absurd (omega arith)
   rows_hang (suc fuel) base above (pair ∷ more ∷ pairs) h higher good stand =
-      let all = pair ∷ more ∷ pairs in
-      let n = length all in
-      let from = base + inner_words (degree n) in
-      let words = ideal_words_many n (omega arith) in
-      let fits = sum-part_lens n in
-      let low = good.0 in
-      let high = good.1 in
+      let all = pair ∷ more ∷ pairs in let n = length all in
+      let from = base + inner_words (degree n) in let words = ideal_words_many n (omega arith) in
+      let fits = sum-part_lens n in let low = good.0 in let high = good.1 in
       let below = flat_map (λ part. rows_within fuel part.0 part.1) (placed_parts base all) in
       let hang = parts_hang fuel from base (part_lens n) all (omega arith) (omega arith)
       (omega arith, omega arith) (λ b p i. stand b p (inr i))
-      (λ m at part i e deeper ok stands.
-      let it = among_part_lens n m i in
-      let less = part_len-lt n it.0 (omega arith) in
-      let is = it.1 in
+      (λ m at part i e deeper ok stands. let it = among_part_lens n m i in
+      let less = part_len-lt n it.0 (omega arith) in let is = it.1 in
       subst (λ k. HangsAs ps (tree_at at part) part base (rows_within fuel at part) at
       (at + ideal_words k)) e
       (rows_hang fuel at base part (omega arith) deeper
@@ -232,22 +184,19 @@ module _ (ps : Pieces) where
       (placed_parts base all)) (parts all) base below from to) end hang)
     where
       top_hangs : (base above : ℕ) (all : List Pair) → 2 ≤ length all → above < base →
-          (below : List (ℕ × Piece))
-          → ps base ≡ Some (top_row base all)
-          → (from to : ℕ) → base + 1 ≤ from
-          → HangAs ps
+          (below : List (ℕ × Piece)) → ps base ≡ Some (top_row base all)
+          → (from to : ℕ) → base + 1 ≤ from → HangAs ps
           (map (λ part. word_of (tree_at part.0 part.1)) (placed_parts base all)) (parts all) base
           below from to
           → HangsAs ps (InnerAt base) all above ((base, top_row base all) ∷ below) base to
-      top_hangs base above all two higher below there from to following hang =
-          record {
-            rows = base ∷ hang.rows;
-            tree = tree_row _ there higher hang.trees;
-            between = (omega arith, between_wider (base + 1) from to hang.rows following hang.between);
-            each = λ b p i. ⊎_elim (λ e. inr (inl (ap (λ x. x.0) e)))
-                (λ k. ⊎_elim (λ l. inl l) (λ l. inr (inr l)) (hang.each b p k)) i;
-            splits = split_row _ there two refl hang.splits;
-          }
+      top_hangs base above all two higher below there from to following hang = record {
+        rows = base ∷ hang.rows;
+        tree = tree_row _ there higher hang.trees;
+        between = (omega arith, between_wider (base + 1) from to hang.rows following hang.between);
+        each = λ b p i. ⊎_elim (λ e. inr (inl (ap (λ x. x.0) e)))
+            (λ k. ⊎_elim (λ l. inl l) (λ l. inr (inr l)) (hang.each b p k)) i;
+        splits = split_row _ there two refl hang.splits;
+      }
 
 module _ (pairs : List Pair) (words : ℕ) (opens : CanOpen pairs words) where
   -- the rows of a new table are published
@@ -273,22 +222,18 @@ module _ (pairs : List Pair) (words : ℕ) (opens : CanOpen pairs words) where
 
   -- each word of a new table names what it may
   pub names_start : WordsName (start pairs words)
-  names_start =
-      let hang = start_hangs anchor (omega arith) in
-      record {
-        rows = λ base p e.
-            ⊎_elim
-            (λ leaf. leaf_names base p leaf)
-            (λ i. let it = each-among (IsTreeRow (start pairs words).pieces) base hang.rows
-            (tree_rows (start pairs words).pieces (tree_at first_row pairs) anchor hang.rows
-            hang.tree) i in
-            known (λ x. RowNames (start pairs words).pieces base x)
-            ((start pairs words).pieces base) p (Inner it.row) e it.published it.names)
-            (hang.each base p (among-pieces_of (rows_from first_row pairs) base p e));
-        anchor_slot = subst (λ o. SlotNames (start pairs words).pieces anchor 0 o)
-            (sym start_anchor) (tree_slot (start pairs words).pieces (tree_at first_row pairs)
-            anchor hang.rows 0 hang.tree);
-      }
+  names_start = let hang = start_hangs anchor (omega arith) in record {
+    rows = λ base p e. ⊎_elim (λ leaf. leaf_names base p leaf)
+        (λ i. let it = each-among (IsTreeRow (start pairs words).pieces) base hang.rows
+        (tree_rows (start pairs words).pieces (tree_at first_row pairs) anchor hang.rows
+        hang.tree) i in
+        known (λ x. RowNames (start pairs words).pieces base x)
+        ((start pairs words).pieces base) p (Inner it.row) e it.published it.names)
+        (hang.each base p (among-pieces_of (rows_from first_row pairs) base p e));
+    anchor_slot = subst (λ o. SlotNames (start pairs words).pieces anchor 0 o)
+        (sym start_anchor) (tree_slot (start pairs words).pieces (tree_at first_row pairs)
+        anchor hang.rows 0 hang.tree);
+  }
     where
       leaf_names : (base : ℕ) (p : Piece) → IsLeafRow p → RowNames (start pairs words).pieces base p
       leaf_names base _ (leaf_row r) = tt

@@ -1,19 +1,13 @@
 -- The count of a row is the number of its Counts, and few changes are decided yes. Serves
 -- `laws.counts_are_low`.
-use Rattle.std.proofs.Common.{◌≡◌, ◌≢◌, ℕ, ◌+◌, ◌≤◌, ◌⊎◌, ◌==◌, if◌then◌else◌, Bool, true, false, List, [], ◌∷◌, refl, sym, ap, subst, inl, inr, ⊎_elim, arith}
+use Rattle.std.proofs.Common.{ℕ, ◌+◌, ◌≤◌, ◌==◌, if◌then◌else◌, List, [], ◌∷◌, refl, arith}
 use Rattle.std.proofs.lemmas.Bool.Decides.{eqb_tells}
-use Rattle.ist_core.specs.declared.pairs.Pair.{Pair}
-use Rattle.ist_core.specs.declared.events.Event.{Event}
-use Rattle.ist_core.specs.declared.events.Event.TheVariants.{Count, Mark, Finish, Root, Draw}
-use Rattle.ist_core.specs.Pieces.{Pieces, Piece, Leaf, Inner, Change, Rebuild, changed_at, counted}
-use Rattle.ist_core.specs.StartLayout.{start}
-use Rattle.ist_core.specs.Logs.{Log}
-use Rattle.ist_core.specs.Lawful.{EachEnabled, state_of}
-use Rattle.ist_core.proofs.RowLemmas.{changed_at-some}
-use Rattle.ist_core.proofs.RowNumberLemmas.{NumberAtMost, number_in, number_kept, start_fresh}
-use Rattle.ist_core.proofs.FieldLemmas.{LeavesField}
-use Rattle.ist_core.proofs.RowFieldLemmas.{status_same, root_same, draw_same}
-use Rattle.ist_core.specs.Statuses.{marked_word, finished_word}
+use Rattle.ist_core.specs.Types.{Pair, Event, Count, Mark, Finish, Root, Draw}
+use Rattle.ist_core.specs.WordTerms.{Pieces, Piece, Leaf, Inner, Change, Rebuild, changed_at, counted, start}
+use Rattle.ist_core.specs.LogTerms.{Log, EachEnabled, state_of}
+use Rattle.ist_core.proofs.OptionLemmas.{changed_at-some}
+use Rattle.ist_core.proofs.ParentLemmas.{NumberAtMost, number_in, number_kept, start_fresh}
+use Rattle.ist_core.proofs.FieldLemmas.{LeavesField, status_same, root_same, draw_same}
 use Rattle.ist_core.proofs.CountLemmas.{counts}
 
 -- the count of a row, or 0 if it isn't an inner row
@@ -33,23 +27,7 @@ module _ (node : ℕ) where
 
   most_counted : (ps : Pieces) (at most : ℕ) → CountsAtMost ps most
       → CountsAtMost (changed_at ps at counted) (if at == node then most + 1 else most)
-  most_counted ps at most old q e = here (at == node) (eqb_tells at node)
-    where
-      here : (v : Bool)
-          → (((at == node) ≡ true) × (at ≡ node)) ⊎ (((at == node) ≡ false) × (at ≢ node))
-          → count_in q ≤ (if at == node then most + 1 else most)
-      here v (inl k) =
-          let it = changed_at-some ps at node counted q e in
-          let before = old it.0 it.1 in
-          let more = counted_more it.0 in
-          subst (λ b. count_in q ≤ (if b then most + 1 else most)) (sym k.0)
-          (⊎_elim (λ l. let is = ap count_in l in omega arith)
-          (λ l. let is = ap count_in l.1 in omega arith) it.2)
-      here v (inr k) =
-          let it = changed_at-some ps at node counted q e in
-          let before = old it.0 it.1 in
-          subst (λ b. count_in q ≤ (if b then most + 1 else most)) (sym k.0)
-          (⊎_elim (λ l. let is = ap count_in l in omega arith) (λ l. absurd (k.1 (sym l.0))) it.2)
+  most_counted ps at most old q e = grind (arith, eqb_tells, changed_at-some, counted_more)
 
   -- an event other than a Count keeps the bound
   kept : (pairs : List Pair) (words : ℕ) (event : Event) (log : Log)
@@ -65,12 +43,9 @@ module _ (node : ℕ) where
       → CountsAtMost (state_of pairs words (event ∷ log)).pieces (counts node (event ∷ log))
   unfolding counts
   most_step ps w (Count c at) log h = most_counted (state_of ps w log).pieces at (counts node log)
-  most_step ps w (Draw c r i) log h = kept ps w (Draw c r i) log
-      (draw_same (λ _ n. n) (λ _ _. 0) 0 (λ _ _. refl)) h
-  most_step ps w (Mark c at) log h = kept ps w (Mark c at) log
-      (status_same (λ _ n. n) (λ _ _. 0) 0 (λ _ _ _. refl) marked_word) h
-  most_step ps w (Finish c at keys) log h = kept ps w (Finish c at keys) log
-      (status_same (λ _ n. n) (λ _ _. 0) 0 (λ _ _ _. refl) (finished_word keys)) h
+  most_step ps w (Draw c r i) log h = grind (arith, kept, draw_same)
+  most_step ps w (Mark c at) log h = grind (arith, kept, status_same)
+  most_step ps w (Finish c at keys) log h = grind (arith, kept, status_same)
   most_step ps w (Root c r word rows) log h = kept ps w (Root c r word rows) log
       (root_same (λ _ n. n) (λ _ _. 0) 0 (λ _ _ _. refl) word) h
   most_step ps w event log h = kept ps w event log tt h

@@ -1,16 +1,11 @@
 -- Trees of fresh rows: an ideal subtree, the top row of a shared root, and the start layout. Serves
 -- the conjunct `names`.
-use Rattle.std.proofs.Common.{◌≡◌, ℕ, zero, suc, ◌<◌, List, [], ◌∷◌, ◌++◌, replicate, length, slice_get, Some, sym, subst}
-use Rattle.ist_core.specs.declared.states.LeafRow.{LeafRow}
-use Rattle.ist_core.specs.declared.states.InnerRow.{InnerRow}
-use Rattle.ist_core.specs.Arithmetic.{degree}
-use Rattle.ist_core.specs.References.{Ref, Empty, Unset, LeafAt, InnerAt, ref_of, unset_word}
-use Rattle.ist_core.specs.Elements.{Each}
-use Rattle.ist_core.specs.Pieces.{Pieces, Leaf, Inner}
-use Rattle.ist_core.specs.Leaves.{PlacedLeaf}
-use Rattle.ist_core.specs.Ideals.{IsIdeal, AreIdeal, of_none, of_one, of_more, no_part, one_part}
-use Rattle.ist_core.specs.Building.{IsRoot, root_whole, root_top}
-use Rattle.ist_core.proofs.ElementLemmas.{each_append}
+use Rattle.std.proofs.Common.{◌≡◌, ℕ, zero, suc, ◌<◌, List, [], ◌∷◌, ◌++◌, replicate, length, slice_get, Some, sym, subst, arith}
+use Rattle.ist_core.specs.Types.{LeafRow, InnerRow}
+use Rattle.ist_core.specs.WordTerms.{degree, Ref, Empty, Unset, LeafAt, InnerAt, ref_of, unset_word, Pieces, Leaf, Inner, IsIdeal, AreIdeal, of_none, of_one, of_more, no_part, one_part}
+use Rattle.ist_core.specs.LogTerms.{Each}
+use Rattle.ist_core.specs.TreeTerms.{PlacedLeaf, IsRoot, root_whole, root_top}
+use Rattle.ist_core.proofs.OptionLemmas.{each_append}
 use Rattle.ist_core.proofs.ReferenceLemmas.{ref_of-unset}
 use Rattle.ist_core.proofs.NamingLemmas.{SlotNames, RowNames, RootNames}
 
@@ -38,16 +33,14 @@ mutual
 mutual
   -- an ideal subtree is a tree of published rows
   pub tree_of_ideal : (ps : Pieces) (ref : Ref) (leaves : List PlacedLeaf) (above : ℕ)
-      (rows : List ℕ)
-      → IsIdeal ps ref leaves above rows → IsTree ps ref above rows
+      (rows : List ℕ) → IsIdeal ps ref leaves above rows → IsTree ps ref above rows
   tree_of_ideal ps _ _ _ _ of_none = tree_none
   tree_of_ideal ps _ _ _ _ (of_one {leaf = leaf} same e) = tree_leaf leaf.row e
   tree_of_ideal ps _ _ above _ (of_more {base = base} {leaves = leaves} {rows = rows} r top below) =
       tree_row r top.published top.higher (trees_of_ideal ps r.slots _ base rows below)
 
   trees_of_ideal : (ps : Pieces) (words : List ℕ) (parts : List (List PlacedLeaf)) (above : ℕ)
-      (rows : List ℕ)
-      → AreIdeal ps words parts above rows → AreTrees ps words above rows
+      (rows : List ℕ) → AreIdeal ps words parts above rows → AreTrees ps words above rows
   trees_of_ideal ps _ _ _ _ no_part = no_tree
   trees_of_ideal ps _ _ _ _ (one_part {word = word} {above = above} {words = words} {here = here}
       {rest = rest} {part = part} {following = following} ref e first more) =
@@ -63,8 +56,7 @@ unset_trees ps above (suc n) = one_tree Unset ref_of-unset tree_unset (unset_tre
 pub root_tree : (ps : Pieces) (word k : ℕ) (leaves : List PlacedLeaf) (target : ℕ) (rows : List ℕ)
     → IsRoot ps word k leaves target rows
     → (ref : Ref) × (ref_of word ≡ Some ref) × IsTree ps ref target rows
-root_tree ps word k leaves target rows (root_whole ref few e ideal) =
-    (ref, e, tree_of_ideal ps ref leaves target rows ideal)
+root_tree ps word k leaves target rows (root_whole ref few e ideal) = grind (arith, tree_of_ideal)
 root_tree ps word k leaves target rows (root_top base row many e top unset one) = (
   InnerAt base,
   e,
@@ -98,9 +90,7 @@ pub trees_slot : (ps : Pieces) (words : List ℕ) (above : ℕ) (rows : List ℕ
     → SlotNames ps above start (ref_of word)
 trees_slot ps _ above _ no_tree start i word e = absurd (cc)
 trees_slot ps _ above _ (one_tree {word = w} {here = here} ref is first more) start zero word e =
-    let same : w ≡ word = cc in
-    subst (λ x. SlotNames ps above start (ref_of x)) same
-    (subst (λ o. SlotNames ps above start o) (sym is) (tree_slot ps ref above here start first))
+    grind (arith, SlotNames, tree_slot)
 trees_slot ps _ above _ (one_tree {words = words} {rest = rest} ref is first more) start (suc i)
     word e = trees_slot ps words above rest more start i word e
 
@@ -121,8 +111,7 @@ mutual
     record {
       row = r;
       published = e;
-      names = λ i word f. trees_slot ps r.slots base rows below i
-          i word f;
+      names = λ i word f. trees_slot ps r.slots base rows below i i word f;
     },
     trees_rows ps r.slots base rows below,
   )

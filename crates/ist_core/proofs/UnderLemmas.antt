@@ -1,17 +1,11 @@
 -- The leaves below what is named for a slot lie where their keys lead, with strictly increasing
 -- keys. Serves the order law.
-use Rattle.std.proofs.Common.{◌≡◌, ℕ, suc, ◌+◌, ◌<◌, ◌≤◌, List, [], ◌∷◌, slice_get, Option, Some, None, refl, subst, arith}
-use Rattle.ist_core.specs.declared.states.LeafRow.{LeafRow}
-use Rattle.ist_core.specs.declared.states.InnerRow.{InnerRow}
-use Rattle.ist_core.specs.Arithmetic.{child_count}
-use Rattle.ist_core.specs.RowLayout.{anchor}
-use Rattle.ist_core.specs.References.{Ref, Empty, Unset, LeafAt, InnerAt, ChangeAt, RebuildAt, ref_of}
-use Rattle.ist_core.specs.Elements.{Each}
-use Rattle.ist_core.specs.Pieces.{Pieces, Piece, Leaf, Inner, Change, Rebuild}
-use Rattle.ist_core.specs.Snapshots.{Snapshot}
-use Rattle.ist_core.specs.Slots.{SlotHolds, in_row, past_change, rebuild_reads, past_rebuild, logical}
-use Rattle.ist_core.specs.Leaves.{PlacedLeaf, HasLeaves, SlotsHaveLeaves, none_here, leaf_here, row_here, no_slot, one_slot}
-use Rattle.ist_core.proofs.ElementLemmas.{each_append}
+use Rattle.std.proofs.Common.{◌≡◌, ℕ, suc, ◌+◌, ◌<◌, ◌≤◌, List, [], ◌∷◌, slice_get, Option, Some, None, refl, subst, arith, ◌++◌, sym, ap, ◌∙◌}
+use Rattle.ist_core.specs.Types.{LeafRow, InnerRow, Pair}
+use Rattle.ist_core.specs.WordTerms.{child_count, anchor, Ref, Empty, Unset, LeafAt, InnerAt, ChangeAt, RebuildAt, ref_of, Pieces, Piece, Leaf, Inner, Change, Rebuild, SlotHolds, in_row, past_change, rebuild_reads, past_rebuild, logical}
+use Rattle.ist_core.specs.LogTerms.{Each, Snapshot}
+use Rattle.ist_core.specs.TreeTerms.{PlacedLeaf, HasLeaves, SlotsHaveLeaves, none_here, leaf_here, row_here, no_slot, one_slot, HasContents}
+use Rattle.ist_core.proofs.OptionLemmas.{each_append, same_inner}
 use Rattle.ist_core.proofs.NamingLemmas.{WordsName}
 use Rattle.ist_core.proofs.HomeLemmas.{Mentions, HasOneHome}
 use Rattle.ist_core.proofs.MentionLemmas.{past_change_mentioned, child_mentioned}
@@ -28,8 +22,7 @@ pub record SaysWhere (ps : Pieces) (In : ℕ → ℕ → Option Ref → Type 0) 
       (Leaf r) → Lies r.key node i
   -- what a slot of a row reads as is in that slot
   pub slot : (base j word : ℕ) (r : InnerRow) → ps base ≡ Some (Inner r) → slice_get r.slots j ≡
-      Some word
-      → In base j (logical ps word)
+      Some word → In base j (logical ps word)
   -- a key at a slot of an inner row lies at the slot in which the row hangs
   pub up : (node i base j key : ℕ) → In node i (Some (InnerAt base)) → Lies key base j → Lies key
       node i
@@ -58,14 +51,11 @@ module _ (ps : Pieces) (In : ℕ → ℕ → Option Ref → Type 0) (Lies : ℕ 
   earlier : (base j : ℕ) (r : InnerRow) (here rest : List PlacedLeaf) → ps base ≡ Some (Inner r)
       → Each (λ leaf. Lies (key_of_leaf leaf) base j) here → Each (IsFrom base (suc j)) rest
       → AllBelow key_of_leaf here rest
-  earlier base j r here rest e first more =
-      each_mapped (λ x. Lies (key_of_leaf x) base j)
+  earlier base j r here rest e first more = each_mapped (λ x. Lies (key_of_leaf x) base j)
       (λ x. Each (λ y. key_of_leaf x < key_of_leaf y) rest) here
       (λ x lies. each_mapped (IsFrom base (suc j)) (λ y. key_of_leaf x < key_of_leaf y) rest
-      (λ y there.
-      let one = says.child base j (key_of_leaf x) r e lies in
-      let two = says.child base there.0 (key_of_leaf y) r e there.2 in
-      let low = there.1 in
+      (λ y there. let one = says.child base j (key_of_leaf x) r e lies in
+      let two = says.child base there.0 (key_of_leaf y) r e there.2 in let low = there.1 in
       child_count_tells r.keys (key_of_leaf x) (key_of_leaf y) (omega arith)) more) first
 
   mutual
@@ -144,12 +134,11 @@ leaf_mentioned t node i word leaf o slot e = past_change_mentioned t node i word
 -- what a slot reads as is named for it
 pub slot_reads_as : (t : Snapshot) (node i word : ℕ) → WordsName t → SlotHolds t node i word
     → ReadsAs t node i (logical t.pieces word)
-slot_reads_as t node i word o slot =
-    record {
-      a_leaf = λ base e. leaf_mentioned t node i word base o slot e;
-      a_row = λ base e. child_mentioned t node i base o record
-          { word = word; holds = slot; reads = e };
-    }
+slot_reads_as t node i word o slot = record {
+  a_leaf = λ base e. leaf_mentioned t node i word base o slot e;
+  a_row = λ base e. child_mentioned t node i base o record
+      { word = word; holds = slot; reads = e };
+}
 
 -- if each leaf lies where its key leads, so do all leaves below what is named for a slot, with
 -- strictly increasing keys
@@ -166,3 +155,60 @@ leaves_under t ref leaves names home free lie h node i reads =
           lies;
       child = λ base j key r e lies. child_is t base key j r free e lies.child_for;
     } ref leaves h node i reads
+
+-- ---- the leaves below a reference are one list. Serves `laws.contents_are_one`.
+
+-- what it takes to have these leaves, by the reference
+abbrev pub Reached : Pieces → Option Ref → List PlacedLeaf → Type 0
+Reached ps (Some Empty) leaves = leaves ≡ []
+Reached ps (Some (LeafAt base)) leaves = (r : LeafRow) × (ps base ≡ Some (Leaf r)) ×
+    (leaves ≡ record { base = base; row = r } ∷ [])
+Reached ps (Some (InnerAt base)) leaves = (r : InnerRow) × (ps base ≡ Some (Inner r)) ×
+    SlotsHaveLeaves ps r.slots leaves
+Reached ps _ leaves = ⊥
+
+-- the leaves below a reference are reached from it
+pub reached : (ps : Pieces) (ref : Option Ref) (leaves : List PlacedLeaf) → HasLeaves ps ref leaves
+    → Reached ps ref leaves
+reached ps _ _ none_here = refl
+reached ps _ _ (leaf_here r e) = (r, e, refl)
+reached ps _ _ (row_here r e below) = (r, e, below)
+
+-- what it takes for slots to have these leaves, by the slots
+abbrev pub SlotsReached : Pieces → List ℕ → List PlacedLeaf → Type 0
+SlotsReached ps [] leaves = leaves ≡ []
+SlotsReached ps (word ∷ words) leaves =
+    (here : List PlacedLeaf) × (rest : List PlacedLeaf) × HasLeaves ps (logical ps word) here ×
+    SlotsHaveLeaves ps words rest × (leaves ≡ here ++ rest)
+
+-- the leaves below some slots are reached from them
+pub slots_reached : (ps : Pieces) (words : List ℕ) (leaves : List PlacedLeaf)
+    → SlotsHaveLeaves ps words leaves → SlotsReached ps words leaves
+slots_reached ps _ _ no_slot = refl
+slots_reached ps _ _ (one_slot {here = here} {rest = rest} h s) = (here, rest, h, s, refl)
+
+mutual
+  -- a reference has one list of leaves
+  pub same_leaves : (ps : Pieces) (ref : Option Ref) (xs ys : List PlacedLeaf) → HasLeaves ps ref xs
+      → HasLeaves ps ref ys → xs ≡ ys
+  same_leaves ps _ _ ys none_here other = sym (reached ps (Some Empty) ys other)
+  same_leaves ps _ _ ys (leaf_here {base = base} r e) other =
+      let it = reached ps (Some (LeafAt base)) ys other in let same : r ≡ it.0 = cc (it.1) in
+      ap (λ x. record { base = base; row = x } ∷ []) same ∙ sym it.2
+  same_leaves ps _ _ ys (row_here {base = base} r e below) other =
+      let it = reached ps (Some (InnerAt base)) ys other in
+      let same : r ≡ it.0 = same_inner (ps base) r it.0 e it.1 in
+      same_slots ps r.slots _ ys below (subst (λ x. SlotsHaveLeaves ps x.slots ys) (sym same) it.2)
+
+  same_slots : (ps : Pieces) (words : List ℕ) (xs ys : List PlacedLeaf)
+      → SlotsHaveLeaves ps words xs → SlotsHaveLeaves ps words ys → xs ≡ ys
+  same_slots ps _ _ ys no_slot other = sym (slots_reached ps [] ys other)
+  same_slots ps _ _ ys (one_slot {word = word} {words = words} h s) other =
+      let it = slots_reached ps (word ∷ words) ys other in
+      let first = same_leaves ps (logical ps word) _ it.0 h it.2 in
+      let rest = same_slots ps words _ it.1 s it.3 in (λ i. first i ++ rest i) ∙ sym it.4
+
+-- a table has one list of contents
+pub contents_are_one : (t : Snapshot) (xs ys : List Pair) → HasContents t xs → HasContents t ys
+    → xs ≡ ys
+contents_are_one t xs ys x y = grind (arith, same_leaves)

@@ -1,30 +1,16 @@
 -- Each change is decided once, so few are decided yes. Serves `laws.counts_are_low`.
 use Rattle.std.proofs.Common.{◌≡◌, ◌≢◌, ℕ, zero, suc, ◌+◌, ◌<◌, ◌≤◌, ◌⊎◌, ◌==◌, if◌then◌else◌, Bool, true, false, not, List, [], ◌∷◌, length, Some, option_map, refl, sym, ap, ◌∙◌, subst, inl, inr, arith}
 use Rattle.std.proofs.lemmas.Bool.Decides.{eqb_tells}
-use Rattle.ist_core.specs.declared.pairs.Pair.{Pair}
-use Rattle.ist_core.specs.declared.states.InnerRow.{InnerRow}
-use Rattle.ist_core.specs.declared.states.ChangeRow.{ChangeRow}
-use Rattle.ist_core.specs.declared.events.Event.{Event}
-use Rattle.ist_core.specs.declared.events.Event.TheVariants.{Enter, Reserve, Install, Okay, Decide, Resolve, Count, Mark, Pass, Finish, Root, Draw, Place, Lose}
-use Rattle.ist_core.specs.RowLayout.{place_limit}
-use Rattle.ist_core.specs.Statuses.{undecided, decided_yes}
-use Rattle.ist_core.specs.Elements.{Among, Each, Distinct}
-use Rattle.ist_core.specs.Pieces.{Pieces, Inner, Change, with_decision}
-use Rattle.ist_core.specs.StartLayout.{start}
-use Rattle.ist_core.specs.After.{decision_word}
-use Rattle.ist_core.specs.Logs.{Log}
-use Rattle.ist_core.specs.Lawful.{EachEnabled, CanOpen, state_of}
-use Rattle.ist_core.specs.Limits.{decided_yes_in}
-use Rattle.ist_core.proofs.ElementLemmas.{each-among, among-filter}
-use Rattle.ist_core.proofs.RowLemmas.{changed_at-same}
+use Rattle.ist_core.specs.Types.{Pair, InnerRow, ChangeRow, Event, Enter, Reserve, Install, Okay, Decide, Resolve, Count, Mark, Pass, Finish, Root, Draw, Place, Lose}
+use Rattle.ist_core.specs.WordTerms.{place_limit, undecided, decided_yes, Pieces, Inner, Change, with_decision, start, decided_yes_in}
+use Rattle.ist_core.specs.LogTerms.{Among, Each, Distinct, decision_word, Log, EachEnabled, CanOpen, state_of}
+use Rattle.ist_core.proofs.OptionLemmas.{each-among, among-filter, changed_at-same, same_change}
 use Rattle.ist_core.proofs.SoundLemmas.{sound}
-use Rattle.ist_core.proofs.StartLemmas.{sound_start}
+use Rattle.ist_core.proofs.StepLemmas.{sound_start, grow_step}
 use Rattle.ist_core.proofs.GrowingLemmas.{change_there}
-use Rattle.ist_core.proofs.StepLemmas.{grow_step}
 use Rattle.ist_core.proofs.RoomLemmas.{published_good}
 use Rattle.ist_core.proofs.CountLemmas.{drop_all, counts_few}
 use Rattle.ist_core.proofs.TallyLemmas.{count_at_most}
-use Rattle.ist_core.proofs.OptionLemmas.{same_change}
 
 -- ---- numbers without a repetition, all below a number
 
@@ -39,11 +25,9 @@ drop_below x n (y ∷ ys) h is = at (drop_below x n ys h.1 is) (y == x) (eqb_tel
         → Each (λ z. z < n) (if not (y == x) then y ∷ drop_all x ys else drop_all x ys)
     at rest v (inl k) = subst (λ b. Each (λ z. z < n)
         (if not b then y ∷ drop_all x ys else drop_all x ys)) (sym k.0) rest
-    at rest v (inr k) =
-        let low = h.0 in
+    at rest v (inr k) = let low = h.0 in
         subst (λ b. Each (λ z. z < n) (if not b then y ∷ drop_all x ys else drop_all x ys))
-        (sym k.0)
-        ((let ne : y ≢ n = λ e. k.1 (e ∙ sym is) in omega arith), rest)
+        (sym k.0) ((let ne : y ≢ n = λ e. k.1 (e ∙ sym is) in omega arith), rest)
 
 drop_distinct : (x : ℕ) (xs : List ℕ) → Distinct xs → Distinct (drop_all x xs)
 drop_distinct x [] h = tt
@@ -87,8 +71,7 @@ distinct_below zero (x ∷ xs) d h = let low = h.0 in absurd (omega arith)
 distinct_below (suc n) xs d h =
     let less = distinct_below n (drop_all n xs) (drop_distinct n xs d)
     (drop_below n n xs (suc_below xs h) refl) in
-    let few = drop_few n xs d in
-    omega arith
+    let few = drop_few n xs d in omega arith
   where
     suc_below : (ys : List ℕ) → Each (λ x. x < suc n) ys → Each (λ x. x < n + 1) ys
     suc_below [] k = tt
@@ -112,8 +95,7 @@ module _ (pairs : List Pair) (words : ℕ) where
       → Each (IsDecided (state_of pairs words (event ∷ log)).pieces) bases
   unfolding IsDecided
   decided_on log event h [] all = tt
-  decided_on log event h (base ∷ bases) all =
-      let it = all.0 in
+  decided_on log event h (base ∷ bases) all = let it = all.0 in
       let there = change_there (state_of pairs words log).pieces
       (state_of pairs words (event ∷ log)).pieces
       (grow_step (start pairs words) log event h.1
@@ -129,10 +111,8 @@ module _ (pairs : List Pair) (words : ℕ) where
       (decided_yes_in log)
   unfolding IsDecided
   yes_once [] h = (tt, tt)
-  yes_once (Decide c base true ∷ log) h =
-      let before = yes_once log h.0 in
-      let change = h.1.change in
-      let ps = (state_of pairs words log).pieces in
+  yes_once (Decide c base true ∷ log) h = let before = yes_once log h.0 in
+      let change = h.1.change in let ps = (state_of pairs words log).pieces in
       let now : IsDecided (state_of pairs words (Decide c base true ∷ log)).pieces base = (
         record change { decision = decided_yes },
         changed_at-same ps base (with_decision decided_yes)
@@ -191,17 +171,14 @@ module _ (pairs : List Pair) (words : ℕ) where
   pub count_few : (log : Log) → EachEnabled (start pairs words) log → (node : ℕ) (r : InnerRow)
       → (state_of pairs words log).pieces node ≡ Some (Inner r)
       → r.count ≤ length (decided_yes_in log)
-  count_few log h node r e =
-      let most = count_at_most node pairs words log h (Inner r) e in
-      let few = counts_few pairs words node log h in
-      omega arith
+  count_few log h node r e = let most = count_at_most node pairs words log h (Inner r) e in
+      let few = counts_few pairs words node log h in omega arith
 
   -- a count is at most the number of places
   pub count_low : CanOpen pairs words → (log : Log) → EachEnabled (start pairs words) log
       → (node : ℕ) (r : InnerRow) → (state_of pairs words log).pieces node ≡ Some (Inner r)
       → r.count ≤ place_limit
-  count_low opens log h node r e =
-      let few = count_few log h node r e in
+  count_low opens log h node r e = let few = count_few log h node r e in
       let once = yes_once log h in
       let low = distinct_below place_limit (decided_yes_in log) once.1
       (yes_below opens log h (decided_yes_in log) once.0) in

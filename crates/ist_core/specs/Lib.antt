@@ -44,3 +44,7 @@ pub mod TreeLaws
 pub mod ImageLaws
 pub mod ExampleTables
 pub mod ExampleLogs
+pub mod Types
+pub mod LogTerms
+pub mod WordTerms
+pub mod TreeTerms

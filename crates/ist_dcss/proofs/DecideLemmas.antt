@@ -1,42 +1,27 @@
 -- Deciding: when it may be made, and what it lets it know. Serves `decide`.
-use Rattle.std.proofs.Common.{◌≡◌, ◌≢◌, ℕ, ◌+◌, ◌<◌, ◌⊎◌, ◌&&◌, ◌==◌, Bool, true, false, if◌then◌else◌, Some, None, refl, sym, ap, ap₂, ◌∙◌, subst, inl, inr, arith}
+use Rattle.std.proofs.Common.{◌≡◌, ◌≢◌, ℕ, ◌+◌, ◌<◌, ◌⊎◌, ◌&&◌, ◌==◌, Bool, true, false, if◌then◌else◌, Some, None, refl, sym, ap, ap₂, ◌∙◌, subst, inl, inr, arith, List}
 use Rattle.std.proofs.lemmas.Bool.Decides.{eqb_tells}
 use Rattle.ist_core.specs.declared.states.InnerRow.{InnerRow}
 use Rattle.ist_core.specs.declared.states.ChangeRow.{ChangeRow}
 use Rattle.ist_core.specs.declared.events.Event.TheVariants.{Okay, Decide}
-use Rattle.ist_core.specs.RowLayout.{change_decision_offset, change_node_offset}
-use Rattle.ist_core.specs.Statuses.{open_word, undecided, decided_yes}
-use Rattle.ist_core.specs.Pieces.{Inner, Change, as_change}
-use Rattle.ist_core.specs.Snapshots.{Snapshot}
-use Rattle.ist_core.specs.Growing.{AllGrow, ChangeGrows}
-use Rattle.ist_core.specs.After.{decision_word}
-use Rattle.ist_core.specs.Logs.{Log, Happened, Okays}
-use Rattle.ist_core.specs.Slots.{IsOpen, anchor_is, row_is}
-use Rattle.ist_core.specs.Deciding.{MayBe}
-use Rattle.ist_core.specs.Lawful.{state_of}
-use Rattle.ist_core.specs.Writing.{place_of_status}
-use Rattle.ist_core.proofs.GrowingLemmas.{inner_there, change_there}
-use Rattle.ist_core.proofs.FateLemmas.{grow_between}
-use Rattle.ist_rule.specs.declared.view.View.{View}
 use Rattle.ist_core.specs.declared.events.Who.TheVariants.{Caller}
-use Rattle.ist_core.specs.Shown.{IsShown, shown_status, shown_row}
-use Rattle.ist_core.proofs.FreezingLemmas.{status_open}
-use Rattle.ist_core.proofs.IntervalLemmas.{both_true}
-use Rattle.ist_core.proofs.PrefixLemmas.{happened_later}
-use Rattle.ist_rule.specs.Rule.{IsSound}
-use Rattle.ist_rule.specs.Learning.{now, made_after, LoadedAs, as_event, as_load}
-use Rattle.ist_rule.specs.Conditions.{MayCome, CanExchange}
-use Rattle.ist_rule.specs.Watching.{IsNode, is_anchor, is_inner, number_of, waits, okay_of}
+use Rattle.ist_core.specs.declared.pairs.Pair.{Pair}
+use Rattle.ist_core.specs.WordTerms.{change_decision_offset, change_node_offset, open_word, undecided, decided_yes, Inner, Change, as_change, IsOpen, anchor_is, row_is, anchor_slot_place}
+use Rattle.ist_core.specs.LogTerms.{Snapshot, decision_word, Log, Happened, Okays, state_of, IsShown, shown_status, shown_row, Lawful, GoesOn}
+use Rattle.ist_core.specs.TreeTerms.{AllGrow, ChangeGrows, MayBe, place_of_status}
+use Rattle.ist_core.proofs.AllLogLemmas.{inner_there, change_there, grow_between, status_open, happened_later, next_within, words_same}
+use Rattle.ist_rule.specs.RuleTerms.{IsSound, now, made_after, LoadedAs, as_event, as_load, MayCome, CanExchange, IsNode, is_anchor, is_inner, number_of, waits, okay_of, WentOn, Looked}
+use Rattle.ist_rule.specs.declared.view.View.{View}
+use Rattle.ist_core.proofs.AllPlaceLemmas.{both_true, next_after_fixed}
 use Rattle.ist_rule.proofs.LaterLemmas.{later-goes_on}
-use Rattle.ist_rule.proofs.GoingOnLemmas.{callers_later}
+use Rattle.ist_rule.proofs.EventLemmas.{callers_later, looked_goes_on}
 use Rattle.ist_rule.proofs.WatchLemmas.{shown_in_row, change_node, if_some, status_place_inner, status_place_anchor}
 use Rattle.ist_dcss.specs.Helping.{MayHelp, Serves}
 use Rattle.ist_dcss.specs.HelpEvents.{settled, okayed, closed, IsField, deciding, IsDecidable}
-use Rattle.ist_rule.specs.Going.{WentOn}
-use Rattle.ist_rule.proofs.WentOnLemmas.{looked_went, logged_load_went, went_now, went_more, went_who}
-use Rattle.ist_dcss.proofs.HelperLemmas.{went_row}
+use Rattle.ist_rule.proofs.WentOnLemmas.{looked_went, logged_load_went, went_now, went_more, went_who, goes_on_grow}
+use Rattle.ist_dcss.proofs.ResolvedLemmas.{went_row}
 use Rattle.ist_dcss.proofs.SlotPlaceLemmas.{no_anchor}
-use Rattle.ist_dcss.proofs.FieldLemmas.{field_now}
+use Rattle.ist_dcss.proofs.FieldLemmas.{field_now, row_low, row_above, looked_row}
 
 -- a node that is open was open
 pub open_before : (t u : Snapshot) → AllGrow t.pieces u.pieces → (node : ℕ) → IsNode t node
@@ -57,27 +42,22 @@ module _ (v : View) (s : IsSound v) (change number : ℕ) (mine : v.who ≡ Call
   -- the change after such a log
   pub row_after : (log : Log) → MayCome v log → (r : ChangeRow)
       × ((state_of v.start v.words log).pieces change ≡ Some (Change r)) × ChangeGrows row r
-  row_after log m =
-      change_there (now v).pieces (state_of v.start v.words log).pieces
+  row_after log m = change_there (now v).pieces (state_of v.start v.words log).pieces
       (grow_between v.start v.words v.log log m.lawful.enabled (later-goes_on m.later)) change
       row installed
 
   -- the caller is a caller of the table
   pub number_low : (log : Log) → MayCome v log → number < (state_of v.start v.words log).callers
-  number_low log m =
-      let before = s.is_true.low number mine in
-      let more = callers_later v.start v.words v.log log m.later in
-      omega arith
+  number_low log m = let before = s.is_true.low number mine in
+      let more = callers_later v.start v.words v.log log m.later in omega arith
 
   -- what was known of the change is enough still
   outcome : (said : Bool) → IsDecidable v change row said → (log : Log) (m : MayCome v log)
       → (r : ChangeRow) → ChangeGrows row r → r.decision ≡ undecided
       → MayBe (state_of v.start v.words log) log change r said
   outcome said (settled set) log m r g unset = absurd (set (sym (g.decided set) ∙ unset))
-  outcome _ (okayed h) log m r g unset =
-      happened_later _ (later-goes_on m.later) h
-  outcome _ (closed shut) log m r g unset =
-      let u = state_of v.start v.words log in
+  outcome _ (okayed h) log m r g unset = happened_later _ (later-goes_on m.later) h
+  outcome _ (closed shut) log m r g unset = let u = state_of v.start v.words log in
       λ opened. shut (open_before (now v) u
       (grow_between v.start v.words v.log log m.lawful.enabled (later-goes_on m.later)) row.node
       (change_node v.start v.words v.log s.lawful.enabled change row installed)
@@ -87,31 +67,29 @@ module _ (v : View) (s : IsSound v) (change number : ℕ) (mine : v.who ≡ Call
   pub can_decide : (said : Bool) → IsDecidable v change row said → (place new : ℕ)
       → place ≡ change + change_decision_offset → new ≡ decision_word said
       → CanExchange v place undecided new (Decide number change said)
-  can_decide said ready place new at new_is =
-      record {
-        make = record { mine = sym mine; stored = tt; allowed = tt };
-        known = λ log m.
-            let r = row_after log m in (
-              r.0.decision,
-              subst (λ p. IsShown (state_of v.start v.words log) p r.0.decision) (sym at)
-                  (shown_row change (Change r.0) 0 r.1 refl),
-            );
-        comes = λ log m shown.
-            let r = row_after log m in
-            let unset : r.0.decision ≡ undecided =
-            sym (shown_in_row v.start v.words log m.lawful.enabled change (Change r.0) 0
-            r.0.decision r.1 refl place undecided shown at) in
-            record {
-              enabled = record {
-                known = number_low log m;
-                change = r.0;
-                pending = record { published = r.1; unset = unset };
-                outcome = outcome said ready log m r.0 r.2 unset;
-              };
-              touches = ap₂ (λ p n. Some record { place = p; found = undecided; left = n })
-                  (sym at) (sym new_is);
-            };
-      }
+  can_decide said ready place new at new_is = record {
+    make = record { mine = sym mine; stored = tt; allowed = tt };
+    known = λ log m.
+        let r = row_after log m in (
+          r.0.decision,
+          subst (λ p. IsShown (state_of v.start v.words log) p r.0.decision) (sym at)
+              (shown_row change (Change r.0) 0 r.1 refl),
+        );
+    comes = λ log m shown. let r = row_after log m in
+        let unset : r.0.decision ≡ undecided =
+        sym (shown_in_row v.start v.words log m.lawful.enabled change (Change r.0) 0
+        r.0.decision r.1 refl place undecided shown at) in
+        record {
+          enabled = record {
+            known = number_low log m;
+            change = r.0;
+            pending = record { published = r.1; unset = unset };
+            outcome = outcome said ready log m r.0 r.2 unset;
+          };
+          touches = ap₂ (λ p n. Some record { place = p; found = undecided; left = n })
+              (sym at) (sym new_is);
+        };
+  }
 
 -- ---- what the load of the status says
 
@@ -120,8 +98,7 @@ pub open_shown : (v : View) → IsSound v → (node : ℕ) → IsOpen (now v) no
     → IsShown (now v) (place_of_status node) open_word
 open_shown v s node (anchor_is e) =
     subst (λ p. IsShown (now v) p open_word) (sym (status_place_anchor node e)) shown_status
-open_shown v s node (row_is q e o) =
-    subst (λ p. IsShown (now v) p open_word)
+open_shown v s node (row_is q e o) = subst (λ p. IsShown (now v) p open_word)
     (sym (status_place_inner node (no_anchor v.start v.words v.log s.lawful.enabled node q e)))
     (shown_row node (Inner q) 0 e (ap Some o))
 
@@ -164,8 +141,7 @@ okay_ready v change place word w node r at (as_load l none) here same =
     by_word : (((word == open_word) ≡ true) × (word ≡ open_word))
         ⊎ (((word == open_word) ≡ false) × (word ≢ open_word))
         → IsDecidable w change r (word == open_word)
-    by_word (inl k) =
-        let t = state_of v.start v.words w.log in
+    by_word (inl k) = let t = state_of v.start v.words w.log in
         let is = went_now (Serves change) v w (looked_went (Serves change) v place word w l) in
         let piece : t.pieces change ≡ Some (Change r) = ap (λ u. u.pieces change) (sym is) ∙ here in
         let off : ((word == open_word) && waits (as_change (t.pieces change))) ≡ false =
@@ -175,8 +151,7 @@ okay_ready v change place word w node r at (as_load l none) here same =
         ap (λ o. waits (as_change o)) (sym piece)
         ∙ ap (λ b. b && waits (as_change (t.pieces change))) (sym k.0) ∙ off in
         settled (set_when rest)
-    by_word (inr k) =
-        subst (IsDecidable w change r) (sym k.0)
+    by_word (inr k) = subst (IsDecidable w change r) (sym k.0)
         (closed (λ is. k.1 (l.stood open_word
         (subst (λ p. IsShown (now w) p open_word) (ap place_of_status same ∙ sym at)
         (open_shown w l.sound r.node is)))))
@@ -193,8 +168,7 @@ pub record MayDecide (change number : ℕ) (said : Bool) (v w : View) : Type 0 w
 pub may_decide : (v : View) (change : ℕ) (m : MayHelp v change) (u : View) → WentOn (Serves change) v u
     → (node : ℕ) → IsField u change change_node_offset node → (place : ℕ)
     → place ≡ place_of_status node → (word : ℕ) (w : View)
-    → LoadedAs u (okay_of u change) place word w
-    → MayDecide change m.number (word == open_word) v w
+    → LoadedAs u (okay_of u change) place word w → MayDecide change m.number (word == open_word) v w
 may_decide v change m u h node field place at word w l =
     let more = okay_went u change place word w l in
     let all = went_more (Serves change) v u w h more in
@@ -221,3 +195,54 @@ deciding_is v number change place new said who at is =
     ap (λ n. Decide n place (new == decided_yes)) (ap number_of who)
     ∙ ap (λ b. Decide number b (new == decided_yes)) at
     ∙ ap (Decide number change) (ap (λ n. n == decided_yes) is ∙ said_word said)
+
+-- ---- whether a node is open, as a load of its status says. Serves `is_open` and
+-- `laws.nodes_close_once`.
+
+-- ---- a load of a status
+
+-- the status of a node lies within the table
+pub status_low : (v : View) → IsSound v → (node : ℕ) → IsNode (now v) node
+    → place_of_status node < v.words
+status_low v s node (is_anchor e) = let at = status_place_anchor node e in
+    let low = next_within v.start v.words s.lawful.opens v.log s.lawful.enabled in
+    let fixed = next_after_fixed v.start v.words v.log s.lawful.enabled in
+    let all = words_same v.start v.words s.lawful.opens v.log in omega arith
+status_low v s node (is_inner r e) =
+    let at = status_place_inner node (no_anchor v.start v.words v.log s.lawful.enabled node r e) in
+    let low = (row_low v s node (Inner r) e 0 (omega arith)).0 in omega arith
+
+-- and isn't the anchor's slot
+pub status_off : (v : View) → IsSound v → (node : ℕ) → IsNode (now v) node
+    → place_of_status node ≢ anchor_slot_place
+status_off v s node (is_anchor e) same = let at = status_place_anchor node e in absurd (omega arith)
+status_off v s node (is_inner r e) same =
+    let at = status_place_inner node (no_anchor v.start v.words v.log s.lawful.enabled node r e) in
+    let above = row_above v s node (Inner r) e in absurd (omega arith)
+
+-- a load of it that gives the word of open shows the node open
+pub shows_open : (v : View) → IsSound v → (node place word : ℕ) (w : View) → Looked v place word w
+    → IsNode (now v) node → place ≡ place_of_status node → word ≡ open_word → IsOpen (now w) node
+shows_open v s node place word w l (is_anchor e) at is = anchor_is e
+shows_open v s node place word w l (is_inner r e) at is = let g = looked_goes_on v place word w l in
+    let on = inner_there (now v).pieces (now w).pieces (goes_on_grow v w g) node r e in
+    let here = status_place_inner node
+    (no_anchor v.start v.words v.log s.lawful.enabled node r e) in
+    let read = looked_row v place word w l node (Inner on.0) 0 on.0.status on.1 refl (omega arith) in
+    row_is on.0 on.1 (sym read ∙ is)
+
+-- if the node is open, the load gives that word
+pub open_shows : (v : View) (node place word : ℕ) (w : View) → Looked v place word w
+    → place ≡ place_of_status node → IsOpen (now w) node → word ≡ open_word
+open_shows v node place word w l at is = l.stood open_word
+    (subst (λ p. IsShown (now w) p open_word) (sym at) (open_shown w l.sound node is))
+
+-- ---- nodes that aren't open
+
+-- a node that isn't open is never open again
+pub closed_node_stays : (pairs : List Pair) (words : ℕ) (earlier log : Log) → Lawful pairs words log
+    → GoesOn earlier log → (node : ℕ) → IsNode (state_of pairs words earlier) node
+    → ¬ (IsOpen (state_of pairs words earlier) node) → ¬ (IsOpen (state_of pairs words log) node)
+closed_node_stays pairs words earlier log lawful g node is shut opened =
+    shut (open_before (state_of pairs words earlier) (state_of pairs words log)
+    (grow_between pairs words earlier log lawful.enabled g) node is opened)

@@ -3,26 +3,18 @@ use Rattle.std.proofs.Common.{◌≡◌, ◌≢◌, ℕ, ◌+◌, ◌⊎◌, ◌
 use Rattle.std.proofs.lemmas.Bool.Decides.{eqb_tells}
 use Rattle.ist_core.specs.declared.states.ChangeRow.{ChangeRow}
 use Rattle.ist_core.specs.declared.events.Event.TheVariants.{Decide}
-use Rattle.ist_core.specs.RowLayout.{change_decision_offset}
-use Rattle.ist_core.specs.Statuses.{undecided, decided_yes}
-use Rattle.ist_core.specs.Pieces.{Change, with_decision}
-use Rattle.ist_core.specs.After.{decision_word}
-use Rattle.ist_core.specs.Lawful.{state_of}
-use Rattle.ist_core.proofs.RowLemmas.{changed_at-same}
+use Rattle.ist_core.specs.WordTerms.{change_decision_offset, undecided, decided_yes, Change, with_decision}
+use Rattle.ist_core.specs.LogTerms.{decision_word, state_of, IsShown, shown_row}
+use Rattle.ist_core.proofs.AllWordLemmas.{changed_at-same}
+use Rattle.ist_rule.specs.RuleTerms.{IsSound, CanExchange, now, Looked, Logged, Exchanged, WentOn}
 use Rattle.ist_rule.specs.declared.view.View.{View}
-use Rattle.ist_core.specs.Shown.{IsShown, shown_row}
-use Rattle.ist_rule.specs.Rule.{IsSound}
-use Rattle.ist_rule.specs.Conditions.{CanExchange}
-use Rattle.ist_rule.specs.Learning.{now, Looked, Logged, Exchanged}
 use Rattle.ist_dcss.specs.Helping.{Serves, IsDecided, WasOpen, WasClosed}
 use Rattle.ist_dcss.specs.HelpEvents.{standing, deciding}
-use Rattle.ist_rule.specs.Going.{WentOn}
 use Rattle.ist_rule.proofs.WentOnLemmas.{looked_went, logged_went, went_now, went_more}
 use Rattle.ist_dcss.proofs.DecideLemmas.{MayDecide, can_decide, deciding_is}
-use Rattle.ist_dcss.proofs.HelperLemmas.{went_row}
-use Rattle.ist_dcss.proofs.OutcomeLemmas.{HasFate, fate, okay_seen}
+use Rattle.ist_dcss.proofs.ResolvedLemmas.{went_row, HasFate, fate, okay_seen}
 use Rattle.laws_links.proofs.ChangeLemmas.{yes_has_okay}
-use Rattle.ist_core.proofs.YesLemmas.{said_something}
+use Rattle.ist_core.proofs.AllLogLemmas.{said_something}
 
 -- ---- what the exchange of the decision says
 
@@ -33,15 +25,13 @@ pub decide_tells : (v : View) (change number : ℕ) (said : Bool) (place stood :
     → Exchanged v (Decide number change said) place undecided stood w
     → WentOn (Serves change) v w × ((r : ChangeRow) × ((now w).pieces change ≡ Some (Change r))
     × (r.decision ≡ standing (decision_word said) stood) × (r.decision ≢ undecided))
-decide_tells v change number said place stood w row there at x =
-    by_word (eqb_tells stood undecided)
+decide_tells v change number said place stood w row there at x = by_word (eqb_tells stood undecided)
   where
     by_word : (((stood == undecided) ≡ true) × (stood ≡ undecided))
         ⊎ (((stood == undecided) ≡ false) × (stood ≢ undecided))
         → WentOn (Serves change) v w × ((r : ChangeRow) × ((now w).pieces change ≡ Some (Change r))
         × (r.decision ≡ standing (decision_word said) stood) × (r.decision ≢ undecided))
-    by_word (inl k) =
-        let l : Logged v (Decide number change said) w = x.0 k.1 in
+    by_word (inl k) = let l : Logged v (Decide number change said) w = x.0 k.1 in
         let went = logged_went (Serves change) v (Decide number change said) w l refl refl in
         let t = state_of v.start v.words l.before in
         let can = (subst IsSound l.view l.sound).lawful.enabled.1 in
@@ -60,8 +50,7 @@ decide_tells v change number said place stood w row there at x =
             said_something said,
           ),
         )
-    by_word (inr k) =
-        let l : Looked v place stood w = x.1 k.1 in
+    by_word (inr k) = let l : Looked v place stood w = x.1 k.1 in
         let went = looked_went (Serves change) v place stood w l in
         let on = went_row (Serves change) change v w went row there in
         let same : stood ≡ on.0.decision = l.stood on.0.decision
@@ -83,14 +72,12 @@ decide_tells v change number said place stood w row there at x =
 pub decided_as : (v : View) → IsSound v → (change : ℕ) (row : ChangeRow)
     → (now v).pieces change ≡ Some (Change row) → row.decision ≢ undecided
     → (said : Bool) → said ≡ (row.decision == decided_yes) → IsDecided v change said
-decided_as v s change row there set said is =
-    record {
-      row = row;
-      published = there;
-      decision =
-          at (fate v.start v.words v.log s.lawful.enabled change row there) ∙ ap decision_word
-          (sym is);
-    }
+decided_as v s change row there set said is = record {
+  row = row;
+  published = there;
+  decision = at (fate v.start v.words v.log s.lawful.enabled change row there) ∙ ap decision_word
+      (sym is);
+}
   where
     at : HasFate v.start v.words v.log change row
         → row.decision ≡ decision_word (row.decision == decided_yes)
@@ -116,11 +103,9 @@ module _ (v : View) (change number : ℕ) (said : Bool) (u : View)
   -- has then served the change, which is decided as the test of the two words says
   pub helper_decided : (stood : ℕ) (w : View)
       → Exchanged u (deciding u (base + change_decision_offset) new) (base + change_decision_offset)
-      undecided stood w
-      → (answer : Bool) → answer ≡ (standing new stood == decided_yes)
+      undecided stood w → (answer : Bool) → answer ≡ (standing new stood == decided_yes)
       → WentOn (Serves change) v w × IsDecided w change answer
-  helper_decided stood w x answer asked =
-      let place = base + change_decision_offset in
+  helper_decided stood w x answer asked = let place = base + change_decision_offset in
       let tells = decide_tells u change number said place stood w m.row m.published (omega arith)
       (subst (λ e. Exchanged u e place undecided stood w) names x) in
       let r = tells.1 in (
@@ -135,25 +120,21 @@ module _ (v : View) (change number : ℕ) (said : Bool) (u : View)
 -- a change with this decision keeps it
 pub decided_on : (change : ℕ) (v w : View) → WentOn (Serves change) v w → (said : Bool)
     → IsDecided v change said → IsDecided w change said
-decided_on change v w h said d =
-    let on = went_row (Serves change) change v w h d.row d.published in
+decided_on change v w h said d = let on = went_row (Serves change) change v w h d.row d.published in
     record {
       row = on.0;
       published = on.1;
-      decision =
-          on.2.decided (λ e. said_something said (sym d.decision ∙ e)) ∙ d.decision;
+      decision = on.2.decided (λ e. said_something said (sym d.decision ∙ e)) ∙ d.decision;
     }
 
 -- if a change is decided yes, its node was seen open
 pub yes_seen : (v : View) → IsSound v → (change : ℕ) → IsDecided v change true → WasOpen v change
-yes_seen v s change d =
-    okay_seen v.start v.words v.log s.lawful.enabled change
+yes_seen v s change d = okay_seen v.start v.words v.log s.lawful.enabled change
     (yes_has_okay v.start v.words s.lawful.opens v.log s.lawful.enabled change d.row d.published
     d.decision)
 
 -- if it is decided no, its node was seen not to be open
-pub no_seen : (v : View) → IsSound v → (change : ℕ) → IsDecided v change false
-    → WasClosed v change
+pub no_seen : (v : View) → IsSound v → (change : ℕ) → IsDecided v change false → WasClosed v change
 no_seen v s change d = at (fate v.start v.words v.log s.lawful.enabled change d.row d.published)
   where
     at : HasFate v.start v.words v.log change d.row → WasClosed v change

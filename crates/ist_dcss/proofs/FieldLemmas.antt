@@ -1,32 +1,26 @@
 -- Loads of words of published rows. Serves `field` and `slot_of`.
-use Rattle.std.proofs.Common.{◌≡◌, ◌≢◌, ℕ, ◌+◌, ◌<◌, ◌≤◌, length, slice_get, Some, refl, sym, ap, ap₂, ◌∙◌, subst, arith}
+use Rattle.std.proofs.Common.{◌≡◌, ◌≢◌, ℕ, ◌+◌, ◌<◌, ◌≤◌, length, slice_get, Some, refl, sym, ap, ap₂, ◌∙◌, subst, arith, ◌^◌}
 use Rattle.std.proofs.lemmas.Option.{slice_get-get_or, same_Some}
 use Rattle.std.specs.Prelude.{get_or}
 use Rattle.ist_core.specs.declared.states.InnerRow.{InnerRow}
 use Rattle.ist_core.specs.declared.states.ChangeRow.{ChangeRow}
-use Rattle.ist_core.specs.RowLayout.{first_row, place_limit, anchor, change_words, change_node_offset, change_index_offset, inner_degree_offset, slot_place}
-use Rattle.ist_core.specs.Pieces.{Piece, Inner, Change, words_of, size_of}
-use Rattle.ist_core.specs.References.{IsGoodBase}
-use Rattle.ist_core.specs.Writing.{place_of_slot}
-use Rattle.ist_core.specs.Growing.{ChangeGrows}
-use Rattle.ist_core.specs.Slots.{SlotHolds, in_anchor, in_row}
-use Rattle.ist_core.proofs.GrowingLemmas.{inner_there}
-use Rattle.ist_core.proofs.ImageLemmas.{get_below, get-words_of_slot}
-use Rattle.ist_core.proofs.PlaceLemmas.{placed, claimed_within}
-use Rattle.ist_core.proofs.RoomLemmas.{next_within, words_same}
+use Rattle.ist_core.specs.declared.states.RebuildRow.{RebuildRow}
+use Rattle.ist_core.specs.WordTerms.{first_row, place_limit, anchor, change_words, change_node_offset, change_index_offset, inner_degree_offset, slot_place, Piece, Inner, Change, words_of, size_of, IsGoodBase, SlotHolds, in_anchor, in_row, Rebuild}
+use Rattle.ist_core.specs.TreeTerms.{place_of_slot, ChangeGrows, HasTarget, IsStarted}
+use Rattle.ist_core.proofs.AllLogLemmas.{inner_there, next_within, words_same, rebuild_there, published_good}
+use Rattle.ist_core.proofs.AllPlaceLemmas.{get_below, get-words_of_slot, placed, claimed_within, IsRebuildFor, SideNames, names}
+use Rattle.ist_rule.specs.RuleTerms.{IsSound, now, GoesOnTo, Looked, WentOn}
 use Rattle.ist_rule.specs.declared.view.View.{View}
-use Rattle.ist_core.specs.Shown.{IsShown, shown_row}
-use Rattle.ist_core.proofs.OptionLemmas.{same_value}
-use Rattle.ist_rule.specs.Rule.{IsSound}
-use Rattle.ist_rule.specs.Learning.{now, GoesOnTo, Looked}
+use Rattle.ist_core.specs.LogTerms.{IsShown, shown_row}
+use Rattle.ist_core.proofs.AllWordLemmas.{same_value}
 use Rattle.ist_rule.proofs.WatchLemmas.{place_inner}
 use Rattle.ist_dcss.specs.Helping.{MayHelp, Serves}
 use Rattle.ist_dcss.specs.HelpEvents.{IsField, IsSlot, IsSlotOf}
-use Rattle.ist_rule.specs.Going.{WentOn}
-use Rattle.ist_rule.proofs.GoingOnLemmas.{looked_goes_on}
+use Rattle.ist_rule.proofs.EventLemmas.{looked_goes_on}
 use Rattle.ist_rule.proofs.WentOnLemmas.{goes_on_went, looked_went, goes_on_grow}
-use Rattle.ist_dcss.proofs.HelperLemmas.{went_row}
+use Rattle.ist_dcss.proofs.ResolvedLemmas.{went_row}
 use Rattle.ist_dcss.proofs.SlotPlaceLemmas.{change_slot, has_degree, no_anchor}
+use Rattle.ist_dcss.specs.Reading.{IsRebuildRow}
 
 -- a word of a published row lies within the table, which is small
 pub row_low : (v : View) → IsSound v → (base : ℕ) (p : Piece) → (now v).pieces base ≡ Some p
@@ -107,17 +101,12 @@ has_place v s node i slot ne = at slot.word slot.holds
   where
     at : (word : ℕ) → SlotHolds (now v) node i word → HasPlace v node i
     at word (in_anchor e f g) = absurd (ne e)
-    at word (in_row r e got) =
-        let d = has_degree v.start v.words v.log s.lawful.enabled node r e in
-        let keys = d.keys in
-        let slots = d.slots in
-        let less = get_below r.slots i word got in
+    at word (in_row r e got) = let d = has_degree v.start v.words v.log s.lawful.enabled node r e in
+        let keys = d.keys in let slots = d.slots in let less = get_below r.slots i word got in
         let far = get_below (words_of (Inner r)) (4 + length r.keys + i) word
         (get-words_of_slot r i ∙ got) in
-        let low = row_low v s node (Inner r) e (4 + length r.keys + i) far in
-        let place = low.0 in
-        let all = low.1 in
-        record {
+        let low = row_low v s node (Inner r) e (4 + length r.keys + i) far in let place = low.0 in
+        let all = low.1 in record {
           row = r;
           published = e;
           index = omega arith;
@@ -141,9 +130,7 @@ tells_slot v node i k degree w l =
     let r = inner_there (now v).pieces (now w).pieces (goes_on_grow v w g) node k.row k.published in
     let is : degree ≡ r.0.degree = looked_row v (node + inner_degree_offset) degree w l node
     (Inner r.0) 2 r.0.degree r.1 refl refl in
-    let same : r.0.degree ≡ k.row.degree = r.2.degree in
-    let less = k.index in
-    let low = k.degree in
+    let same : r.0.degree ≡ k.row.degree = r.2.degree in let less = k.index in let low = k.degree in
     record {
       index_low = omega arith;
       degree_low = omega arith;
@@ -165,9 +152,7 @@ pub names_slot : (u : View) (change node : ℕ) → IsField u change change_node
     → (v : View)
     → WentOn (Serves change) u v → (index : ℕ) → IsField v change change_index_offset index
     → NamesSlot v change node index
-names_slot u change node first v h index second =
-    let row = second.row in
-    let s = h.sound in
+names_slot u change node first v h index second = let row = second.row in let s = h.sound in
     let node_is : node ≡ row.node = field_is u change change_node_offset node first (λ r. r.node)
     (λ r. refl) (λ a b g. ap (λ x. x.node) g.others) v h row second.published in
     let index_is = field_now v change change_index_offset index second (λ r. r.index) (λ r. refl)
@@ -188,8 +173,7 @@ names_slot u change node first v h index second =
 
 -- after more loads, the place of that slot is the place of the change's slot
 pub place_of_change : (v : View) (change node index : ℕ) → NamesSlot v change node index
-    → (w : View)
-    → GoesOnTo v w → (place : ℕ) → place ≡ place_of_slot (now w) node index
+    → (w : View) → GoesOnTo v w → (place : ℕ) → place ≡ place_of_slot (now w) node index
     → IsSlotOf w change place
 place_of_change v change node index k w g place at =
     let on = went_row (Serves change) change v w (goes_on_went (Serves change) v w g) k.row k.published in
@@ -206,7 +190,65 @@ pub good_base : (v : View) → IsSound v → (base : ℕ) (p : Piece) → (now v
 good_base v s base p there some =
     let claim = claimed_within v.start v.words v.log base (size_of p) s.lawful.enabled
     ((placed v.start v.words v.log s.lawful.enabled).published base p there) in
-    let low = row_low v s base p there 0 some in
-    let place = low.0 in
-    let all = low.1 in
+    let low = row_low v s base p there 0 some in let place = low.0 in let all = low.1 in
     record { after_fixed = claim.after_fixed; below_limit = omega arith }
+
+-- ---- the targets of rebuilds, and rebuilds that are started. Serves `target_of` and its callers.
+
+-- ---- a started rebuild
+
+-- a started rebuild is published, in the slot of its start
+pub started_row : (v : View) → IsSound v → (rebuild : ℕ) → (s : IsStarted (now v) rebuild)
+    → IsRebuildFor (now v).pieces s.change.node s.change.index rebuild
+started_row v s rebuild h = subst (SideNames (now v).pieces h.change.node h.change.index) h.to
+    ((names v.start v.words s.lawful.opens v.log s.lawful.enabled).rows h.base (Change h.change)
+    h.published).1
+
+-- a started rebuild is published
+pub started_rebuild : (v : View) → IsSound v → (rebuild : ℕ) → IsStarted (now v) rebuild
+    → IsRebuildRow (now v) rebuild
+started_rebuild v s rebuild h =
+    let it = started_row v s rebuild h in record { row = it.row; published = it.published }
+
+-- ---- the target
+
+-- the target and the parent of a rebuild fit in 32 bits
+pub record AreLow (row : RebuildRow) : Type 0 where
+  pub target : row.target < 2 ^ 32
+  pub parent : row.parent < 2 ^ 32
+
+-- the target and the parent of a published rebuild fit in 32 bits
+pub fields_low : (v : View) → IsSound v → (rebuild : ℕ) (row : RebuildRow)
+    → (now v).pieces rebuild ≡ Some (Rebuild row) → AreLow row
+fields_low v s rebuild row e =
+    let it = (names v.start v.words s.lawful.opens v.log s.lawful.enabled).rows rebuild
+    (Rebuild row) e in
+    let less = it.0 in
+    let good = published_good v.start v.words s.lawful.opens v.log row.target (Inner it.1.0)
+    s.lawful.enabled it.1.1 in
+    let low = good.below_limit in record { target = omega arith; parent = omega arith }
+
+-- the rebuild after a load of its target
+rebuild_after : (v : View) (place word : ℕ) (w : View) → Looked v place word w → (rebuild : ℕ)
+    → IsRebuildRow (now v) rebuild → place ≡ rebuild + 0
+    → (r : RebuildRow) × ((now w).pieces rebuild ≡ Some (Rebuild r)) × (word ≡ r.target)
+rebuild_after v place word w l rebuild b at =
+    let it = rebuild_there (now v).pieces (now w).pieces
+    (goes_on_grow v w (looked_goes_on v place word w l)) rebuild b.row b.published in (
+      it.0,
+      it.1,
+      looked_row v place word w l rebuild (Rebuild it.0) 0 it.0.target it.1 refl at,
+    )
+
+-- the load gives the target
+pub target_told : (v : View) (place word : ℕ) (w : View) → Looked v place word w → (rebuild : ℕ)
+    → IsRebuildRow (now v) rebuild → place ≡ rebuild + 0 → HasTarget (now w) rebuild word
+target_told v place word w l rebuild b at = let it = rebuild_after v place word w l rebuild b at in
+    record { row = it.0; published = it.1; target_is = sym it.2 }
+
+-- which fits in 32 bits
+pub target_low : (v : View) (place word : ℕ) (w : View) → Looked v place word w → (rebuild : ℕ)
+    → IsRebuildRow (now v) rebuild → place ≡ rebuild + 0 → word < 2 ^ 32
+target_low v place word w l rebuild b at = let it = rebuild_after v place word w l rebuild b at in
+    let low = (fields_low w l.sound rebuild it.0 it.1).target in
+    subst (λ n. n < 2 ^ 32) (sym it.2) low

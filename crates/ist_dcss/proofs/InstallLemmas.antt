@@ -5,70 +5,47 @@ use Rattle.ist_core.specs.declared.lists.HeldRow.{HeldRow}
 use Rattle.ist_core.specs.declared.states.ChangeRow.{ChangeRow}
 use Rattle.ist_core.specs.declared.events.Event.{Event}
 use Rattle.ist_core.specs.declared.events.Event.TheVariants.{Install}
-use Rattle.ist_core.specs.References.{ChangeAt, word_of}
-use Rattle.ist_core.specs.Statuses.{undecided}
-use Rattle.ist_core.specs.Elements.{Among}
-use Rattle.ist_core.specs.RowLayout.{first_row}
-use Rattle.ist_core.specs.Pieces.{Change, words_of}
-use Rattle.ist_core.specs.Snapshots.{HoldsRow, HoldsRows}
-use Rattle.ist_core.specs.StartLayout.{start}
-use Rattle.ist_core.specs.Logs.{Log}
-use Rattle.ist_core.specs.Links.{Linked}
-use Rattle.ist_core.specs.Slots.{SlotHolds}
-use Rattle.ist_core.specs.Deciding.{AllResolvedOf}
-use Rattle.ist_core.specs.Installing.{IsUnrefused}
-use Rattle.ist_core.specs.Lawful.{EachEnabled, state_of}
-use Rattle.ist_core.specs.Writing.{place_of_slot, first_change}
-use Rattle.ist_core.proofs.SoundLemmas.{sound}
-use Rattle.ist_core.proofs.StartLemmas.{sound_start}
-use Rattle.ist_core.proofs.GrowingLemmas.{change_there, slot_remains}
-use Rattle.ist_core.proofs.FateLemmas.{grow_between}
-use Rattle.ist_core.proofs.RoomLemmas.{next_within, words_same}
+use Rattle.ist_core.specs.declared.events.Who.TheVariants.{Caller}
+use Rattle.ist_core.specs.WordTerms.{ChangeAt, word_of, undecided, first_row, Change, words_of, start, SlotHolds}
+use Rattle.ist_core.specs.LogTerms.{Among, HoldsRow, HoldsRows, Log, EachEnabled, state_of, no_more, one_more, whose, Later, IsShown}
+use Rattle.ist_core.specs.TreeTerms.{Linked, AllResolvedOf, IsUnrefused, place_of_slot, first_change}
+use Rattle.ist_core.proofs.AllEventLemmas.{sound, sound_start}
+use Rattle.ist_core.proofs.AllLogLemmas.{change_there, slot_remains, grow_between, next_within, words_same, ever_later}
+use Rattle.ist_rule.specs.RuleTerms.{IsSound, own_at, now, GoesOnTo, Looked, MayCome, MayInstall, CanExchange}
 use Rattle.ist_rule.specs.declared.view.View.{View}
 use Rattle.ist_rule.specs.declared.view.Loads.{Loads}
-use Rattle.ist_core.specs.declared.events.Who.TheVariants.{Caller}
-use Rattle.ist_core.specs.Authors.{no_more, one_more, whose, Later}
-use Rattle.ist_core.specs.Shown.{IsShown}
-use Rattle.ist_core.proofs.PrefixLemmas.{ever_later}
-use Rattle.ist_rule.specs.Rule.{IsSound, own_at}
-use Rattle.ist_rule.specs.Learning.{now, GoesOnTo, Looked}
-use Rattle.ist_rule.specs.Conditions.{MayCome, MayInstall, CanExchange}
 use Rattle.ist_rule.proofs.LaterLemmas.{later-goes_on, later_more}
-use Rattle.ist_rule.proofs.GoingOnLemmas.{callers_later, looked_goes_on}
+use Rattle.ist_rule.proofs.EventLemmas.{callers_later, looked_goes_on}
 use Rattle.ist_rule.proofs.FitLemmas.{each_map}
 use Rattle.ist_rule.proofs.ShownLemmas.{held_loose}
-use Rattle.ist_rule.proofs.HeldLemmas.{held_later}
+use Rattle.ist_rule.proofs.WatchLemmas.{held_later}
 use Rattle.ist_rule.proofs.ChangeLemmas.{ChangeComes, stood, is_installed, change_comes}
 use Rattle.ist_rule.proofs.UndecidedLemmas.{resolved_decided}
 use Rattle.ist_rule.proofs.CallLemmas.{between_later, resolved_later}
 use Rattle.ist_dcss.specs.Installing.{Filling, rows_of, IsInstallable}
 use Rattle.ist_dcss.specs.HelpEvents.{HasFilled, IsSlot}
 use Rattle.ist_rule.proofs.WentOnLemmas.{goes_on_now, goes_on_lawful, goes_on_grow}
-use Rattle.ist_dcss.proofs.SlotPlaceLemmas.{slot_shown, shown_in_slot, slot_place_later}
-use Rattle.ist_dcss.proofs.FitsLemmas.{fits_later}
+use Rattle.ist_dcss.proofs.SlotPlaceLemmas.{slot_shown, shown_in_slot, slot_place_later, fits_later}
 
 -- ---- rows that a caller has filled
 
 -- a held row is held still once the caller made loads
 pub held_on : (v w : View) → GoesOnTo v w → (h : HeldRow) → v.who ≡ Caller h.caller
     → Among h (now v).held → Among h (now w).held
-held_on v w g h who i =
-    subst (λ t. Among h t.held) (sym (goes_on_now v w g))
+held_on v w g h who i = subst (λ t. Among h t.held) (sym (goes_on_now v w g))
     (held_later v.start v.words h v.log w.log (goes_on_lawful v w g).enabled
     (subst (λ x. Later x v.log w.log) who g.later) i)
 
 -- what was filled is filled
 pub filled_on : (v w : View) → GoesOnTo v w → (base : ℕ) (words : List ℕ) → HasFilled v base words
     → HasFilled w base words
-filled_on v w g base words f =
-    record {
-      number = f.number;
-      mine = ap (λ x. x.who) g.same ∙ f.mine;
-      held = held_on v w g record { caller = f.number; base = base; size = length words } f.mine
-          f.held;
-      stored = λ k less. f.stored k less
-          ∙ ap (λ own. Some (own_at own (base + k))) (sym (ap (λ x. x.own) g.same));
-    }
+filled_on v w g base words f = record {
+  number = f.number;
+  mine = ap (λ x. x.who) g.same ∙ f.mine;
+  held = held_on v w g record { caller = f.number; base = base; size = length words } f.mine f.held;
+  stored = λ k less. f.stored k less
+      ∙ ap (λ own. Some (own_at own (base + k))) (sym (ap (λ x. x.own) g.same));
+}
 
 -- a load of such a word gives it
 pub own_tells : (v : View) (place word : ℕ) (w : View) → Looked v place word w → (base : ℕ)
@@ -88,8 +65,7 @@ own_low v s base words f k less =
     record { caller = f.number; base = base; size = length words } f.held k less in
     let below = loose.below in
     let low = next_within v.start v.words s.lawful.opens v.log s.lawful.enabled in
-    let all = words_same v.start v.words s.lawful.opens v.log in
-    omega arith
+    let all = words_same v.start v.words s.lawful.opens v.log in omega arith
 
 -- and after the fixed words
 pub own_above : (v : View) → IsSound v → (base : ℕ) (words : List ℕ) → HasFilled v base words → (k : ℕ)
@@ -131,8 +107,7 @@ came_before pairs words number old _ h (one_more {log = log} event l other) base
         (Change y)))
         → ChangeComes (start pairs words) log base r ev
         → (x : ChangeRow) × ((state_of pairs words old).pieces base ≡ Some (Change x))
-    at ev ne before (stood x there g) =
-        before x there (sym (ap (λ y. y.owner) g.others) ∙ own)
+    at ev ne before (stood x there g) = before x there (sym (ap (λ y. y.owner) g.others) ∙ own)
     at _ ne before (is_installed {caller = caller} k g) =
         absurd (ne (ap Caller (sym k.owned ∙ sym (ap (λ y. y.owner) g.others) ∙ own)))
 
@@ -143,8 +118,7 @@ unrefused_later : (pairs : List Pair) (words number node : ℕ) (old log : Log)
     → IsUnrefused (state_of pairs words old) number node
     → IsUnrefused (state_of pairs words log) number node
 unrefused_later pairs words number node old log before h l all none base r e own at =
-    let t = state_of pairs words old in
-    let u = state_of pairs words log in
+    let t = state_of pairs words old in let u = state_of pairs words log in
     let was = came_before pairs words number old log h l base r e own in
     let on = change_there t.pieces u.pieces (grow_between pairs words old log h (later-goes_on l))
     base
@@ -177,8 +151,7 @@ module _ (v : View) (base : ℕ) (f : Filling) (m : IsInstallable v base f) (sv 
 
   rows_held : (log : Log) → MayCome w log → HoldsRows (state_of v.start v.words log) number
       (rows_of f base)
-  rows_held log c =
-      each_map (λ row. HoldsRow (now v) number row.base (length row.words))
+  rows_held log c = each_map (λ row. HoldsRow (now v) number row.base (length row.words))
       (λ row. HoldsRow (state_of v.start v.words log) number row.base (length row.words))
       (rows_of f base)
       (λ row _ h. held_later v.start v.words
@@ -187,19 +160,16 @@ module _ (v : View) (base : ℕ) (f : Filling) (m : IsInstallable v base f) (sv 
 
   -- the call allows it
   call_allows : MayInstall w number f.change
-  call_allows =
-      let a = m.allowed in
-      let to_here = later_all l no_more in
-      record {
-        pending = a.pending;
-        in_call = a.in_call;
-        resolved = resolved_later v.start v.words number v.calls v.log l s.lawful.enabled to_here
-            a.resolved;
-        command = a.command;
-        none_yet = λ update.
-            (between_later v.start v.words number v.calls v.log l s.lawful.enabled to_here
-            record { made = a.none_yet update; resolved = a.resolved }).made;
-      }
+  call_allows = let a = m.allowed in let to_here = later_all l no_more in record {
+    pending = a.pending;
+    in_call = a.in_call;
+    resolved = resolved_later v.start v.words number v.calls v.log l s.lawful.enabled to_here
+        a.resolved;
+    command = a.command;
+    none_yet = λ update.
+        (between_later v.start v.words number v.calls v.log l s.lawful.enabled to_here
+        record { made = a.none_yet update; resolved = a.resolved }).made;
+  }
 
   one_change : (x : ChangeRow) → first_change (rows_of f base) ≡ Some x → f.change ≡ x
   one_change x e = let same : Some f.change ≡ Some x = e in cc
@@ -207,16 +177,14 @@ module _ (v : View) (base : ℕ) (f : Filling) (m : IsInstallable v base f) (sv 
   -- the slot after a log that may come
   slot_there : (log : Log) → MayCome w log
       → (word : ℕ) × SlotHolds (state_of v.start v.words log) f.change.node f.change.index word
-  slot_there log c =
-      slot_remains (now v) (state_of v.start v.words log)
+  slot_there log c = slot_remains (now v) (state_of v.start v.words log)
       (grow_between v.start v.words v.log log c.lawful.enabled
       (later-goes_on (later_all log c.later))) f.change.node f.change.index m.word m.slot
 
   place_there : (log : Log) → MayCome w log
       → place_of_slot (state_of v.start v.words log) f.change.node f.change.index
       ≡ place_of_slot (now v) f.change.node f.change.index
-  place_there log c =
-      slot_place_later v.start v.words v.log log sv.lawful.enabled c.lawful.enabled
+  place_there log c = slot_place_later v.start v.words v.log log sv.lawful.enabled c.lawful.enabled
       (grow_between v.start v.words v.log log c.lawful.enabled
       (later-goes_on (later_all log c.later))) f.change.node f.change.index m.word m.slot
 
@@ -242,17 +210,13 @@ module _ (v : View) (base : ℕ) (f : Filling) (m : IsInstallable v base f) (sv 
                   (slot_shown v.start v.words log c.lawful.enabled f.change.node f.change.index
                   slot.0 slot.1),
             );
-        comes = λ log c shown.
-            let u = state_of v.start v.words log in
-            let slot = slot_there log c in
-            let on = later-goes_on (later_all log c.later) in
+        comes = λ log c shown. let u = state_of v.start v.words log in
+            let slot = slot_there log c in let on = later-goes_on (later_all log c.later) in
             let same : old ≡ slot.0 =
             shown_in_slot v.start v.words log c.lawful.enabled f.change.node f.change.index
-            slot.0 old slot.1
-            (subst (λ p. IsShown u p old) (at ∙ sym (place_there log c)) shown) in
+            slot.0 old slot.1 (subst (λ p. IsShown u p old) (at ∙ sym (place_there log c)) shown) in
             let low = s.is_true.low number m.mine in
-            let more = callers_later v.start v.words l log c.later in
-            record {
+            let more = callers_later v.start v.words l log c.later in record {
               enabled = record {
                 known = omega arith;
                 change = f.change;
@@ -273,8 +237,7 @@ module _ (v : View) (base : ℕ) (f : Filling) (m : IsInstallable v base f) (sv 
               touches = ap (λ p. Some record {
                 place = p;
                 found = f.change.from;
-                left =
-                    word_of (ChangeAt base);
+                left = word_of (ChangeAt base);
               }) (place_there log c ∙ sym at)
                   ∙ ap₂ (λ a b. Some record { place = place; found = a; left = b }) (sym old_is)
                   (sym new_is);

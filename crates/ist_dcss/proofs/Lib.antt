@@ -1,15 +1,9 @@
-pub mod HelperLemmas
-pub mod OutcomeLemmas
 pub mod SlotPlaceLemmas
 pub mod FieldLemmas
 pub mod DecideLemmas
 pub mod DecidedLemmas
 pub mod ResolveLemmas
 pub mod SetSlotLemmas
-pub mod FitsLemmas
 pub mod InstallLemmas
-pub mod InstalledLemmas
 pub mod CallingLemmas
-pub mod OpeningLemmas
 pub mod ResolvedLemmas
-pub mod TargetLemmas

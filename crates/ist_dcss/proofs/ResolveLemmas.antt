@@ -4,36 +4,23 @@ use Rattle.std.proofs.lemmas.Bool.Decides.{eqb_tells}
 use Rattle.ist_core.specs.declared.states.ChangeRow.{ChangeRow}
 use Rattle.ist_core.specs.declared.events.Event.{Event}
 use Rattle.ist_core.specs.declared.events.Event.TheVariants.{Resolve}
-use Rattle.ist_core.specs.References.{ChangeAt, word_of, tag_count}
-use Rattle.ist_core.specs.Statuses.{undecided, decided_yes}
-use Rattle.ist_core.specs.Pieces.{Change, as_change}
-use Rattle.ist_core.specs.Growing.{ChangeGrows}
-use Rattle.ist_core.specs.After.{side_of, decision_word}
-use Rattle.ist_core.specs.Logs.{Log, Happened, Resolves}
-use Rattle.ist_core.specs.Slots.{SlotHolds}
-use Rattle.ist_core.specs.Lawful.{state_of}
-use Rattle.ist_core.specs.Writing.{place_of_slot, touch_of_resolve}
-use Rattle.ist_core.proofs.FateLemmas.{grow_between}
+use Rattle.ist_core.specs.declared.events.Who.TheVariants.{Caller}
+use Rattle.ist_core.specs.WordTerms.{ChangeAt, word_of, tag_count, undecided, decided_yes, Change, as_change, SlotHolds}
+use Rattle.ist_core.specs.TreeTerms.{ChangeGrows, place_of_slot, touch_of_resolve}
+use Rattle.ist_core.specs.LogTerms.{side_of, decision_word, Log, Happened, Resolves, state_of, IsShown}
+use Rattle.ist_core.proofs.AllLogLemmas.{grow_between, slot_remains, said_something}
 use Rattle.laws_links.proofs.ChangeLemmas.{unresolved_stands}
 use Rattle.laws_links.proofs.ResolvedLemmas.{resolved_gone}
+use Rattle.ist_rule.specs.RuleTerms.{IsSound, now, Looked, Logged, Exchanged, MayCome, CanExchange, number_of, WentOn}
 use Rattle.ist_rule.specs.declared.view.View.{View}
-use Rattle.ist_core.specs.declared.events.Who.TheVariants.{Caller}
-use Rattle.ist_core.specs.Shown.{IsShown}
-use Rattle.ist_core.proofs.GrowingLemmas.{slot_remains}
-use Rattle.ist_rule.specs.Rule.{IsSound}
-use Rattle.ist_rule.specs.Learning.{now, Looked, Logged, Exchanged}
-use Rattle.ist_rule.specs.Conditions.{MayCome, CanExchange}
-use Rattle.ist_rule.specs.Watching.{number_of}
 use Rattle.ist_rule.proofs.LaterLemmas.{later-goes_on}
 use Rattle.ist_dcss.specs.Helping.{MayHelp, Serves, IsDecided, IsOut}
 use Rattle.ist_dcss.specs.HelpEvents.{resolving, IsField, IsSlotOf, outcome_offset_of}
-use Rattle.ist_rule.specs.Going.{WentOn}
 use Rattle.ist_rule.proofs.WentOnLemmas.{looked_went, logged_went, later_by-goes_on, went_more, went_who, went_now, went_lawful}
-use Rattle.ist_dcss.proofs.HelperLemmas.{went_row}
+use Rattle.ist_dcss.proofs.ResolvedLemmas.{went_row}
 use Rattle.ist_dcss.proofs.SlotPlaceLemmas.{change_slot, slot_shown, shown_in_slot, slot_place_later}
 use Rattle.ist_dcss.proofs.FieldLemmas.{field_now}
 use Rattle.ist_dcss.proofs.DecideLemmas.{row_after, number_low}
-use Rattle.ist_core.proofs.YesLemmas.{said_something}
 
 -- an event resolves the change or doesn't
 resolves_now : (base : ℕ) (event : Event) → Resolves base event ⊎ ¬ (Resolves base event)
@@ -45,20 +32,17 @@ resolves_now base _ = inr (λ e. e)
 resolved_or_not : (base : ℕ) (log : Log) → Happened (Resolves base) log
     ⊎ ¬ (Happened (Resolves base) log)
 resolved_or_not base [] = inr (λ e. e)
-resolved_or_not base (event ∷ log) =
-    ⊎_elim (λ k. inl (inl k))
+resolved_or_not base (event ∷ log) = ⊎_elim (λ k. inl (inl k))
     (λ no. ⊎_elim (λ k. inl (inr k)) (λ none. inr (λ h. ⊎_elim no none h))
     (resolved_or_not base log))
     (resolves_now base event)
 
 -- a change that was resolved is out
 out : (v : View) → IsSound v → (change : ℕ) → Happened (Resolves change) v.log → IsOut v change
-out v s change h =
-    record {
-      resolved = h;
-      gone = resolved_gone v.start v.words s.lawful.opens v.log
-          s.lawful.enabled change h;
-    }
+out v s change h = record {
+  resolved = h;
+  gone = resolved_gone v.start v.words s.lawful.opens v.log s.lawful.enabled change h;
+}
 
 -- a caller may take a decided change out of its slot, whatever others do meanwhile
 module _ (v : View) (s : IsSound v) (change number : ℕ) (mine : v.who ≡ Caller number)
@@ -85,8 +69,7 @@ module _ (v : View) (s : IsSound v) (change number : ℕ) (mine : v.who ≡ Call
   -- what the slot's word is once the change is decided
   side_after : row.decision ≢ undecided → (r : ChangeRow) → ChangeGrows row r
       → side_of r ≡ side_of row
-  side_after set r g =
-      ap (λ d. if d == decided_yes then r.to else r.from) (g.decided set)
+  side_after set r g = ap (λ d. if d == decided_yes then r.to else r.from) (g.decided set)
       ∙ ap₂ (λ a b. if row.decision == decided_yes then a else b) (ap (λ x. x.to) g.others)
       (ap (λ x. x.from) g.others)
 
@@ -94,52 +77,47 @@ module _ (v : View) (s : IsSound v) (change number : ℕ) (mine : v.who ≡ Call
   pub can_resolve : row.decision ≢ undecided → (place old side : ℕ)
       → place ≡ place_of_slot (now v) row.node row.index → old ≡ word_of (ChangeAt change)
       → side ≡ side_of row → CanExchange v place old side (Resolve number change)
-  can_resolve set place old side at old_is side_is =
-      record {
-        make = record { mine = sym mine; stored = tt; allowed = tt };
-        known = λ log m.
-            let slot = slot_after log m in
-            let u = state_of v.start v.words log in (
-              slot.0,
-              subst (λ p. IsShown u p slot.0) (place_after log m ∙ sym at)
-                  (slot_shown v.start v.words log m.lawful.enabled row.node row.index slot.0
-                  slot.1),
-            );
-        comes = λ log m shown.
-            let u = state_of v.start v.words log in
-            let r = row_after v s change number mine row installed log m in
-            let slot = slot_after log m in
-            let same : old ≡ slot.0 =
-            shown_in_slot v.start v.words log m.lawful.enabled row.node row.index slot.0 old
-            slot.1
-            (subst (λ p. IsShown u p old) (at ∙ sym (place_after log m)) shown) in
-            let holds : SlotHolds u row.node row.index (word_of (ChangeAt change)) =
-            subst (SlotHolds u row.node row.index) (sym same ∙ old_is) slot.1 in
-            let node : r.0.node ≡ row.node = ap (λ x. x.node) r.2.others in
-            let index : r.0.index ≡ row.index = ap (λ x. x.index) r.2.others in
-            let place_is : place_of_slot u r.0.node r.0.index ≡ place =
-            ap₂ (place_of_slot u) node index ∙ place_after log m ∙ sym at in
-            record {
-              enabled = record {
-                known = number_low v s change number mine row installed log m;
-                change = r.0;
-                published = r.1;
-                decided = λ e. set (sym (r.2.decided set) ∙ e);
-                in_slot = subst (λ n. SlotHolds u n r.0.index (word_of (ChangeAt change)))
-                    (sym node) (subst (λ i. SlotHolds u row.node i (word_of (ChangeAt change)))
-                    (sym index) holds);
-              };
-              touches = ap (λ o. touch_of_resolve u change (as_change o)) r.1
-                  ∙ ap (λ p. Some record {
-                    place = p;
-                    found = word_of (ChangeAt change);
-                    left =
-                        side_of r.0;
-                  }) place_is
-                  ∙ ap₂ (λ f l. Some record { place = place; found = f; left = l }) (sym old_is)
-                  (side_after set r.0 r.2 ∙ sym side_is);
-            };
-      }
+  can_resolve set place old side at old_is side_is = record {
+    make = record { mine = sym mine; stored = tt; allowed = tt };
+    known = λ log m. let slot = slot_after log m in
+        let u = state_of v.start v.words log in (
+          slot.0,
+          subst (λ p. IsShown u p slot.0) (place_after log m ∙ sym at)
+              (slot_shown v.start v.words log m.lawful.enabled row.node row.index slot.0
+              slot.1),
+        );
+    comes = λ log m shown. let u = state_of v.start v.words log in
+        let r = row_after v s change number mine row installed log m in
+        let slot = slot_after log m in
+        let same : old ≡ slot.0 =
+        shown_in_slot v.start v.words log m.lawful.enabled row.node row.index slot.0 old
+        slot.1 (subst (λ p. IsShown u p old) (at ∙ sym (place_after log m)) shown) in
+        let holds : SlotHolds u row.node row.index (word_of (ChangeAt change)) =
+        subst (SlotHolds u row.node row.index) (sym same ∙ old_is) slot.1 in
+        let node : r.0.node ≡ row.node = ap (λ x. x.node) r.2.others in
+        let index : r.0.index ≡ row.index = ap (λ x. x.index) r.2.others in
+        let place_is : place_of_slot u r.0.node r.0.index ≡ place =
+        ap₂ (place_of_slot u) node index ∙ place_after log m ∙ sym at in
+        record {
+          enabled = record {
+            known = number_low v s change number mine row installed log m;
+            change = r.0;
+            published = r.1;
+            decided = λ e. set (sym (r.2.decided set) ∙ e);
+            in_slot = subst (λ n. SlotHolds u n r.0.index (word_of (ChangeAt change)))
+                (sym node) (subst (λ i. SlotHolds u row.node i (word_of (ChangeAt change)))
+                (sym index) holds);
+          };
+          touches = ap (λ o. touch_of_resolve u change (as_change o)) r.1
+              ∙ ap (λ p. Some record {
+                place = p;
+                found = word_of (ChangeAt change);
+                left = side_of r.0;
+              }) place_is
+              ∙ ap₂ (λ f l. Some record { place = place; found = f; left = l }) (sym old_is)
+              (side_after set r.0 r.2 ∙ sym side_is);
+        };
+  }
 
 -- a caller that exchanged the slot helped, and the change is out
 pub resolve_tells : (v : View) (s : IsSound v) (change number place old found : ℕ) (w : View)
@@ -159,8 +137,7 @@ resolve_tells v s change number place old found w row there at old_is x =
         )
 
     miss : found ≢ old → WentOn (Serves change) v w × IsOut w change
-    miss ne =
-        let l : Looked v place found w = x.1 ne in
+    miss ne = let l : Looked v place found w = x.1 ne in
         let went = looked_went (Serves change) v place found w l in
         let on = went_row (Serves change) change v w went row there in
         let node : on.0.node ≡ row.node = ap (λ y. y.node) on.2.others in
@@ -216,8 +193,7 @@ pub may_resolve : (v : View) (change : ℕ) (m : MayHelp v change) (said : Bool)
     → IsSlotOf u change place → (w : View) → WentOn (Serves change) u w → (side offset : ℕ)
     → IsField w change offset side → offset ≡ outcome_offset_of said
     → MayResolve change m.number place side v w
-may_resolve v change m said d u h place slot w k side offset field offset_is =
-    let s = h.sound in
+may_resolve v change m said d u h place slot w k side offset field offset_is = let s = h.sound in
     let all = went_more (Serves change) v u w h k in
     let on = went_row (Serves change) change v w all d.row d.published in
     let more = went_row (Serves change) change u w k slot.row slot.published in
@@ -250,10 +226,8 @@ may_resolve v change m said d u h place slot w k side offset field offset_is =
 -- the event that the exchange of a slot names
 pub resolving_is : (v : View) (number change old : ℕ) → v.who ≡ Caller number
     → old ≡ word_of (ChangeAt change) → resolving v (old / tag_count) ≡ Resolve number change
-resolving_is v number change old who is =
-    let number_is : old ≡ change * 8 + 3 = is in
-    let base : old / 8 ≡ change = omega arith in
-    ap₂ Resolve (ap number_of who) base
+resolving_is v number change old who is = let number_is : old ≡ change * 8 + 3 = is in
+    let base : old / 8 ≡ change = omega arith in ap₂ Resolve (ap number_of who) base
 
 -- a helper that may resolve
 module _ (v : View) (change number place side : ℕ) (u : View)
@@ -264,8 +238,7 @@ module _ (v : View) (change number place side : ℕ) (u : View)
 
   -- may exchange the word of the slot
   pub helper_can_resolve : CanExchange u place word side (resolving u (word / tag_count))
-  helper_can_resolve =
-      subst (CanExchange u place word side) (sym names)
+  helper_can_resolve = subst (CanExchange u place word side) (sym names)
       (can_resolve u s change number m.mine m.row m.published m.decided place word side m.at is m.side_is)
 
   -- has then served the change, which is out of its slot

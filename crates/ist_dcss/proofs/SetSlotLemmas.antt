@@ -5,22 +5,11 @@ use Rattle.ist_core.specs.declared.lists.Row.{Row}
 use Rattle.ist_core.specs.declared.states.ChangeRow.{ChangeRow}
 use Rattle.ist_core.specs.declared.events.Event.{Event}
 use Rattle.ist_core.specs.declared.events.Event.TheVariants.{Install, Resolve, Place}
-use Rattle.ist_core.specs.References.{ChangeAt, word_of, unset_word}
-use Rattle.ist_core.specs.Statuses.{decided_yes}
-use Rattle.ist_core.specs.Pieces.{Change}
-use Rattle.ist_core.specs.Snapshots.{Snapshot}
-use Rattle.ist_core.specs.StartLayout.{start}
-use Rattle.ist_core.specs.After.{side_of}
-use Rattle.ist_core.specs.Logs.{Log, GoesOn, same_log, one_event}
-use Rattle.ist_core.specs.Slots.{SlotHolds}
-use Rattle.ist_core.specs.Installing.{FitsKind, a_put, a_pair, a_remove, a_start, a_finish}
-use Rattle.ist_core.specs.Lawful.{EachEnabled, state_of}
-use Rattle.ist_core.proofs.PlaceLemmas.{anchor_free}
-use Rattle.ist_core.proofs.SlotLemmas.{slot_once}
-use Rattle.ist_core.proofs.SlotStepLemmas.{WritesSlot, WritesNoSlot, install_writes, resolve_writes, place_writes, slot_stays}
-use Rattle.ist_core.proofs.FateLemmas.{grow_between}
-use Rattle.ist_core.proofs.GrowingLemmas.{slot_remains}
-use Rattle.ist_core.proofs.SettingLemmas.{change_set, room_set, set_by}
+use Rattle.ist_core.specs.WordTerms.{ChangeAt, word_of, unset_word, decided_yes, Change, start, SlotHolds}
+use Rattle.ist_core.specs.LogTerms.{Snapshot, side_of, Log, GoesOn, same_log, one_event, EachEnabled, state_of}
+use Rattle.ist_core.specs.TreeTerms.{FitsKind, a_put, a_pair, a_remove, a_start, a_finish}
+use Rattle.ist_core.proofs.AllPlaceLemmas.{anchor_free, slot_once, WritesSlot, WritesNoSlot, install_writes, resolve_writes, place_writes, slot_stays}
+use Rattle.ist_core.proofs.AllLogLemmas.{grow_between, slot_remains, change_set, room_set, set_by}
 use Rattle.laws_links.proofs.InductionLemmas.{changes_by, sound_after}
 
 -- neither side of the change is Unset
@@ -45,8 +34,7 @@ fits_sides first log change fresh (a_finish h) =
 sides : (pairs : List Pair) (words : ℕ) (log : Log) → EachEnabled (start pairs words) log
     → (base : ℕ) (x : ChangeRow) → (state_of pairs words log).pieces base ≡ Some (Change x)
     → HasSides x
-sides pairs words =
-    changes_by pairs words (λ log base x. HasSides x)
+sides pairs words = changes_by pairs words (λ log base x. HasSides x)
     (λ log event h base x old there was. was)
     (λ log caller base rows h can. fits_sides (start pairs words) log can.change can.fresh can.fits)
     (λ log caller base said h can was. was)
@@ -68,8 +56,7 @@ module _ (pairs : List Pair) (words : ℕ) where
       → SlotHolds (state_of pairs words (event ∷ log)) node i now → now ≢ unset_word
   written log event h at j new old w how node i was now before set following =
       let u = state_of pairs words (event ∷ log) in
-      let free = anchor_free pairs words (event ∷ log) h in
-      ⊎_elim
+      let free = anchor_free pairs words (event ∷ log) h in ⊎_elim
       (λ here.
       let there : SlotHolds u at j now =
       subst (λ n. SlotHolds u n j now) here.1 (subst (λ k. SlotHolds u node k now) here.2
@@ -122,13 +109,11 @@ module _ (pairs : List Pair) (words : ℕ) where
       → (word : ℕ) → SlotHolds (state_of pairs words log) node i word → word ≢ unset_word
   set_later old _ same_log h node i all is word slot = all word slot
   set_later old _ (one_event {log = log} event g) h node i all is word slot =
-      let mid = slot_there old log g h.0 node i is in
-      set_on log event h node i mid.0 word mid.1
+      let mid = slot_there old log g h.0 node i is in set_on log event h node i mid.0 word mid.1
       (set_later old log g h.0 node i all is mid.0 mid.1) slot
     where
       slot_there : (a b : Log) → GoesOn a b → EachEnabled (start pairs words) b → (n j : ℕ)
           → ((w : ℕ) × SlotHolds (state_of pairs words a) n j w)
           → (w : ℕ) × SlotHolds (state_of pairs words b) n j w
-      slot_there a b goes e n j s =
-          slot_remains (state_of pairs words a) (state_of pairs words b)
+      slot_there a b goes e n j s = slot_remains (state_of pairs words a) (state_of pairs words b)
           (grow_between pairs words a b e goes) n j s.0 s.1

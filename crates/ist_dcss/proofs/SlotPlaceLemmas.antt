@@ -1,35 +1,29 @@
 -- Where the slot of a change lies, and what is shown there. Serves `slot_of` and `resolve`.
-use Rattle.std.proofs.Common.{◌≡◌, ◌≢◌, ℕ, ◌+◌, ◌≤◌, List, ◌∷◌, length, Some, refl, sym, ap, ◌∙◌, subst, arith}
+use Rattle.std.proofs.Common.{◌≡◌, ◌≢◌, ℕ, ◌+◌, ◌≤◌, List, ◌∷◌, length, Some, refl, sym, ap, ◌∙◌, subst, arith, inl, inr, ⊎_elim}
 use Rattle.ist_core.specs.declared.pairs.Pair.{Pair}
 use Rattle.ist_core.specs.declared.states.InnerRow.{InnerRow}
 use Rattle.ist_core.specs.declared.states.ChangeRow.{ChangeRow}
 use Rattle.ist_core.specs.declared.events.Event.{Event}
 use Rattle.ist_core.specs.declared.events.Event.TheVariants.{Install, Decide}
-use Rattle.ist_core.specs.RowLayout.{first_row, anchor, anchor_slot_place, slot_place}
-use Rattle.ist_core.specs.Pieces.{Piece, Inner, Change, size_of}
-use Rattle.ist_core.specs.Snapshots.{Snapshot}
-use Rattle.ist_core.specs.StartLayout.{start}
-use Rattle.ist_core.specs.Growing.{AllGrow}
+use Rattle.ist_core.specs.declared.lists.Row.{Row}
+use Rattle.ist_core.specs.declared.states.RebuildRow.{RebuildRow}
+use Rattle.ist_core.specs.WordTerms.{first_row, anchor, anchor_slot_place, slot_place, Piece, Inner, Change, size_of, start, SlotHolds, in_anchor, in_row, ref_of, InnerAt, Rebuild}
+use Rattle.ist_core.specs.LogTerms.{Snapshot, Log, EachEnabled, state_of, IsShown, shown_next, shown_callers, shown_status, shown_slot, shown_row, shown_free, GoesOn, CanOpen}
+use Rattle.ist_core.specs.TreeTerms.{AllGrow, place_of_slot, Leads, IsBuilt, ComesByKey, FitsKind, a_put, a_pair, a_remove, a_start, a_finish}
 use Rattle.ist_core.specs.Naming.{HasDegree}
-use Rattle.ist_core.specs.Logs.{Log}
-use Rattle.ist_core.specs.Slots.{SlotHolds, in_anchor, in_row}
-use Rattle.ist_core.specs.Lawful.{EachEnabled, state_of}
-use Rattle.ist_core.specs.Writing.{place_of_slot}
-use Rattle.ist_core.proofs.ImageLemmas.{get-words_of_slot}
-use Rattle.ist_core.proofs.PlaceLemmas.{placed, claimed_within, anchor_free, next_after_fixed}
-use Rattle.ist_core.proofs.ShapedLemmas.{shaped}
-use Rattle.ist_core.proofs.GrowingLemmas.{inner_there, slot_remains}
+use Rattle.ist_core.proofs.AllPlaceLemmas.{get-words_of_slot, placed, claimed_within, anchor_free, next_after_fixed, shaped, get_below, has_word, RootNames, names}
+use Rattle.ist_core.proofs.AllLogLemmas.{inner_there, slot_remains, grow_after, rebuild_there, child_remains, due_later, grow_between, enabled_before, ever_later}
 use Rattle.laws_links.proofs.InductionLemmas.{changes_by}
-use Rattle.ist_core.specs.Shown.{IsShown, shown_next, shown_callers, shown_status, shown_slot, shown_row, shown_free}
-use Rattle.ist_core.proofs.FateLemmas.{grow_after}
 use Rattle.ist_rule.proofs.WatchLemmas.{shown_in_row, place_inner}
+use Rattle.ist_core.proofs.AllWordLemmas.{same_inner}
+use Rattle.laws_links.proofs.FormLemmas.{leaf_of_grows, room_grows, started_grows}
+use Rattle.ist_dcss.proofs.SetSlotLemmas.{set_later}
 
 -- each change has a slot
 pub change_slot : (pairs : List Pair) (words : ℕ) (log : Log) → EachEnabled (start pairs words) log
     → (base : ℕ) (x : ChangeRow) → (state_of pairs words log).pieces base ≡ Some (Change x)
     → (word : ℕ) × SlotHolds (state_of pairs words log) x.node x.index word
-change_slot pairs words =
-    changes_by pairs words
+change_slot pairs words = changes_by pairs words
     (λ log base x. (word : ℕ) × SlotHolds (state_of pairs words log) x.node x.index word)
     (λ log event h base x old there was. on log event h x.node x.index was)
     (λ log caller base rows h can.
@@ -39,8 +33,7 @@ change_slot pairs words =
     on log (Decide caller base said) h can.change.node can.change.index was)
   where
     on : (log : Log) (event : Event) (h : EachEnabled (start pairs words) (event ∷ log))
-        (node i : ℕ)
-        → (word : ℕ) × SlotHolds (state_of pairs words log) node i word
+        (node i : ℕ) → (word : ℕ) × SlotHolds (state_of pairs words log) node i word
         → (word : ℕ) × SlotHolds (state_of pairs words (event ∷ log)) node i word
     on log event h node i was =
         slot_remains (state_of pairs words log) (state_of pairs words (event ∷ log))
@@ -63,8 +56,7 @@ module _ (pairs : List Pair) (words : ℕ) (log : Log) (enabled : EachEnabled (s
     -- the place of slot i of an inner row, among its words
     slot_at : (node i word : ℕ) (r : InnerRow) → t.pieces node ≡ Some (Inner r)
         → place_of_slot t node i ≡ node + (4 + length r.keys + i)
-    slot_at node i word r e =
-        let keys = (has_degree node r e).keys in
+    slot_at node i word r e = let keys = (has_degree node r e).keys in
         let same : slot_place node r.degree i ≡ node + (4 + length r.keys + i) = omega arith in
         place_inner t node i r e (no_anchor node r e) ∙ same
 
@@ -118,9 +110,125 @@ slot_place_later pairs words old log before enabled g node i word (in_anchor e f
     ap (λ n. place_of_slot (state_of pairs words log) n i) e
     ∙ sym (ap (λ n. place_of_slot (state_of pairs words old) n i) e)
 slot_place_later pairs words old log before enabled g node i word (in_row r e at) =
-    let t = state_of pairs words old in
-    let u = state_of pairs words log in
+    let t = state_of pairs words old in let u = state_of pairs words log in
     let on = inner_there t.pieces u.pieces g node r e in
     place_inner u node i on.0 on.1 (no_anchor pairs words log enabled node on.0 on.1)
     ∙ ap (λ d. slot_place node d i) on.2.degree
     ∙ sym (place_inner t node i r e (no_anchor pairs words old before node r e))
+
+-- ---- what an Install asks of the log holds after each longer one. Serves `install`.
+
+module _ (pairs : List Pair) (words : ℕ) (opens : CanOpen pairs words) (old log : Log)
+    (enabled : EachEnabled (start pairs words) log) (on : GoesOn old log) where
+  abbrev before : Snapshot
+  before = state_of pairs words old
+
+  abbrev u : Snapshot
+  u = state_of pairs words log
+
+  grow : AllGrow before.pieces u.pieces
+  grow = grow_between pairs words old log enabled on
+
+  comes_later : (change : ChangeRow) → ComesByKey (start pairs words) old change
+      → ComesByKey (start pairs words) log change
+  comes_later change c = record {
+    led = ever_later (start pairs words) (λ before. Leads before change.key change.node) on c.led;
+    index = child_remains before u grow change.node change.key change.index c.index;
+  }
+
+  -- a built root is built
+  built_later : (root : ℕ) → ((base : ℕ) → ref_of root ≡ Some (InnerAt base)
+      → (r : InnerRow) × (before.pieces base ≡ Some (Inner r))) → IsBuilt before root → IsBuilt u root
+  built_later root stands b = record {
+    set = b.set;
+    whole = λ base i word is slot. set_later pairs words old log on enabled base i
+        (λ w s. b.whole base i w is s) (slot_before base i word (stands base is) slot) word slot;
+  }
+    where
+      slot_before : (base i word : ℕ) → (r : InnerRow) × (before.pieces base ≡ Some (Inner r))
+          → SlotHolds u base i word → (w : ℕ) × SlotHolds before base i w
+      slot_before base i word r (in_anchor e f is) = (before.anchor, in_anchor e f refl)
+      slot_before base i word r (in_row s e at) =
+          let it = inner_there before.pieces u.pieces grow base r.0 r.1 in
+          let same : it.0 ≡ s = same_inner (u.pieces base) it.0 s it.1 e in
+          let less = get_below s.slots i word at in
+          let slots : length it.0.slots ≡ length r.0.slots = it.2.slots in
+          let here : length it.0.slots ≡ length s.slots = ap (λ x. length x.slots) same in
+          let got = has_word r.0.slots i (omega arith) in (got.0, in_row r.0 r.1 got.1)
+
+  -- the root of a published rebuild is published
+  root_stands : (rebuild : ℕ) (r : RebuildRow) → before.pieces rebuild ≡ Some (Rebuild r) → (base : ℕ)
+      → ref_of r.root ≡ Some (InnerAt base) → (s : InnerRow) × (before.pieces base ≡ Some (Inner s))
+  root_stands rebuild r e base is =
+      let row = (names pairs words opens old (enabled_before (start pairs words) old log on
+      enabled)).rows rebuild (Rebuild r) e in
+      (subst (RootNames before.pieces r.target) is row.2).1
+
+  -- a change that fits its kind fits it
+  pub fits_later : (change : ChangeRow) (fresh : List Row)
+      → FitsKind (start pairs words) old change fresh → FitsKind (start pairs words) log change
+      fresh
+  fits_later change fresh (a_put h) = a_put record {
+    kind = h.kind;
+    by_key = comes_later change h.by_key;
+    from = room_grows before u grow change.key change.from h.from;
+    leaf = h.leaf;
+    to = h.to;
+    fresh_are = h.fresh_are;
+  }
+  fits_later change fresh (a_pair h) = a_pair record {
+    kind = h.kind;
+    by_key = comes_later change h.by_key;
+    other = h.other;
+    other_key = h.other_key;
+    from = h.from;
+    stands = leaf_of_grows before u grow h.other h.other_key h.stands;
+    differs = h.differs;
+    pair = h.pair;
+    leaf = h.leaf;
+    to = h.to;
+    above = h.above;
+    fresh_are = h.fresh_are;
+  }
+  fits_later change fresh (a_remove h) = a_remove record {
+    kind = h.kind;
+    by_key = comes_later change h.by_key;
+    leaf = h.leaf;
+    from = h.from;
+    stands = leaf_of_grows before u grow h.leaf change.key h.stands;
+    to = h.to;
+    value = h.value;
+    fresh_are = h.fresh_are;
+  }
+  fits_later change fresh (a_start h) =
+      let it = inner_there before.pieces u.pieces grow h.target h.row h.published in a_start record {
+        kind = h.kind;
+        key = h.key;
+        value = h.value;
+        target = h.target;
+        row = it.0;
+        from = h.from;
+        published = it.1;
+        due = ⊎_elim (λ due. inl (due_later h.row it.0 it.2 due)) (λ anchor. inr anchor) h.due;
+        rebuild = h.rebuild;
+        to = h.to;
+        fresh_are = h.fresh_are;
+      }
+  fits_later change fresh (a_finish h) =
+      let it = rebuild_there before.pieces u.pieces grow h.rebuild h.row h.published in
+      let root : it.0.root ≡ h.row.root = it.2.rooted h.built.set in a_finish record {
+        kind = h.kind;
+        key = h.key;
+        value = h.value;
+        rebuild = h.rebuild;
+        row = it.0;
+        from = h.from;
+        published = it.1;
+        started = started_grows before u grow h.rebuild h.started;
+        parent = it.2.parent ∙ h.parent;
+        index = it.2.index ∙ h.index;
+        to = h.to ∙ sym root;
+        built = subst (IsBuilt u) (sym root) (built_later h.row.root
+            (root_stands h.rebuild h.row h.published) h.built);
+        fresh_are = h.fresh_are;
+      }

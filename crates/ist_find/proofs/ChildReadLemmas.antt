@@ -1,15 +1,11 @@
 -- A read of the slot for a key, as a look of the searches for all keys that have this slot. Serves `children`,
 -- `finding` and `spans`.
 use Rattle.std.proofs.Common.{◌≡◌, ℕ, ◌+◌, ◌<◌, ◌≤◌, ◌^◌, arith}
-use Rattle.ist_core.specs.References.{Ref}
-use Rattle.ist_core.specs.RowLayout.{anchor}
-use Rattle.ist_core.specs.Slots.{SlotHolds, IsChildFor}
+use Rattle.ist_core.specs.WordTerms.{Ref, anchor, SlotHolds, IsChildFor}
 use Rattle.ist_math.specs.Guess.{guess_in, distance}
+use Rattle.ist_rule.specs.RuleTerms.{IsSound, now, GoesOnTo, IsNode}
 use Rattle.ist_rule.specs.declared.view.View.{View}
-use Rattle.ist_rule.specs.Rule.{IsSound}
-use Rattle.ist_rule.specs.Learning.{now, GoesOnTo}
-use Rattle.ist_rule.specs.Watching.{IsNode}
-use Rattle.ist_rule.proofs.GoingOnLemmas.{goes_on_more}
+use Rattle.ist_rule.proofs.EventLemmas.{goes_on_more}
 use Rattle.ist_find.specs.Searches.{IsRow, Came, keys_at}
 use Rattle.ist_find.specs.Reads.{TellsSide, TellsTarget}
 use Rattle.ist_find.specs.Spans.{EndAtEdges}
@@ -26,8 +22,7 @@ pub child_read : (v u t w : View) (key node i word side m n o : ℕ) (ref : Ref)
     → w.loaded ≡ t.loaded + o → o ≤ 1 → ReadsChild v w node key i (m + n + o) ref
 child_read v u t w key node i word side m n o ref s a child holds first at_anchor at_row fits told second two
     target third one =
-    let later = goes_on_more u t w told.seen target.seen in
-    record {
+    let later = goes_on_more u t w told.seen target.seen in record {
       seen = goes_on_more v u w a later;
       child = child_on u w later node key i child;
       looked = λ k rows its come. look_told v u t w k node i word side ref rows come a
@@ -46,27 +41,24 @@ came_node v s key node came = come_node v s key came.1.last node came.0 came.1.c
 -- it is a look of the search for the key
 pub looks_at_child : (v w : View) (node key i loads : ℕ) (ref : Ref) → Came v key node
     → ReadsChild v w node key i loads ref → LooksAtChild v w node key i loads ref
-looks_at_child v w node key i loads ref came r =
-    record {
-      seen = r.seen;
-      looked = λ rows come. r.looked key rows r.child come;
-      counted = r.counted;
-      anchor_loads = r.anchor_loads;
-      row_loads = r.row_loads;
-      fits = r.fits;
-      reached = look_reaches w r.seen.sound key node i came.0 ref (r.looked key came.0 r.child came.1) r.found;
-    }
+looks_at_child v w node key i loads ref came r = record {
+  seen = r.seen;
+  looked = λ rows come. r.looked key rows r.child come;
+  counted = r.counted;
+  anchor_loads = r.anchor_loads;
+  row_loads = r.row_loads;
+  fits = r.fits;
+  reached = look_reaches w r.seen.sound key node i came.0 ref (r.looked key came.0 r.child came.1) r.found;
+}
 
 -- and of the search for each key that has this child
 pub looks_for_all : (v u w : View) (node key first last i low high loads : ℕ) (ref : Ref) → Came v key node
     → ReadsChild v u node key i loads ref → GoesOnTo u w → first ≤ low → low ≤ key → key ≤ high → high ≤ last
-    → EndAtEdges (now w) low high
-    → ((k : ℕ) → low ≤ k → k ≤ high → IsChildFor (now u) node k i)
+    → EndAtEdges (now w) low high → ((k : ℕ) → low ≤ k → k ≤ high → IsChildFor (now u) node k i)
     → w.loaded ≤ u.loaded + 3 → (node ≡ anchor → w.loaded ≡ u.loaded)
     → LooksForAll v w node key first last i low high ref
 looks_for_all v u w node key first last i low high loads ref came r g from below above to edges share few none =
-    let counted = r.counted in
-    record {
+    let counted = r.counted in record {
       seen = goes_on_more v u w r.seen g;
       below = below;
       above = above;

@@ -1,26 +1,20 @@
 -- What the rows of a search cost, and that it makes few loads. Serves `find_from_anchor`.
 use Rattle.std.proofs.Common.{◌≡◌, ℕ, ◌+◌, ◌^◌, ◌<◌, ◌≤◌, List, [], ◌∷◌, ◌++◌, refl, sym, ap, ap₂, ◌∙◌, arith}
 use Rattle.std.proofs.lemmas.List.Sums.{sum_by-append}
-use Rattle.ist_core.specs.Arithmetic.{child_count}
-use Rattle.ist_core.specs.Elements.{Each}
-use Rattle.ist_core.specs.Pieces.{Inner}
-use Rattle.ist_core.specs.References.{Ref, InnerAt}
-use Rattle.ist_core.proofs.ShownLemmas.{fixed_row}
-use Rattle.ist_core.specs.RowLayout.{anchor}
-use Rattle.ist_core.specs.Slots.{IsChildFor, of_anchor, of_row}
+use Rattle.ist_core.specs.WordTerms.{child_count, Inner, Ref, InnerAt, anchor, IsChildFor, of_anchor, of_row}
+use Rattle.ist_core.specs.LogTerms.{Each}
+use Rattle.ist_core.proofs.AllLogLemmas.{fixed_row}
+use Rattle.ist_rule.specs.RuleTerms.{IsSound, now, GoesOnTo, IsNode, is_anchor, is_inner}
 use Rattle.ist_rule.specs.declared.view.View.{View}
-use Rattle.ist_rule.specs.Rule.{IsSound}
-use Rattle.ist_rule.specs.Learning.{now, GoesOnTo}
 use Rattle.laws_histories.proofs.PositionLemmas.{look_up}
 use Rattle.laws_calls.specs.Walking.{ComesBy, begins_by, goes_by}
 use Rattle.laws_calls.proofs.WalkLemmas.{meeting_comes, met_chain}
 use Rattle.ist_math.specs.Guess.{guess_in, distance}
-use Rattle.ist_rule.specs.Watching.{IsNode, is_anchor, is_inner}
 use Rattle.ist_find.specs.Searches.{IsRow, HasFewLoads, keys_at, row_cost, cost_of}
 use Rattle.ist_find.specs.Reads.{HasLooked, LooksFew}
 use Rattle.ist_find.specs.Looks.{HasSpent}
 use Rattle.ist_find.proofs.LookLemmas.{come_node, comes_later, look_comes}
-use Rattle.ist_find.proofs.RowLemmas.{keys_are, keys_on}
+use Rattle.ist_find.proofs.LoadLemmas.{keys_are, keys_on}
 
 -- ---- the rows are published
 
@@ -72,16 +66,14 @@ row_cost_on v w g key row r =
 pub cost_on : (v w : View) → GoesOnTo v w → (key : ℕ) (rows : List ℕ) → Each (IsRow v) rows
     → cost_of w key rows ≡ cost_of v key rows
 cost_on v w g key [] h = refl
-cost_on v w g key (row ∷ rows) h =
-    sum_by-append (row_cost w key) (row ∷ []) rows
+cost_on v w g key (row ∷ rows) h = sum_by-append (row_cost w key) (row ∷ []) rows
     ∙ ap₂ (λ a b. (0 + a) + b) (row_cost_on v w g key row h.0) (cost_on v w g key rows h.1)
     ∙ sym (sum_by-append (row_cost v key) (row ∷ []) rows)
 
 -- one row more costs what it costs
 pub cost_more : (v : View) (key : ℕ) (rows : List ℕ) (row : ℕ)
     → cost_of v key (rows ++ row ∷ []) ≡ cost_of v key rows + row_cost v key row
-cost_more v key rows row =
-    sum_by-append (row_cost v key) rows (row ∷ [])
+cost_more v key rows row = sum_by-append (row_cost v key) rows (row ∷ [])
     ∙ ap (λ n. cost_of v key rows + n) (from_zero (row_cost v key row))
   where
     from_zero : (n : ℕ) → 0 + n ≡ n
@@ -96,22 +88,17 @@ pub look_cost : (v u : View) (m n : ℕ) → IsSound v → GoesOnTo v u → (key
 look_cost v u m n s g key node i r (of_anchor e f) first more =
     let high = fixed_row v.start v.words v.log s.lawful.enabled node 0 (Inner r.row) r.published in
     absurd (omega arith)
-look_cost v u m n s g key node i r (of_row row e is) first more =
-    let keys = keys_on v u g node r in
+look_cost v u m n s g key node i r (of_row row e is) first more = let keys = keys_on v u g node r in
     let same : i ≡ child_count (keys_at v node) key =
     is ∙ ap (λ ks. child_count ks key) (sym (keys_are u node record { row = row; published = e }) ∙ keys) in
-    let near = ap (λ j. distance (guess_in (keys_at v node) key) j) same in
-    omega arith
+    let near = ap (λ j. distance (guess_in (keys_at v node) key) j) same in omega arith
 
 -- ---- how many they are
 
 -- a look at a row above is counted too
 pub spent_on : (v w u : View) (node base loads more : ℕ) → HasSpent v w node loads → node < base
-    → base < 2 ^ 28 → u.loaded ≡ w.loaded + more → more < 2 ^ 31
-    → HasSpent v u base (loads + more)
-spent_on v w u node base loads more h up low count less =
-    let so_far = h.count in
-    let few = h.few in
+    → base < 2 ^ 28 → u.loaded ≡ w.loaded + more → more < 2 ^ 31 → HasSpent v u base (loads + more)
+spent_on v w u node base loads more h up low count less = let so_far = h.count in let few = h.few in
     record { count = omega arith; few = omega arith; low = low }
 
 -- ---- the search
@@ -119,8 +106,7 @@ spent_on v w u node base loads more h up low count less =
 -- a search that has looked at the anchor's slot has met no row
 pub looks_first : (w : View) (key node i : ℕ) (ref : Ref) → HasLooked w key node i [] ref
     → LooksFew w w key node i ref
-looks_first w key node i ref h =
-    record { rows = []; looked = h; few = omega arith }
+looks_first w key node i ref h = record { rows = []; looked = h; few = omega arith }
 
 -- it goes on to the row that it read
 pub looks_on : (u v w : View) → IsSound v → GoesOnTo v w → (key node i base j : ℕ) (ref : Ref)
@@ -131,8 +117,7 @@ looks_on u v w s g key node i base j ref l h more =
     let came = look_comes v key node i l.rows base l.looked in
     let met = rows_met v s key came.last base (l.rows ++ base ∷ []) came.comes in
     let same = cost_on v w g key (l.rows ++ base ∷ []) met in
-    let sum = cost_more v key l.rows base in
-    let few = l.few in
+    let sum = cost_more v key l.rows base in let few = l.few in
     record { rows = l.rows ++ base ∷ []; looked = h; few = omega arith }
 
 -- at its end it made few loads
@@ -141,9 +126,7 @@ pub few_loads : (v u w x : View) → IsSound w → GoesOnTo w x → (key node i 
     → x.loaded ≤ w.loaded + 2 → HasFewLoads v x key node
 few_loads v u w x s g key node i ref first l last =
     let met = rows_met w s key l.looked.least node l.rows l.looked.comes in
-    let same = cost_on w x g key l.rows met in
-    let few = l.few in
-    record {
+    let same = cost_on w x g key l.rows met in let few = l.few in record {
       rows = l.rows;
       chain = met_chain x.start x.words g.sound.lawful.opens x.log g.sound.lawful.enabled key
           x.loads.since l.looked.least node l.rows

@@ -2,20 +2,18 @@
 use Rattle.std.proofs.Common.{◌≡◌, ◌∙◌, ℕ, suc, ◌+◌, ◌-◌, ◌*◌, ◌<◌, ◌≤◌, nat_le, nat_lt, cond, Bool, true, false, List, length, get_or, take, refl, sym, ap, arith}
 use Rattle.std.proofs.lemmas.Bool.Decides.{nat_tests}
 use Rattle.std.proofs.lemmas.List.Sums.{count_by_more_yes, count_by_more_no}
-use Rattle.ist_core.specs.Arithmetic.{child_count}
+use Rattle.ist_core.specs.WordTerms.{child_count}
 use Rattle.ist_math.specs.declared.gallops.Gallop.{Gallop}
 use Rattle.ist_math.specs.Guess.{guess_of, guess_in, distance}
 use Rattle.ist_math.specs.Gallops.{Gallops}
-use Rattle.ist_math.proofs.GuessLemmas.{guess_of-between}
-use Rattle.ist_math.proofs.GallopLemmas.{end-near, end-far}
+use Rattle.ist_math.proofs.GallopLemmas.{guess_of-between, end-near, end-far}
 use Rattle.ist_math.proofs.ChildLemmas.{HasGalloped, galloped_on, galloped_to, looks_fit, child_is_first, child_is_last, child_most}
+use Rattle.ist_rule.specs.RuleTerms.{IsSound, GoesOnTo}
 use Rattle.ist_rule.specs.declared.view.View.{View}
-use Rattle.ist_rule.specs.Rule.{IsSound}
-use Rattle.ist_rule.specs.Learning.{GoesOnTo}
-use Rattle.ist_rule.proofs.GoingOnLemmas.{goes_on_same, goes_on_more}
+use Rattle.ist_rule.proofs.EventLemmas.{goes_on_same, goes_on_more}
 use Rattle.ist_find.specs.Searches.{IsRow, keys_at}
 use Rattle.ist_find.specs.Looks.{FindsChild}
-use Rattle.ist_find.proofs.RowLemmas.{row_on, keys_on, keys_rise}
+use Rattle.ist_find.proofs.LoadLemmas.{row_on, keys_on, keys_rise}
 
 -- this many loads were made, and the row still has its keys
 pub record HasLoaded (v w : View) (node loads : ℕ) : Type 0 where
@@ -43,14 +41,12 @@ none_loaded v s node r =
 -- one more
 pub one_loaded : (v w u : View) (node loads : ℕ) → HasLoaded v w node loads → GoesOnTo w u
     → u.loaded ≡ w.loaded + 1 → HasLoaded v u node (loads + 1)
-one_loaded v w u node loads h g count =
-    let so_far = h.count in
-    record {
-      seen = goes_on_more v w u h.seen g;
-      row = row_on w u g node h.row;
-      keys = keys_on w u g node h.row ∙ h.keys;
-      count = omega arith;
-    }
+one_loaded v w u node loads h g count = let so_far = h.count in record {
+  seen = goes_on_more v w u h.seen g;
+  row = row_on w u g node h.row;
+  keys = keys_on w u g node h.row ∙ h.keys;
+  count = omega arith;
+}
 
 -- ---- one after the other
 
@@ -69,13 +65,9 @@ module _ (v w u : View) (node at key found word : ℕ) (h : HasCountedKeys v w n
 
   -- a key that is at most the searched one is counted
   pub counted_yes : word ≤ key → HasCountedKeys v u node (at + 1) key (found + 1)
-  counted_yes low =
-      let same = here in
-      let so_far = h.found_is in
-      let within = h.within in
+  counted_yes low = let same = here in let so_far = h.found_is in let within = h.within in
       let test : nat_le (get_or (keys_at v node) at 0) key ≡ true = grind (arith, nat_tests) in
-      let yes = count_by_more_yes (λ k. nat_le k key) (keys_at v node) at 0 less test in
-      record {
+      let yes = count_by_more_yes (λ k. nat_le k key) (keys_at v node) at 0 less test in record {
         loaded = one_loaded v w u node at h.loaded g count;
         within = omega arith;
         found_is = omega arith;
@@ -83,13 +75,9 @@ module _ (v w u : View) (node at key found word : ℕ) (h : HasCountedKeys v w n
 
   -- a key above the searched one isn't counted
   pub counted_no : key < word → HasCountedKeys v u node (at + 1) key found
-  counted_no high =
-      let same = here in
-      let so_far = h.found_is in
-      let within = h.within in
+  counted_no high = let same = here in let so_far = h.found_is in let within = h.within in
       let test : nat_le (get_or (keys_at v node) at 0) key ≡ false = grind (arith, nat_tests) in
-      let no = count_by_more_no (λ k. nat_le k key) (keys_at v node) at 0 less test in
-      record {
+      let no = count_by_more_no (λ k. nat_le k key) (keys_at v node) at 0 less test in record {
         loaded = one_loaded v w u node at h.loaded g count;
         within = omega arith;
         found_is = omega arith;
@@ -108,11 +96,8 @@ galloped_first keys x from g less first last = by (nat_lt x (get_or keys from 0)
     by : (above : Bool) → nat_lt x (get_or keys from 0) ≡ above → g.low ≡ cond above 0 from
         → g.high ≡ cond above from (length keys - 1) → Gallops g from 1
         → HasGalloped keys x from g 1
-    by true test low high gallops =
-        let over : x < get_or keys from 0 = grind (arith, nat_tests) in
-        let a = ap (λ n. get_or keys n 0) low in
-        let b = ap (λ n. get_or keys n 0) high in
-        record {
+    by true test low high gallops = let over : x < get_or keys from 0 = grind (arith, nat_tests) in
+        let a = ap (λ n. get_or keys n 0) low in let b = ap (λ n. get_or keys n 0) high in record {
           within = omega arith;
           below = omega arith;
           above = omega arith;
@@ -120,9 +105,7 @@ galloped_first keys x from g less first last = by (nat_lt x (get_or keys from 0)
         }
     by false test low high gallops =
         let under : get_or keys from 0 ≤ x = grind (arith, nat_tests) in
-        let a = ap (λ n. get_or keys n 0) low in
-        let b = ap (λ n. get_or keys n 0) high in
-        record {
+        let a = ap (λ n. get_or keys n 0) low in let b = ap (λ n. get_or keys n 0) high in record {
           within = omega arith;
           below = omega arith;
           above = omega arith;
@@ -139,8 +122,7 @@ pub run_begins : (v w : View) → IsSound v → (node from key : ℕ) (g : Gallo
     → g.high ≡ cond (nat_lt key word) from (length (keys_at v node) - 1) → Gallops g from 1
     → HasRunGallop v w node from key g 1
 run_begins v w s node from key g word r go count is less first last low high gallops =
-    let keys = keys_at v node in
-    record {
+    let keys = keys_at v node in record {
       loaded = one_loaded v v w node 0 (none_loaded v s node r) go count;
       galloped = galloped_first keys key from g less first last
           (low ∙ ap (λ k. cond (nat_lt key k) 0 from) is)
@@ -156,8 +138,7 @@ pub run_on : (v w u : View) (node from key : ℕ) (g next : Gallop) (looks at wo
     → HasRunGallop v u node from key next (looks + 1)
 run_on v w u node from key g next looks at word h go count is up down low high goes =
     let keys = keys_at v node in
-    let here : word ≡ get_or keys at 0 = is ∙ ap (λ ks. get_or ks at 0) h.loaded.keys in
-    record {
+    let here : word ≡ get_or keys at 0 = is ∙ ap (λ ks. get_or ks at 0) h.loaded.keys in record {
       loaded = one_loaded v w u node looks h.loaded go count;
       galloped = galloped_on keys key from g next looks at h.galloped up down
           (low ∙ ap (λ k. cond (nat_lt key k) g.low at) here)
@@ -177,8 +158,7 @@ pub run_ends : (v w : View) → IsSound v → (node from key count : ℕ) (g : G
     → FindsChild v w node key count from 0 g.high looks
 run_ends v w s node from key count g looks r h end long less =
     let fit = run_fits v w node from key count g looks h long less in
-    let near = end-near g from looks h.galloped.gallops end in
-    let high = h.galloped.within in
+    let near = end-near g from looks h.galloped.gallops end in let high = h.galloped.within in
     record {
       seen = h.loaded.seen;
       counted = h.loaded.count;
@@ -196,30 +176,28 @@ module _ {v u : View} (s : IsSound v) (g : GoesOnTo v u) (two : u.loaded ≡ v.l
   -- a key below the first one has the first child
   pub child_at_start : key < get_or (keys_at v node) 0 0
       → FindsChild v u node key count (guess_in (keys_at v node) key) 2 0 2
-  child_at_start low =
-      record {
-        seen = g;
-        counted = two;
-        few = omega arith;
-        far = λ k less. omega arith;
-        fits = omega arith;
-        value = sym (child_is_first (keys_at v node) key (keys_rise v s node r) low);
-        within = omega arith;
-      }
+  child_at_start low = record {
+    seen = g;
+    counted = two;
+    few = omega arith;
+    far = λ k less. omega arith;
+    fits = omega arith;
+    value = sym (child_is_first (keys_at v node) key (keys_rise v s node r) low);
+    within = omega arith;
+  }
 
   -- a key that isn't below the last one has the last child
   pub child_at_end : get_or (keys_at v node) (length (keys_at v node) - 1) 0 ≤ key
       → FindsChild v u node key count (guess_in (keys_at v node) key) 2 count 2
-  child_at_end high =
-      record {
-        seen = g;
-        counted = two;
-        few = omega arith;
-        far = λ k less. omega arith;
-        fits = omega arith;
-        value = long ∙ sym (child_is_last (keys_at v node) key (keys_rise v s node r) high);
-        within = omega arith;
-      }
+  child_at_end high = record {
+    seen = g;
+    counted = two;
+    few = omega arith;
+    far = λ k less. omega arith;
+    fits = omega arith;
+    value = long ∙ sym (child_is_last (keys_at v node) key (keys_rise v s node r) high);
+    within = omega arith;
+  }
 
   -- a gallop for any other key may begin at the guess
   pub guess_between : {first last from : ℕ} → first ≡ get_or (keys_at v node) 0 0
@@ -238,12 +216,8 @@ module _ {v u : View} (s : IsSound v) (g : GoesOnTo v u) (two : u.loaded ≡ v.l
   pub child_between : {w : View} {from child loads : ℕ} → from ≡ guess_in (keys_at v node) key
       → FindsChild u w node key count from 0 child loads
       → FindsChild v w node key count (guess_in (keys_at v node) key) 2 child (loads + 2)
-  child_between {w = w} {child = child} is f =
-      let away = ap (λ n. distance n child) is in
-      let near = f.few in
-      let counted = f.counted in
-      let fits = f.fits in
-      record {
+  child_between {w = w} {child = child} is f = let away = ap (λ n. distance n child) is in
+      let near = f.few in let counted = f.counted in let fits = f.fits in record {
         seen = goes_on_more v u w g f.seen;
         counted = omega arith;
         few = omega arith;
@@ -258,8 +232,7 @@ pub few_counted : (v w : View) (node key count child : ℕ) → GoesOnTo v w →
     → count ≤ 4 → count ≡ length (keys_at v node) → child ≡ child_count (keys_at v node) key
     → FindsChild v w node key count (guess_in (keys_at v node) key) 2 child count
 few_counted v w node key count child g counted four long is =
-    let most = child_most (keys_at v node) key in
-    record {
+    let most = child_most (keys_at v node) key in record {
       seen = g;
       counted = counted;
       few = omega arith;

@@ -1,4 +1,3 @@
-pub mod RowLemmas
 pub mod KeyLemmas
 pub mod LoadLemmas
 pub mod ReadLemmas
@@ -7,14 +6,10 @@ pub mod SearchLemmas
 pub mod CostLemmas
 pub mod SpanLemmas
 pub mod ChildReadLemmas
-pub mod SearchTurnLemmas
-pub mod SpanTurnLemmas
 pub mod RowEndLemmas
 pub mod EdgeLemmas
-pub mod SweepLemmas
 pub mod SlotEndLemmas
 pub mod PlaceLemmas
 pub mod SlotSawLemmas
-pub mod SweptLemmas
 pub mod SweepTurnLemmas
 pub mod SweepingLemmas

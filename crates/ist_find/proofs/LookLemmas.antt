@@ -5,34 +5,25 @@ use Rattle.std.proofs.Math.Nat.{le_trans}
 use Rattle.ist_core.specs.declared.loads.Load.{Load}
 use Rattle.ist_core.specs.declared.pairs.Pair.{Pair}
 use Rattle.ist_core.specs.declared.states.InnerRow.{InnerRow}
-use Rattle.ist_core.specs.RowLayout.{anchor}
-use Rattle.ist_core.specs.References.{Ref, Empty, Unset, LeafAt, InnerAt, ChangeAt, RebuildAt, ref_of}
-use Rattle.ist_core.specs.Pieces.{Inner}
-use Rattle.ist_core.specs.StartLayout.{start}
-use Rattle.ist_core.specs.Logs.{Log, GoesOn}
-use Rattle.ist_core.specs.Slots.{SlotHolds, IsChildFor}
-use Rattle.ist_core.specs.Writing.{place_of_slot}
-use Rattle.ist_core.specs.Lawful.{EachEnabled, state_of}
-use Rattle.ist_core.proofs.FateLemmas.{enabled_before}
-use Rattle.ist_core.proofs.NamingLemmas.{slot_names}
-use Rattle.ist_core.proofs.OrderLemmas.{names}
-use Rattle.ist_core.proofs.ChainLemmas.{leads_linked}
+use Rattle.ist_core.specs.WordTerms.{anchor, Ref, Empty, Unset, LeafAt, InnerAt, ChangeAt, RebuildAt, ref_of, Inner, start, SlotHolds, IsChildFor}
+use Rattle.ist_core.specs.LogTerms.{Log, GoesOn, EachEnabled, state_of}
+use Rattle.ist_core.specs.TreeTerms.{place_of_slot}
+use Rattle.ist_core.proofs.AllLogLemmas.{enabled_before, leads_linked}
+use Rattle.ist_core.proofs.AllPlaceLemmas.{slot_names, names}
 use Rattle.laws_links.proofs.ContentLemmas.{linked_set}
+use Rattle.ist_rule.specs.RuleTerms.{IsSound, now, GoesOnTo, IsNode, is_anchor, is_inner}
 use Rattle.ist_rule.specs.declared.view.View.{View}
-use Rattle.ist_rule.specs.Rule.{IsSound}
-use Rattle.ist_rule.specs.Learning.{now, GoesOnTo}
-use Rattle.ist_rule.proofs.GoingOnLemmas.{goes_on_more}
+use Rattle.ist_rule.proofs.EventLemmas.{goes_on_more}
 use Rattle.ist_dcss.proofs.SlotPlaceLemmas.{shown_in_slot}
 use Rattle.laws_histories.specs.Loads.{log_at, IsLoad}
 use Rattle.laws_histories.specs.Searching.{ReadsSide}
 use Rattle.laws_calls.specs.Walking.{ComesBy, goes_by}
 use Rattle.laws_calls.proofs.WalkLemmas.{meeting_comes, meeting_on}
-use Rattle.laws_histories.proofs.LoadOnLemmas.{at_on, at_prefix, load_on, side_on}
+use Rattle.laws_histories.proofs.ChangeLemmas.{at_on, at_prefix, load_on, side_on}
 use Rattle.laws_histories.proofs.LoadLemmas.{look_of, comes_of}
 use Rattle.laws_histories.proofs.SearchLemmas.{seen, there_on}
 use Rattle.laws_histories.proofs.PositionLemmas.{node_met, look_up}
-use Rattle.laws_histories.proofs.NeededLemmas.{all_needed}
-use Rattle.ist_rule.specs.Watching.{IsNode, is_anchor, is_inner}
+use Rattle.laws_histories.proofs.ToldLemmas.{all_needed}
 use Rattle.ist_find.specs.Searches.{Names, HasCome}
 use Rattle.ist_find.specs.Reads.{IsPlain, IsFoundAs, IsReached, TellsSide, TellsTarget, HasLooked}
 use Rattle.ist_find.specs.Sweeps.{LookedSince}
@@ -79,8 +70,7 @@ come_node v s key last node rows comes =
 -- the word in a slot names a row
 pub holds_named : (v : View) → IsSound v → (node i word : ℕ) → SlotHolds (now v) node i word
     → Names v (ref_of word)
-holds_named v s node i word h =
-    slot_named v node i (ref_of word)
+holds_named v s node i word h = slot_named v node i (ref_of word)
     (slot_names (now v) node i word (names v.start v.words s.lawful.opens v.log s.lawful.enabled) h)
 
 -- ---- the look
@@ -97,12 +87,11 @@ comes_later v w g key last node rows comes =
 -- so it has still come there
 pub come_later : (v w : View) → GoesOnTo v w → (key node : ℕ) (rows : List ℕ)
     → HasCome v key node rows → HasCome w key node rows
-come_later v w g key node rows h =
-    record {
-      last = h.last;
-      until = le_trans h.until (goes_length v w g);
-      comes = comes_later v w g key h.last node rows h.comes;
-    }
+come_later v w g key node rows h = record {
+  last = h.last;
+  until = le_trans h.until (goes_length v w g);
+  comes = comes_later v w g key h.last node rows h.comes;
+}
 
 -- the child, the side and the target together are a look at the slot
 pub look_since : (v u t w : View) (key least node i word side : ℕ) (ref : Ref) → GoesOnTo v u
@@ -110,8 +99,7 @@ pub look_since : (v u t w : View) (key least node i word side : ℕ) (ref : Ref)
     → TellsSide u t word side → TellsTarget t w side ref → LookedSince w key least node i ref
 look_since v u t w key least node i word side ref a low index holds told target =
     let b = goes_on_more u t w told.seen target.seen in
-    let place = place_of_slot (state_of w.start w.words u.log) node i in
-    record {
+    let place = place_of_slot (state_of w.start w.words u.log) node i in record {
       last = told.has.last;
       until = le_trans told.has.until (goes_length t w target.seen);
       look = record {
@@ -155,9 +143,7 @@ look_told v u t w key node i word side ref rows h a index holds told target =
 -- a search never reads a slot as a part that isn't built yet
 pub look_is_set : (v : View) → IsSound v → (key node i : ℕ) (rows : List ℕ)
     → ¬ (HasLooked v key node i rows Unset)
-look_is_set v s key node i rows h =
-    let p = v.start in
-    let n = v.words in
+look_is_set v s key node i rows h = let p = v.start in let n = v.words in
     let enabled : (m : ℕ) → EachEnabled (start p n) (log_at v.log m) =
     λ m. enabled_before (start p n) (log_at v.log m) v.log (at_on v.log m) s.lawful.enabled in
     let opens = s.lawful.opens in
@@ -220,8 +206,7 @@ word_down v w g key node i word child rows h index holds is =
 pub word_is_set : (v w : View) → GoesOnTo v w → (key node i word : ℕ) (rows : List ℕ)
     → HasCome v key node rows → IsChildFor (now w) node key i → SlotHolds (now w) node i word
     → ref_of word ≢ Some Unset
-word_is_set v w g key node i word rows h index holds is =
-    look_is_set w g.sound key node i rows
+word_is_set v w g key node i word rows h index holds is = look_is_set w g.sound key node i rows
     (word_looked v w g key node i word Unset rows h index holds is (λ base e. cc) (λ base e. cc))
 
 -- the row lies above the node

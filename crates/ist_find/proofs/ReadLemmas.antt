@@ -2,17 +2,12 @@
 use Rattle.std.proofs.Common.{◌≡◌, ◌≢◌, ℕ, ◌+◌, ◌≤◌, ◌==◌, Bool, true, false, length, slice_get, Option, Some, None, refl, sym, ap, ◌∙◌, subst, le_refl, ⊎_elim}
 use Rattle.std.proofs.lemmas.Bool.Decides.{eqb_tells}
 use Rattle.std.proofs.Math.Nat.{le_trans}
-use Rattle.ist_core.specs.RowLayout.{change_decision_offset, change_from_offset, change_to_offset, rebuild_target_offset, leaf_key_offset, leaf_value_offset}
-use Rattle.ist_core.specs.References.{Ref, Empty, Unset, LeafAt, InnerAt, ChangeAt, RebuildAt, ref_of}
-use Rattle.ist_core.specs.Statuses.{decided_yes}
-use Rattle.ist_core.specs.Pieces.{Change, Rebuild, words_of}
-use Rattle.ist_core.proofs.GrowingLemmas.{leaf_there, change_there, rebuild_there}
-use Rattle.ist_core.proofs.NamingLemmas.{SideNames, SlotNames, InnerHere}
-use Rattle.ist_core.proofs.OrderLemmas.{names}
+use Rattle.ist_core.specs.WordTerms.{change_decision_offset, change_from_offset, change_to_offset, rebuild_target_offset, leaf_key_offset, leaf_value_offset, Ref, Empty, Unset, LeafAt, InnerAt, ChangeAt, RebuildAt, ref_of, decided_yes, Change, Rebuild, words_of}
+use Rattle.ist_core.proofs.AllLogLemmas.{leaf_there, change_there, rebuild_there}
+use Rattle.ist_core.proofs.AllPlaceLemmas.{SideNames, SlotNames, InnerHere, names}
+use Rattle.ist_rule.specs.RuleTerms.{IsSound, now, GoesOnTo, Looked}
 use Rattle.ist_rule.specs.declared.view.View.{View}
-use Rattle.ist_rule.specs.Rule.{IsSound}
-use Rattle.ist_rule.specs.Learning.{now, GoesOnTo, Looked}
-use Rattle.ist_rule.proofs.GoingOnLemmas.{goes_on_same, goes_on_more, looked_goes_on}
+use Rattle.ist_rule.proofs.EventLemmas.{goes_on_same, goes_on_more, looked_goes_on}
 use Rattle.ist_dcss.proofs.FieldLemmas.{looked_row}
 use Rattle.laws_histories.specs.Loads.{IsLoad}
 use Rattle.laws_histories.specs.Searching.{no_change, by_to, by_from, no_rebuild, by_target, of_nothing, of_other, of_key}
@@ -38,11 +33,10 @@ rebuild_on v w g base r =
 
 -- a published leaf stays published
 pub leaf_on : (v w : View) → GoesOnTo v w → (base : ℕ) → SeesLeaf v base → SeesLeaf w base
-leaf_on v w g base r =
-    record {
-      row = r.row;
-      published = leaf_there (now v).pieces (now w).pieces (goes_on_grow v w g) base r.row r.published;
-    }
+leaf_on v w g base r = record {
+  row = r.row;
+  published = leaf_there (now v).pieces (now w).pieces (goes_on_grow v w g) base r.row r.published;
+}
 
 -- ---- what is named
 
@@ -99,8 +93,7 @@ module _ (v u w : View) (word base decision side p q : ℕ) (is : ref_of word �
   decided : (least : ℕ) → least ≤ length u.log
       → IsLoad w.start w.words w.log (base + change_decision_offset) least
       (loaded_in u (base + change_decision_offset) decision)
-  decided least low =
-      load_later u w h (base + change_decision_offset) decision least
+  decided least low = load_later u w h (base + change_decision_offset) decision least
       (looked_load v p decision u first (base + change_decision_offset) at least low)
 
   -- the word of the change, as it was loaded
@@ -110,13 +103,12 @@ module _ (v u w : View) (word base decision side p q : ℕ) (is : ref_of word �
 
   tells : (from : ℕ) → side ≡ from → Names w (ref_of from) × IsPlain (ref_of from)
       → HasSideRead v w word side → TellsSide v w word side
-  tells from same named has =
-      record {
-        seen = goes_on_more v u w g h;
-        has = has;
-        names = subst (λ x. Names w (ref_of x)) (sym same) named.0;
-        plain = subst (λ x. IsPlain (ref_of x)) (sym same) named.1;
-      }
+  tells from same named has = record {
+    seen = goes_on_more v u w g h;
+    has = has;
+    names = subst (λ x. Names w (ref_of x)) (sym same) named.0;
+    plain = subst (λ x. IsPlain (ref_of x)) (sym same) named.1;
+  }
 
   yes : decision ≡ decided_yes → q ≡ base + change_to_offset → TellsSide v w word side
   yes e place =
@@ -156,15 +148,13 @@ module _ (v u w : View) (word base decision side p q : ℕ) (is : ref_of word �
 
 -- a word that names no change reads as itself
 pub no_change_told : (v : View) → IsSound v → (word : ℕ) → Names v (ref_of word)
-    → IsPlain (ref_of word)
-    → TellsSide v v word word
-no_change_told v s word named plain =
-    record {
-      seen = goes_on_same v s;
-      has = record { last = length v.log; until = le_refl (length v.log); side_is = λ at. no_change plain };
-      names = named;
-      plain = plain;
-    }
+    → IsPlain (ref_of word) → TellsSide v v word word
+no_change_told v s word named plain = record {
+  seen = goes_on_same v s;
+  has = record { last = length v.log; until = le_refl (length v.log); side_is = λ at. no_change plain };
+  names = named;
+  plain = plain;
+}
 
 -- ---- a rebuild
 
@@ -172,8 +162,7 @@ no_change_told v s word named plain =
 pub target_told : (v w : View) (word base target p : ℕ) → ref_of word ≡ Some (RebuildAt base)
     → SeesRebuild v base → Looked v p target w → p ≡ base + rebuild_target_offset
     → TellsTarget v w word (InnerAt target)
-target_told v w word base target p is r l at =
-    let g = looked_goes_on v p target w l in
+target_told v w word base target p is r l at = let g = looked_goes_on v p target w l in
     let row = rebuild_on v w g base r in
     let got : target ≡ row.row.target =
     looked_row v p target w l base (Rebuild row.row) 0 row.row.target row.published refl at in
@@ -194,12 +183,11 @@ target_told v w word base target p is r l at =
 pub no_rebuild_told : (v : View) → IsSound v → (word : ℕ) (ref : Ref) → ref_of word ≡ Some ref
     → Names v (ref_of word) → IsPlain (ref_of word)
     → ((base : ℕ) → ref_of word ≢ Some (RebuildAt base)) → TellsTarget v v word ref
-no_rebuild_told v s word ref is named plain other =
-    record {
-      seen = goes_on_same v s;
-      has = λ least low. no_rebuild ref is (λ base e. other base (is ∙ ap Some e));
-      found = found ref is (subst (Names v) is named);
-    }
+no_rebuild_told v s word ref is named plain other = record {
+  seen = goes_on_same v s;
+  has = λ least low. no_rebuild ref is (λ base e. other base (is ∙ ap Some e));
+  found = found ref is (subst (Names v) is named);
+}
   where
     found : (r : Ref) → ref_of word ≡ Some r → Names v (Some r) → IsFoundAs v r
     found Empty e h = tt
@@ -214,23 +202,19 @@ no_rebuild_told v s word ref is named plain other =
 -- its key was loaded, and is another
 pub other_told : (v w : View) (key base word p : ℕ) → Looked v p word w
     → p ≡ base + leaf_key_offset → word ≢ key → TellsValue v w key (LeafAt base) None
-other_told v w key base word p l at ne =
-    let g = looked_goes_on v p word w l in
-    record {
-      seen = g;
-      has = λ least low. of_other (loaded_in w (base + leaf_key_offset) word)
-          (looked_load v p word w l (base + leaf_key_offset) at least
-          (le_trans low (goes_length v w g))) ne;
-    }
+other_told v w key base word p l at ne = let g = looked_goes_on v p word w l in record {
+  seen = g;
+  has = λ least low. of_other (loaded_in w (base + leaf_key_offset) word)
+      (looked_load v p word w l (base + leaf_key_offset) at least
+      (le_trans low (goes_length v w g))) ne;
+}
 
 -- its key was loaded, which is the key, and then its value
 pub value_told : (v u w : View) (key base word value p q : ℕ) → Looked v p word u
     → p ≡ base + leaf_key_offset → word ≡ key → Looked u q value w → q ≡ base + leaf_value_offset
     → TellsValue v w key (LeafAt base) (Some value)
 value_told v u w key base word value p q first at is second there =
-    let g = looked_goes_on v p word u first in
-    let h = looked_goes_on u q value w second in
-    record {
+    let g = looked_goes_on v p word u first in let h = looked_goes_on u q value w second in record {
       seen = goes_on_more v u w g h;
       has = λ least low. of_key (loaded_in u (base + leaf_key_offset) word)
           (loaded_in w (base + leaf_value_offset) value)

@@ -1,13 +1,12 @@
 -- Which keys have one child of a row, by the keys beside it, while a caller goes on by loads.
 -- Serves `spans`.
 use Rattle.std.proofs.Common.{◌≡◌, ℕ, ◌-◌, ◌<◌, ◌≤◌, length, get_or, sym, ap, subst, arith}
-use Rattle.ist_core.specs.Arithmetic.{child_count}
+use Rattle.ist_core.specs.WordTerms.{child_count}
 use Rattle.ist_math.proofs.ChildLemmas.{child_count_is, child_most, key_before_child, key_after_child}
+use Rattle.ist_rule.specs.RuleTerms.{IsSound, GoesOnTo}
 use Rattle.ist_rule.specs.declared.view.View.{View}
-use Rattle.ist_rule.specs.Rule.{IsSound}
-use Rattle.ist_rule.specs.Learning.{GoesOnTo}
 use Rattle.ist_find.specs.Searches.{IsRow, keys_at}
-use Rattle.ist_find.proofs.RowLemmas.{row_on, keys_on, keys_rise}
+use Rattle.ist_find.proofs.LoadLemmas.{row_on, keys_on, keys_rise}
 
 -- the row later: it has the same keys, of which the one before the child isn't above the key, and the one
 -- after it is
@@ -22,12 +21,8 @@ module _ {v : View} (s : IsSound v) {node i : ℕ} (r : IsRow v node) (key : ℕ
     (is : i ≡ child_count (keys_at v node) key) where
   -- the child stays the key's
   pub child_stays : {w : View} → GoesOnTo v w → HasChild v w node key i
-  child_stays {w = w} g =
-      let keys = keys_at v node in
-      let same = keys_on v w g node r in
-      let size = ap length same in
-      let most = child_most keys key in
-      record {
+  child_stays {w = w} g = let keys = keys_at v node in let same = keys_on v w g node r in
+      let size = ap length same in let most = child_most keys key in record {
         row = row_on v w g node r;
         keys = same;
         within = omega arith;

@@ -2,28 +2,21 @@
 use Rattle.std.proofs.Common.{◌≡◌, ◌≢◌, ℕ, ◌+◌, ◌-◌, ◌<◌, ◌≤◌, List, [], length, get_or, refl, sym, ap, ◌∙◌, subst, ⊎_elim, arith}
 use Rattle.std.proofs.lemmas.Bool.{cases_lt}
 use Rattle.std.specs.List.Sorted.{IsStrictlyIncreasing}
-use Rattle.ist_core.specs.Arithmetic.{child_count}
-use Rattle.ist_core.specs.RowLayout.{anchor}
-use Rattle.ist_core.specs.Elements.{Among}
-use Rattle.ist_core.specs.Pieces.{as_inner}
-use Rattle.ist_core.specs.Slots.{IsChildFor, of_anchor, of_row}
-use Rattle.ist_core.proofs.PlaceLemmas.{anchor_free}
+use Rattle.ist_core.specs.WordTerms.{child_count, anchor, as_inner, IsChildFor, of_anchor, of_row, InnerAt}
+use Rattle.ist_core.specs.LogTerms.{Among}
+use Rattle.ist_core.proofs.AllPlaceLemmas.{anchor_free}
 use Rattle.ist_math.proofs.ChildLemmas.{child_count_is, child_most, key_before_child}
+use Rattle.ist_rule.specs.RuleTerms.{now, GoesOnTo, IsNode, is_anchor, is_inner, IsSound}
 use Rattle.ist_rule.specs.declared.view.View.{View}
-use Rattle.ist_core.specs.References.{InnerAt}
 use Rattle.ist_layout.specs.declared.references.Ref as coded
 use Rattle.ist_layout.specs.declared.references.Ref.TheVariants.{Empty, Unset, Leaf, Inner, Change, Rebuild}
 use Rattle.ist_layout.specs.Meanings.{ref_meant}
-use Rattle.ist_rule.specs.Learning.{now, GoesOnTo}
-use Rattle.ist_rule.specs.Watching.{IsNode, is_anchor, is_inner}
-use Rattle.ist_rule.specs.Rule.{IsSound}
 use Rattle.ist_find.specs.Searches.{keys_in, keys_at}
-use Rattle.ist_find.proofs.RowLemmas.{keys_are, keys_on}
+use Rattle.ist_find.proofs.LoadLemmas.{keys_are, keys_on}
 
 -- the anchor has no keys
 pub no_keys : (v : View) → IsSound v → (node : ℕ) → node ≡ anchor → keys_at v node ≡ []
-no_keys v s node e =
-    ap (λ p. keys_in (as_inner p))
+no_keys v s node e = ap (λ p. keys_in (as_inner p))
     (ap (now v).pieces e ∙ anchor_free v.start v.words v.log s.lawful.enabled)
 
 -- so no key is an edge between its slots
@@ -50,10 +43,8 @@ not_inner (Rebuild b) other base e = cc
 pub slot_within : (v : View) (node key i : ℕ) → IsChildFor (now v) node key i
     → i ≤ length (keys_at v node)
 slot_within v node key i (of_anchor e zero) = omega arith
-slot_within v node key i (of_row r e is) =
-    let most = child_most r.keys key in
-    let same = ap length (keys_are v node record { row = r; published = e }) in
-    omega arith
+slot_within v node key i (of_row r e is) = let most = child_most r.keys key in
+    let same = ap length (keys_are v node record { row = r; published = e }) in omega arith
 
 module _ (keys : List ℕ) (rises : IsStrictlyIncreasing keys) (from i to last : ℕ)
     (is : i ≡ child_count keys from) (under : i < length keys → to < get_or keys i 0) where
@@ -71,26 +62,20 @@ module _ (keys : List ℕ) (rises : IsStrictlyIncreasing keys) (from i to last :
       (more : to < last) where
     -- if keys are left after its end, the slot isn't the node's last one
     pub slot_more : i < length keys
-    slot_more =
-        ⊎_elim (λ l. l)
+    slot_more = ⊎_elim (λ l. l)
         (λ (ge : length keys ≤ i). let no = most (to + 1) (omega arith) (λ l. absurd (omega arith)) in
         absurd (omega arith))
         (cases_lt i (length keys))
 
     next_key : to + 1 ≡ get_or keys i 0
-    next_key =
-        let u = under slot_more in
-        ⊎_elim
+    next_key = let u = under slot_more in ⊎_elim
         (λ (l : to + 1 < get_or keys i 0). let no = most (to + 1) (omega arith) (λ x. l) in
         absurd (omega arith))
-        (λ (ge : get_or keys i 0 ≤ to + 1). omega arith)
-        (cases_lt (to + 1) (get_or keys i 0))
+        (λ (ge : get_or keys i 0 ≤ to + 1). omega arith) (cases_lt (to + 1) (get_or keys i 0))
 
     -- the slot for the key after its end is the next one
     pub slot_next : child_count keys (to + 1) ≡ i + 1
-    slot_next =
-        let less = slot_more in
-        let same = next_key in
+    slot_next = let less = slot_more in let same = next_key in
         child_count_is keys (to + 1) (i + 1) rises (omega arith)
         (λ l. subst (λ x. x < get_or keys (i + 1) 0) (sym same) (rises i l))
         (λ some. let n : i + 1 - 1 ≡ i = omega arith in

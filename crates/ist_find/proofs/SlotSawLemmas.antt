@@ -5,40 +5,27 @@ use Rattle.std.specs.FinMap as fin
 use Rattle.std.proofs.Math.Nat.{le_trans}
 use Rattle.ist_core.specs.declared.pairs.Pair.{Pair}
 use Rattle.ist_core.specs.declared.states.InnerRow.{InnerRow}
-use Rattle.ist_core.specs.Elements.{Among}
-use Rattle.ist_core.specs.RowLayout.{anchor}
-use Rattle.ist_core.specs.References.{Ref, Empty, Unset, LeafAt, InnerAt, ChangeAt, RebuildAt}
-use Rattle.ist_core.specs.Pieces.{Inner, as_inner}
-use Rattle.ist_core.specs.StartLayout.{start}
-use Rattle.ist_core.specs.Logs.{Log, GoesOn}
-use Rattle.ist_core.specs.Slots.{IsChildFor}
-use Rattle.ist_core.specs.Links.{IsChild, Leads, down}
-use Rattle.ist_core.specs.Lawful.{EachEnabled, state_of}
-use Rattle.ist_core.proofs.FateLemmas.{enabled_before, grow_between}
-use Rattle.ist_core.proofs.GrowingLemmas.{inner_there}
-use Rattle.ist_core.proofs.OrderLemmas.{names, child_above}
-use Rattle.ist_core.proofs.PlaceLemmas.{anchor_free}
-use Rattle.ist_core.proofs.ChainLemmas.{leads_linked}
-use Rattle.ist_core.proofs.PrefixLemmas.{goes_on_more}
+use Rattle.ist_core.specs.LogTerms.{Among, Log, GoesOn, EachEnabled, state_of}
+use Rattle.ist_core.specs.WordTerms.{anchor, Ref, Empty, Unset, LeafAt, InnerAt, ChangeAt, RebuildAt, Inner, as_inner, start, IsChildFor}
+use Rattle.ist_core.specs.TreeTerms.{IsChild, Leads, down}
+use Rattle.ist_core.proofs.AllLogLemmas.{enabled_before, grow_between, inner_there, leads_linked, goes_on_more}
+use Rattle.ist_core.proofs.AllPlaceLemmas.{names, child_above, anchor_free}
 use Rattle.laws_links.proofs.ContentLemmas.{linked_set}
 use Rattle.laws_histories.specs.Loads.{log_at}
 use Rattle.laws_histories.specs.Telling.{map_now}
-use Rattle.laws_histories.proofs.LoadOnLemmas.{at_on, at_same}
+use Rattle.laws_histories.proofs.ChangeLemmas.{at_on, at_same}
 use Rattle.laws_histories.proofs.ReadLemmas.{ReadsAs}
 use Rattle.laws_histories.proofs.SearchLemmas.{leads_there, there_on}
+use Rattle.ist_rule.specs.RuleTerms.{now, GoesOnTo, IsSound, IsNode, is_anchor, is_inner}
 use Rattle.ist_rule.specs.declared.view.View.{View}
-use Rattle.ist_rule.specs.Learning.{now, GoesOnTo}
-use Rattle.ist_rule.specs.Rule.{IsSound}
-use Rattle.ist_rule.specs.Watching.{IsNode, is_anchor, is_inner}
 use Rattle.ist_find.specs.Searches.{keys_at, keys_in}
 use Rattle.ist_find.specs.Reads.{IsFoundAs, IsEnd, TellsValue}
 use Rattle.ist_find.specs.Spans.{pair_value, IsEdge}
 use Rattle.ist_find.specs.Sweeps.{SlotWasRead, AllLed, WereLed, LookedSince}
-use Rattle.ist_find.proofs.LoadLemmas.{by_table, goes_log}
-use Rattle.ist_find.proofs.RowLemmas.{keys_are}
+use Rattle.ist_find.proofs.LoadLemmas.{by_table, goes_log, keys_are}
 use Rattle.ist_find.proofs.SlotEndLemmas.{no_keys}
 use Rattle.ist_find.proofs.SpanLemmas.{child_on}
-use Rattle.ist_find.proofs.SweepLemmas.{child_back, leads_later, saw_since, value_then, had_at}
+use Rattle.ist_find.proofs.SearchLemmas.{child_back, leads_later, saw_since, value_then, had_at}
 
 -- at one moment since the first log all keys up to the last led to the node, and its slot for the
 -- keys from `low` to `high` read as the reference
@@ -79,12 +66,11 @@ led_on v w g at first last node led k low high =
 -- so do keys that were led there at some moment
 pub were_led_on : (v w : View) → GoesOnTo v w → (first last node : ℕ) → WereLed v first last node
     → WereLed w first last node
-were_led_on v w g first last node h =
-    record {
-      at = h.at;
-      until = goes_on_more h.until (goes_log v w g);
-      led = led_on v w g h.at first last node h.led;
-    }
+were_led_on v w g first last node h = record {
+  at = h.at;
+  until = goes_on_more h.until (goes_log v w g);
+  led = led_on v w g h.at first last node h.led;
+}
 
 -- ---- the look
 
@@ -95,14 +81,12 @@ pub slot_saw : (u w : View) → GoesOnTo u w → (floor : Log) → GoesOn floor 
     → ((k : ℕ) → low ≤ k → k ≤ high → IsChildFor (now u) node k i)
     → LookedSince w low (length floor) node i ref → SlotSaw w floor first last low high node ref
 slot_saw u w g floor f first last low high node i ref led from some to child h =
-    let s = g.sound.lawful in
-    let begun = goes_on_more f (goes_log u w g) in
+    let s = g.sound.lawful in let begun = goes_on_more f (goes_log u w g) in
     let all = led_on u w g floor first last node led in
     let x = saw_since w.start w.words s.opens w.log s.enabled floor begun low h.last node ref
     (all low from (le_trans some to)) h.look in
     let until = goes_on_more x.until (at_on w.log h.last) in
-    let enabled = enabled_before (start w.start w.words) x.at w.log until s.enabled in
-    record {
+    let enabled = enabled_before (start w.start w.words) x.at w.log until s.enabled in record {
       at = x.at;
       load = h.last;
       within = h.until;
@@ -132,8 +116,7 @@ module _ (w : View) (s : IsSound w) (floor : Log) (first last low high node : �
 
   -- the slot was built
   pub saw_set : ref ≢ Unset
-  saw_set e =
-      linked_set w.start w.words s.lawful.opens h.at saw_enabled node h.index h.read.word
+  saw_set e = linked_set w.start w.words s.lawful.opens h.at saw_enabled node h.index h.read.word
       (leads_linked (state_of w.start w.words h.at) low node (h.led low from (le_trans some to)))
       h.read.holds (h.read.reads ∙ ap Some e)
 
@@ -144,8 +127,7 @@ module _ (w : View) (s : IsSound w) (floor : Log) (first last low high node : �
 
   -- an inner row that the slot held lies above the node
   pub saw_above : (base : ℕ) → ref ≡ InnerAt base → node < base
-  saw_above base e =
-      child_above (state_of w.start w.words h.at) node h.index base
+  saw_above base e = child_above (state_of w.start w.words h.at) node h.index base
       (names w.start w.words s.lawful.opens h.at saw_enabled) (saw_child base e)
 
   -- to which the slot's keys led
@@ -179,8 +161,7 @@ saw_pair w x g floor first last low high node ref from some to h pair own tells 
       on = h.since;
       some = omega arith;
       within = inside own within;
-      values = λ k least most.
-          let up : k ≤ high = omega arith in
+      values = λ k least most. let up : k ≤ high = omega arith in
           had_at x.start x.words floor h.at h.since k (pair_value own k)
           (same k least up ∙ value k least up);
     }
@@ -192,8 +173,7 @@ saw_pair w x g floor first last low high node ref from some to h pair own tells 
 
     value : (k : ℕ) → low ≤ k → k ≤ high
         → pair_value pair k ≡ fin.get (map_now x.start x.words h.at) k
-    value k least up =
-        let s = g.sound.lawful in
+    value k least up = let s = g.sound.lawful in
         value_then x.start x.words s.opens x.log s.enabled h.at k h.load node h.index ref
         (pair_value pair k)
         (subst (GoesOn h.at) (sym (at_same w.log x.log (goes_log w x g) h.load h.within)) h.until)
@@ -209,8 +189,7 @@ saw_pair w x g floor first last low high node ref from some to h pair own tells 
 pub key_then : (v : View) → IsSound v → (at : Log) → GoesOn at v.log → (one node key : ℕ)
     → Leads (state_of v.start v.words at) one node → Among key (keys_at v node)
     → Among key (keys_in (as_inner ((state_of v.start v.words at).pieces node)))
-key_then v s at g one node key led among =
-    ⊎_elim
+key_then v s at g one node key led among = ⊎_elim
     (λ (e : node ≡ anchor). absurd (subst (Among key) (no_keys v s node e) among))
     (λ r. let on = inner_there (state_of v.start v.words at).pieces (now v).pieces
     (grow_between v.start v.words at v.log s.lawful.enabled g) node r.0 r.1 in
@@ -224,8 +203,7 @@ key_then v s at g one node key led among =
 pub edge_then : (v : View) → IsSound v → (at : Log) → GoesOn at v.log → (one node key : ℕ)
     → Leads (state_of v.start v.words at) one node → Among key (keys_at v node)
     → IsEdge (state_of v.start v.words at) key
-edge_then v s at g one node key led among =
-    ⊎_elim
+edge_then v s at g one node key led among = ⊎_elim
     (λ (e : node ≡ anchor). absurd (subst (Among key) (no_keys v s node e) among))
     (λ r. let on = inner_there (state_of v.start v.words at).pieces (now v).pieces
     (grow_between v.start v.words at v.log s.lawful.enabled g) node r.0 r.1 in

@@ -3,30 +3,22 @@ use Rattle.std.proofs.Common.{◌≡◌, ◌≢◌, ℕ, ◌+◌, ◌≤◌, ◌
 use Rattle.std.proofs.Math.Nat.{le_trans}
 use Rattle.std.proofs.lemmas.Bool.Decides.{eqb_tells}
 use Rattle.ist_core.specs.declared.pairs.Pair.{Pair}
-use Rattle.ist_core.specs.Arithmetic.{child_count}
-use Rattle.ist_core.specs.RowLayout.{anchor, leaf_key_offset, leaf_value_offset}
-use Rattle.ist_core.specs.References.{Ref, Empty, Unset, LeafAt, InnerAt, ChangeAt, RebuildAt}
-use Rattle.ist_core.specs.Pieces.{Inner, Leaf}
-use Rattle.ist_core.specs.Slots.{IsChildFor, of_anchor, of_row}
-use Rattle.ist_core.proofs.ShownLemmas.{fixed_row}
-use Rattle.ist_core.proofs.GrowingLemmas.{child_remains, leaf_there}
+use Rattle.ist_core.specs.WordTerms.{child_count, anchor, leaf_key_offset, leaf_value_offset, Ref, Empty, Unset, LeafAt, InnerAt, ChangeAt, RebuildAt, Inner, Leaf, IsChildFor, of_anchor, of_row}
+use Rattle.ist_core.proofs.AllLogLemmas.{fixed_row, child_remains, leaf_there}
+use Rattle.ist_rule.specs.RuleTerms.{IsSound, now, GoesOnTo, Looked, IsNode, is_anchor, is_inner}
 use Rattle.ist_rule.specs.declared.view.View.{View}
-use Rattle.ist_rule.specs.Rule.{IsSound}
-use Rattle.ist_rule.specs.Learning.{now, GoesOnTo, Looked}
-use Rattle.ist_rule.specs.Watching.{IsNode, is_anchor, is_inner}
-use Rattle.ist_rule.proofs.GoingOnLemmas.{goes_on_more, looked_goes_on}
+use Rattle.ist_rule.proofs.EventLemmas.{goes_on_more, looked_goes_on}
 use Rattle.laws_histories.specs.Searching.{LooksAt, HasPosition, of_other}
 use Rattle.ist_dcss.proofs.FieldLemmas.{looked_row}
 use Rattle.ist_find.specs.Searches.{HasBegunSearch, IsRow, SeesLeaf, keys_at, row_cost}
 use Rattle.ist_find.specs.Reads.{HasLooked, IsFoundAs, TellsValue, loaded_in}
 use Rattle.ist_find.specs.Spans.{pair_value, IsPairOf, AllCome, AllLooked, LooksFewOver, HasFewSpanLoads}
-use Rattle.ist_find.proofs.LoadLemmas.{by_table, goes_log, goes_length, looked_load, load_later}
+use Rattle.ist_find.proofs.LoadLemmas.{by_table, goes_log, goes_length, looked_load, load_later, row_on, keys_are, keys_on}
 use Rattle.laws_calls.proofs.WalkLemmas.{met_chain}
 use Rattle.ist_rule.proofs.WentOnLemmas.{goes_on_grow}
 use Rattle.ist_find.proofs.CostLemmas.{rows_met, cost_on, cost_more}
 use Rattle.ist_find.proofs.LookLemmas.{comes_later, look_comes}
 use Rattle.ist_find.proofs.ReadLemmas.{leaf_on, value_told}
-use Rattle.ist_find.proofs.RowLemmas.{row_on, keys_are, keys_on}
 use Rattle.ist_find.proofs.SearchLemmas.{look_later, has_found, found_since}
 
 -- ---- which keys have a child
@@ -99,8 +91,7 @@ pub leaf_pair_is : (v u w : View) (base key value p q : ℕ) → SeesLeaf v base
     → p ≡ base + 0 → Looked u q value w → q ≡ base + 1
     → IsPairOf (now v) base record { key = key; value = value }
 leaf_pair_is v u w base key value p q r first at second there =
-    let g = looked_goes_on v p key u first in
-    let h = looked_goes_on u q value w second in
+    let g = looked_goes_on v p key u first in let h = looked_goes_on u q value w second in
     let row = r.row in
     let in_u = leaf_there (now v).pieces (now u).pieces (goes_on_grow v u g) base row r.published in
     let in_w = leaf_there (now u).pieces (now w).pieces (goes_on_grow u w h) base row in_u in
@@ -119,16 +110,14 @@ pub span_position : (v x w : View) → HasBegunSearch v → GoesOnTo v x
     → ((k : ℕ) → TellsValue x w k ref (pair_value pair k)) → (k : ℕ) → first ≤ k → k ≤ last
     → HasPosition w.start w.words v.log w.log k (pair_value pair k)
 span_position v x w begun g first last node i ref pair looked told k low high =
-    let one = looked k low high in
-    let tells = told k in
+    let one = looked k low high in let tells = told k in
     found_since v w begun (goes_on_more v x w g tells.seen) k node i (pair_value pair k)
     (has_found x w k node i one.0 ref (pair_value pair k) one.1 tells)
 
 -- and if it read an inner row, the search for each key reached that row
 pub all_came : (v : View) (first last node i base : ℕ)
     → AllLooked v first last node i (InnerAt base) → AllCome v first last base
-all_came v first last node i base looked k low high =
-    let one = looked k low high in
+all_came v first last node i base looked k low high = let one = looked k low high in
     (one.0 ++ base ∷ [], look_comes v k node i one.0 base one.1)
 
 -- ---- how few loads it made
@@ -149,19 +138,15 @@ over_on u v w s g key node i base j ref l h more =
     let same = cost_on v w g key (l.rows ++ base ∷ []) met in
     let sum = cost_more v key l.rows base in
     let long : length (l.rows ++ base ∷ []) ≡ length l.rows + 1 = length-append l.rows (base ∷ []) in
-    let few = l.few in
-    record { rows = l.rows ++ base ∷ []; looked = h; few = omega arith }
+    let few = l.few in record { rows = l.rows ++ base ∷ []; looked = h; few = omega arith }
 
 -- at its end it made few
 pub few_over : (v u w x : View) → IsSound w → (key node i : ℕ) (ref : Ref) (value : Option ℕ)
     → TellsValue w x key ref value → u.loaded ≤ v.loaded + 4 → LooksFewOver u w key node i ref
     → x.loaded ≤ w.loaded + 2 → HasFewSpanLoads v x key value
-few_over v u w x s key node i ref value tells first l last =
-    let g = tells.seen in
+few_over v u w x s key node i ref value tells first l last = let g = tells.seen in
     let met = rows_met w s key l.looked.least node l.rows l.looked.comes in
-    let same = cost_on w x g key l.rows met in
-    let few = l.few in
-    record {
+    let same = cost_on w x g key l.rows met in let few = l.few in record {
       node = node;
       index = i;
       found = has_found w x key node i l.rows ref value l.looked tells;

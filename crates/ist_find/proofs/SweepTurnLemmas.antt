@@ -3,36 +3,26 @@ use Rattle.std.proofs.Common.{◌≡◌, ℕ, ◌+◌, ◌<◌, ◌≤◌, ◌�
 use Rattle.std.proofs.Math.Nat.{le_trans}
 use Rattle.ist_core.specs.declared.pairs.Pair.{Pair}
 use Rattle.ist_core.specs.declared.states.InnerRow.{InnerRow}
-use Rattle.ist_core.specs.Arithmetic.{child_count}
-use Rattle.ist_core.specs.Elements.{Among}
-use Rattle.ist_core.specs.Pieces.{Inner}
-use Rattle.ist_core.specs.RowLayout.{anchor}
-use Rattle.ist_core.specs.References.{Ref, InnerAt}
-use Rattle.ist_core.specs.StartLayout.{start}
-use Rattle.ist_core.specs.Links.{IsChild, Leads}
-use Rattle.ist_core.specs.Logs.{Log, GoesOn}
-use Rattle.ist_core.specs.Lawful.{state_of}
-use Rattle.ist_core.proofs.FateLemmas.{enabled_before, grow_between}
-use Rattle.ist_core.proofs.GrowingLemmas.{inner_there}
-use Rattle.ist_core.proofs.PrefixLemmas.{goes_on_length, goes_on_more as log_goes_on}
+use Rattle.ist_core.specs.WordTerms.{child_count, Inner, anchor, Ref, InnerAt, start}
+use Rattle.ist_core.specs.LogTerms.{Among, Log, GoesOn, state_of}
+use Rattle.ist_core.specs.TreeTerms.{IsChild, Leads}
+use Rattle.ist_core.proofs.AllLogLemmas.{enabled_before, grow_between, inner_there, goes_on_length, goes_on_more as log_goes_on}
 use Rattle.laws_histories.proofs.SearchLemmas.{leads_there}
 use Rattle.ist_math.specs.Guess.{guess_in, distance}
+use Rattle.ist_rule.specs.RuleTerms.{now, GoesOnTo, IsSound}
 use Rattle.ist_rule.specs.declared.view.View.{View}
-use Rattle.ist_rule.specs.Learning.{now, GoesOnTo}
-use Rattle.ist_rule.specs.Rule.{IsSound}
-use Rattle.ist_rule.proofs.GoingOnLemmas.{goes_on_more}
+use Rattle.ist_rule.proofs.EventLemmas.{goes_on_more}
 use Rattle.ist_find.specs.Searches.{IsRow, keys_at}
 use Rattle.ist_find.specs.Reads.{IsFoundAs}
 use Rattle.ist_find.specs.Spans.{IsEdge}
 use Rattle.ist_find.specs.Sweeps.{Swept, later_swept, row_swept, slot_swept, IsEnteredAt, entering_loads, starting, AllLed, HasSwept, one_of}
 use Rattle.ist_find.specs.Turns.{HasReadSlot, LeadsBelow, HasReadEnd, HasSweptSlot, row_below, end_there, HasSweptTo}
-use Rattle.ist_find.proofs.LoadLemmas.{by_table, goes_log}
+use Rattle.ist_find.proofs.LoadLemmas.{by_table, goes_log, keys_are, not_anchor}
 use Rattle.ist_find.proofs.PlaceLemmas.{row_starts}
-use Rattle.ist_find.proofs.RowLemmas.{keys_are, not_anchor}
 use Rattle.ist_find.proofs.SlotEndLemmas.{node_keys_on}
 use Rattle.ist_find.proofs.SpanLemmas.{node_later, child_on}
-use Rattle.ist_find.proofs.SweepLemmas.{leads_later, leads_above}
-use Rattle.ist_find.proofs.SweptLemmas.{swept_on, swept_above, swept_more, later_edge}
+use Rattle.ist_find.proofs.SearchLemmas.{leads_later, leads_above}
+use Rattle.ist_find.proofs.SweepingLemmas.{swept_on, swept_above, swept_more, later_edge}
 use Rattle.ist_find.proofs.SlotSawLemmas.{SlotSaw, slot_saw, led_on, were_led_on, saw_until, saw_led, saw_child, saw_above, saw_set, saw_end, saw_pair, edge_then, key_then}
 
 -- ---- one slot more
@@ -41,8 +31,7 @@ use Rattle.ist_find.proofs.SlotSawLemmas.{SlotSaw, slot_saw, led_on, were_led_on
 begins_at : (v : View) → IsSound v → (at : Log) → GoesOn at v.log → (first last low node : ℕ)
     → first ≤ last → AllLed v at first last node → (low ≡ first) ⊎ Among low (keys_at v node)
     → (low ≡ first) ⊎ IsEdge (state_of v.start v.words at) low
-begins_at v s at g first last low node some led b =
-    ⊎_elim (λ e. inl e)
+begins_at v s at g first last low node some led b = ⊎_elim (λ e. inl e)
     (λ a. inr (edge_then v s at g first node low (led first (omega arith) some) a)) b
 
 -- the keys of a row were the same at an earlier moment at which some key led to it
@@ -71,9 +60,7 @@ module _ (v u w : View) (node first low high last i count spent : ℕ) (ref : Re
 
   -- it saw a row above the node, to which the slot's keys were led, or an end
   pub slot_leads : LeadsBelow w node low high ref
-  slot_leads =
-      let saw = saw_after h.led.at h.led.until h.led.led in
-      let s = r.seen.sound in
+  slot_leads = let saw = saw_after h.led.at h.led.until h.led.led in let s = r.seen.sound in
       record {
         inner = λ base e. (
           saw_above w s h.led.at first last low high node ref h.from r.ends.some r.ends.top saw base e,
@@ -93,119 +80,108 @@ module _ (v u w : View) (node first low high last i count spent : ℕ) (ref : Re
     -- an end: one pair at most was appended
     one_end : HasReadEnd w x low high ref mid new
         → HasSwept v x first (high + 1) last node 0 spent old new
-    one_end e =
-        record {
-          found = h.swept.found ++ one_of e.own;
-          are = e.pushed ∙ ap (λ xs. xs ++ one_of e.own) h.swept.are
-              ∙ append_assoc old h.swept.found (one_of e.own);
-          sweeps = λ began f led.
-              let s = h.swept.sweeps began f led in
-              let saw = saw_after s.at s.until s.led in
-              let b = begins_at u h.seen.sound s.at s.until first last low node (le_trans h.from h.some) s.led
-              h.begins in
-              let on = goes_on_more u w x r.seen d in
-              let few = s.few in
-              let five = r.loads in
-              let two = e.loads in
-              record {
-                at = saw.at;
-                until = log_goes_on (saw_until w r.seen.sound s.at first last low high node
-                    ref h.from r.ends.some r.ends.top saw) (goes_log w x d);
-                led = led_on w x d saw.at first last node saw.led;
-                row = 0;
-                under = omega arith;
-                loads = s.loads + 7;
-                few = omega arith;
-                swept = slot_swept e.own
-                    (by_table u x on (λ p n. Swept p n first node began s.at low s.row s.loads h.swept.found)
-                    s.swept)
-                    (by_table u x on (λ p n. (low ≡ first) ⊎ IsEdge (state_of p n s.at) low) b)
-                    (saw_pair w x d s.at first last low high node ref h.from r.ends.some r.ends.top saw
-                    e.pair e.own e.tells e.within e.same);
-              };
-        }
+    one_end e = record {
+      found = h.swept.found ++ one_of e.own;
+      are = e.pushed ∙ ap (λ xs. xs ++ one_of e.own) h.swept.are
+          ∙ append_assoc old h.swept.found (one_of e.own);
+      sweeps = λ began f led. let s = h.swept.sweeps began f led in
+          let saw = saw_after s.at s.until s.led in
+          let b = begins_at u h.seen.sound s.at s.until first last low node (le_trans h.from h.some) s.led
+          h.begins in
+          let on = goes_on_more u w x r.seen d in let few = s.few in let five = r.loads in
+          let two = e.loads in record {
+            at = saw.at;
+            until = log_goes_on (saw_until w r.seen.sound s.at first last low high node
+                ref h.from r.ends.some r.ends.top saw) (goes_log w x d);
+            led = led_on w x d saw.at first last node saw.led;
+            row = 0;
+            under = omega arith;
+            loads = s.loads + 7;
+            few = omega arith;
+            swept = slot_swept e.own
+                (by_table u x on (λ p n. Swept p n first node began s.at low s.row s.loads h.swept.found)
+                s.swept)
+                (by_table u x on (λ p n. (low ≡ first) ⊎ IsEdge (state_of p n s.at) low) b)
+                (saw_pair w x d s.at first last low high node ref h.from r.ends.some r.ends.top saw
+                e.pair e.own e.tells e.within e.same);
+          };
+    }
 
     -- a row: all keys of the slot were swept below it
     one_row : (base : ℕ) → ref ≡ InnerAt base
         → HasSwept w x low (high + 1) high base 0 (starting w base low) mid new
         → HasSwept v x first (high + 1) last node 0 spent old new
-    one_row base is below =
-        record {
-          found = h.swept.found ++ below.found;
-          are = below.are ∙ ap (λ xs. xs ++ below.found) h.swept.are
-              ∙ append_assoc old h.swept.found below.found;
-          sweeps = λ began f led.
-              let s = h.swept.sweeps began f led in
-              let saw = saw_after s.at s.until s.led in
-              let row : IsRow w base = subst (IsFoundAs w) is r.found in
-              let until = saw_until w r.seen.sound s.at first last low high node ref h.from r.ends.some
-              r.ends.top saw in
-              let b = begins_at u h.seen.sound s.at s.until first last low node (le_trans h.from h.some) s.led
-              h.begins in
-              let e = goes_on_more u w x r.seen d in
-              let under = saw_led w r.seen.sound s.at first last low high node ref h.from r.ends.some
-              r.ends.top saw base is in
-              let y = below.sweeps saw.at until under in
-              let sx = d.sound.lawful in
-              let enabled = enabled_before (start x.start x.words) y.at x.log y.until sx.enabled in
-              let on = swept_on x.start x.words low base saw.at y.at (high + 1) y.row y.loads below.found
-              y.swept in
-              let was = enabled_before (start x.start x.words) saw.at y.at on enabled in
-              let hung = by_table w x d (λ p n. IsChild (state_of p n saw.at) node saw.index base)
-              (saw_child w r.seen.sound s.at first last low high node ref h.from r.ends.some r.ends.top saw
-              base is) in
-              let back = leads_above x.start x.words sx.opens saw.at y.at on enabled low node saw.index base
-              (not_anchor w r.seen.sound base row) hung (y.led low (le_refl low) r.ends.some) in
-              let all = led_on w x d saw.at first last node saw.led in
-              let before = by_table u x e
-              (λ p n. Swept p n first node began s.at low s.row s.loads h.swept.found) s.swept in
-              let edge = by_table u x e (λ p n. (low ≡ first) ⊎ IsEdge (state_of p n s.at) low) b in
-              let up = saw_above w r.seen.sound s.at first last low high node ref h.from r.ends.some
-              r.ends.top saw base is in
-              let keys = keys_then w r.seen.sound saw.at until low base row
-              (under low (le_refl low) r.ends.some) in
-              let there = by_table w x d (λ p n. (state_of p n saw.at).pieces base ≡ Some (Inner keys.0))
-              keys.1 in
-              let cost = ap (λ ks. distance (guess_in ks low) (child_count ks low)) keys.2 in
-              let begun = row_starts w base low (not_anchor w r.seen.sound base row) in
-              let entered : entering_loads keys.0.keys low
-              ≡ distance (guess_in keys.0.keys low) (child_count keys.0.keys low) + 11 = refl in
-              let limit = s.under in
-              let few = s.few in
-              let five = r.loads in
-              let more = y.few in
-              let least = (swept_above u.start u.words first node began s.at low s.row s.loads
-              h.swept.found s.swept).1 in
-              let way = by_table w x d (λ p n. IsEnteredAt (state_of p n saw.at) low s.row base)
-              record {
-                parent = node;
-                led = saw.led low h.from (le_trans r.ends.some r.ends.top);
-                index = saw.index;
-                for = saw.for low (le_refl low) r.ends.some;
-                child = saw_child w r.seen.sound s.at first last low high node ref h.from r.ends.some
-                    r.ends.top saw base is;
-                begins = ⊎_elim (λ f. inl (let some = least f in omega arith))
-                    (λ a. inr (key_then w r.seen.sound saw.at until low node low
-                    (saw.led low h.from (le_trans r.ends.some r.ends.top))
-                    (subst (Among low) (sym (node_keys_on u w h.seen.sound r.seen node h.at.node_is)) a)))
-                    h.begins;
-              } in
-              record {
-                at = y.at;
-                until = y.until;
-                led = λ k least most. leads_later x.start x.words sx.opens saw.at y.at on enabled low k node
-                    (all k least most) back;
-                row = y.row;
-                under = y.under;
-                loads = s.loads + entering_loads keys.0.keys low + y.loads;
-                few = omega arith;
-                swept = swept_more x.start x.words first node began saw.at low base
-                    (s.loads + entering_loads keys.0.keys low) h.swept.found
-                    (row_swept base keys.0 (later_swept before saw.since) there (omega arith) way)
-                    (later_edge x.start x.words s.at saw.at saw.since was low first edge)
-                    y.at (high + 1) y.row y.loads below.found enabled y.swept;
-              };
-        }
+    one_row base is below = record {
+      found = h.swept.found ++ below.found;
+      are = below.are ∙ ap (λ xs. xs ++ below.found) h.swept.are
+          ∙ append_assoc old h.swept.found below.found;
+      sweeps = λ began f led. let s = h.swept.sweeps began f led in
+          let saw = saw_after s.at s.until s.led in
+          let row : IsRow w base = subst (IsFoundAs w) is r.found in
+          let until = saw_until w r.seen.sound s.at first last low high node ref h.from r.ends.some
+          r.ends.top saw in
+          let b = begins_at u h.seen.sound s.at s.until first last low node (le_trans h.from h.some) s.led
+          h.begins in
+          let e = goes_on_more u w x r.seen d in
+          let under = saw_led w r.seen.sound s.at first last low high node ref h.from r.ends.some
+          r.ends.top saw base is in
+          let y = below.sweeps saw.at until under in let sx = d.sound.lawful in
+          let enabled = enabled_before (start x.start x.words) y.at x.log y.until sx.enabled in
+          let on = swept_on x.start x.words low base saw.at y.at (high + 1) y.row y.loads below.found
+          y.swept in
+          let was = enabled_before (start x.start x.words) saw.at y.at on enabled in
+          let hung = by_table w x d (λ p n. IsChild (state_of p n saw.at) node saw.index base)
+          (saw_child w r.seen.sound s.at first last low high node ref h.from r.ends.some r.ends.top saw
+          base is) in
+          let back = leads_above x.start x.words sx.opens saw.at y.at on enabled low node saw.index base
+          (not_anchor w r.seen.sound base row) hung (y.led low (le_refl low) r.ends.some) in
+          let all = led_on w x d saw.at first last node saw.led in
+          let before = by_table u x e
+          (λ p n. Swept p n first node began s.at low s.row s.loads h.swept.found) s.swept in
+          let edge = by_table u x e (λ p n. (low ≡ first) ⊎ IsEdge (state_of p n s.at) low) b in
+          let up = saw_above w r.seen.sound s.at first last low high node ref h.from r.ends.some
+          r.ends.top saw base is in
+          let keys = keys_then w r.seen.sound saw.at until low base row
+          (under low (le_refl low) r.ends.some) in
+          let there = by_table w x d (λ p n. (state_of p n saw.at).pieces base ≡ Some (Inner keys.0))
+          keys.1 in
+          let cost = ap (λ ks. distance (guess_in ks low) (child_count ks low)) keys.2 in
+          let begun = row_starts w base low (not_anchor w r.seen.sound base row) in
+          let entered : entering_loads keys.0.keys low
+          ≡ distance (guess_in keys.0.keys low) (child_count keys.0.keys low) + 11 = refl in
+          let limit = s.under in let few = s.few in let five = r.loads in let more = y.few in
+          let least = (swept_above u.start u.words first node began s.at low s.row s.loads
+          h.swept.found s.swept).1 in
+          let way = by_table w x d (λ p n. IsEnteredAt (state_of p n saw.at) low s.row base)
+          record {
+            parent = node;
+            led = saw.led low h.from (le_trans r.ends.some r.ends.top);
+            index = saw.index;
+            for = saw.for low (le_refl low) r.ends.some;
+            child = saw_child w r.seen.sound s.at first last low high node ref h.from r.ends.some
+                r.ends.top saw base is;
+            begins = ⊎_elim (λ f. inl (let some = least f in omega arith))
+                (λ a. inr (key_then w r.seen.sound saw.at until low node low
+                (saw.led low h.from (le_trans r.ends.some r.ends.top))
+                (subst (Among low) (sym (node_keys_on u w h.seen.sound r.seen node h.at.node_is)) a)))
+                h.begins;
+          } in
+          record {
+            at = y.at;
+            until = y.until;
+            led = λ k least most. leads_later x.start x.words sx.opens saw.at y.at on enabled low k node
+                (all k least most) back;
+            row = y.row;
+            under = y.under;
+            loads = s.loads + entering_loads keys.0.keys low + y.loads;
+            few = omega arith;
+            swept = swept_more x.start x.words first node began saw.at low base
+                (s.loads + entering_loads keys.0.keys low) h.swept.found
+                (row_swept base keys.0 (later_swept before saw.since) there (omega arith) way)
+                (later_edge x.start x.words s.at saw.at saw.since was low first edge)
+                y.at (high + 1) y.row y.loads below.found enabled y.swept;
+          };
+    }
 
     -- so the keys up to the end of the slot were swept
     pub one_more : HasSweptSlot w x low high ref mid new
@@ -216,12 +192,9 @@ module _ (v u w : View) (node first low high last i count spent : ℕ) (ref : Re
     -- and the sweep goes on with the next slot, if more keys are left
     pub goes_on_after : HasSweptSlot w x low high ref mid new → high < last
         → HasSweptTo v x node first (high + 1) last (i + 1) count spent old new
-    goes_on_after e more =
-        let on = goes_on_more u w x r.seen d in
-        let keys = node_keys_on u x h.seen.sound on node h.at.node_is in
-        let from = h.from in
-        let least = r.ends.some in
-        record {
+    goes_on_after e more = let on = goes_on_more u w x r.seen d in
+        let keys = node_keys_on u x h.seen.sound on node h.at.node_is in let from = h.from in
+        let least = r.ends.some in record {
           seen = goes_on_more v u x h.seen on;
           at = record {
             node_is = node_later u x on node h.at.node_is;
@@ -237,21 +210,17 @@ module _ (v u w : View) (node first low high last i count spent : ℕ) (ref : Re
       where
         under_node : HasSwept v x first (high + 1) last node 0 spent old new
             → HasSwept v x first (high + 1) last node node spent old new
-        under_node y =
-            record {
-              found = y.found;
-              are = y.are;
-              sweeps = λ began f led.
-                  let s = y.sweeps began f led in
-                  let low = s.under in
-                  record {
-                    at = s.at;
-                    until = s.until;
-                    led = s.led;
-                    row = s.row;
-                    under = omega arith;
-                    loads = s.loads;
-                    few = s.few;
-                    swept = s.swept;
-                  };
-            }
+        under_node y = record {
+          found = y.found;
+          are = y.are;
+          sweeps = λ began f led. let s = y.sweeps began f led in let low = s.under in record {
+            at = s.at;
+            until = s.until;
+            led = s.led;
+            row = s.row;
+            under = omega arith;
+            loads = s.loads;
+            few = s.few;
+            swept = s.swept;
+          };
+        }

@@ -2,6 +2,5 @@ pub mod PairLemmas
 pub mod SendLemmas
 pub mod RisingLemmas
 pub mod ShotPieceLemmas
-pub mod SortLemmas
 pub mod UptoLemmas
 pub mod ValueLemmas

@@ -66,9 +66,7 @@ ns = search sendable
 
 -- a row of places may go to another thread if what is in them may
 slots_send : (R : RattleType) → IsSend R → IsSend (slots_row.the_field R).row
-slots_send R s =
-    let O = slots_row.the_type R in
-    let all : AllSend (fields O) = (ps, (ns, tt)) in
+slots_send R s = let O = slots_row.the_type R in let all : AllSend (fields O) = (ps, (ns, tt)) in
     owning_send O all (λ d. (tt, inside d.ptr _ (places R s d.ptr d.items d.filled)))
     (λ k. quiet (to O) (exits_of k (fields O)) ((struct_send (shape O) all).leaving k))
 
@@ -97,12 +95,9 @@ closed_send = search (sendable, tables) depth 30
 
 -- each kind of what a handle holds may go to another thread
 pub held_send : IsSend held.the_row
-held_send =
-    let o : IsSend (owner.the_field).row = owner_send in
-    let p : IsSend (pass.the_field).row = pass_send in
-    let s : IsSend shot.the_row = shot_send in
+held_send = let o : IsSend (owner.the_field).row = owner_send in
+    let p : IsSend (pass.the_field).row = pass_send in let s : IsSend shot.the_row = shot_send in
     let n : IsSend (note.the_field).row = note_send in
     let l : IsSend (left.the_field).row = left_send in
     let w : IsSend (closed.the_field).row = closed_send in
-    let c : IsSend (tree.the_field).row = search sendable depth 20 in
-    search sendable depth 20
+    let c : IsSend (tree.the_field).row = search sendable depth 20 in search sendable depth 20

@@ -5,16 +5,8 @@ use Rattle.std.proofs.lemmas.List.{length-take-le}
 use Rattle.std.proofs.Math.ListN.{set}
 use Rattle.std.proofs.lemmas.List.Edits.{sets}
 use Rattle.ist_core.specs.declared.pairs.Pair.{Pair}
-use Rattle.ist_core.specs.Arithmetic.{degree, part_len, part_start}
-use Rattle.ist_core.specs.RowLayout.{inner_words}
-use Rattle.ist_core.specs.Shapes.{ideal_words}
-use Rattle.ist_core.specs.References.{word_of}
-use Rattle.ist_core.specs.Parts.{parts, first_keys}
-use Rattle.ist_core.specs.Pieces.{Piece, words_of, size_of}
-use Rattle.ist_core.specs.StartLayout.{tree_at, placed_parts, top_row, rows_within, rows_from}
-use Rattle.ist_core.proofs.PartLemmas.{part_end-le}
-use Rattle.ist_core.proofs.WordLemmas.{ideal_words_one}
-use Rattle.ist_core.proofs.LayoutLemmas.{FillWords, fills_rows, keys_of_parts, slots_of-top_row}
+use Rattle.ist_core.specs.WordTerms.{degree, part_len, part_start, inner_words, ideal_words, word_of, parts, first_keys, Piece, words_of, size_of, tree_at, placed_parts, top_row, rows_within, rows_from}
+use Rattle.ist_core.proofs.AllWordLemmas.{part_end-le, ideal_words_one, FillWords, fills_rows, keys_of_parts, slots_of-top_row}
 use Rattle.ist_image.specs.Placing.{part_of, part_base, slot_base, slots_after, rows_after, row_words, tree_words, row_head}
 use Rattle.ist_image.proofs.PlacingLemmas.{placed_by_index, rows_from-many, rows_after-first, rows_after-last}
 use Rattle.ist_image.proofs.SettingLemmas.{sets-append, sets-sets, set_made, none_made}
@@ -26,16 +18,14 @@ use Rattle.std.proofs.lemmas.List.FromFn.{length-map-range_with_len}
 pub cut_part : (pairs : List Pair) (j start len : ℕ) → start ≡ part_start (length pairs) j
     → len ≡ part_len (length pairs) j
     → take (start + len - start) (drop start pairs) ≡ part_of pairs j
-cut_part pairs j start len e i =
-    let whole : start + len - start ≡ len = omega arith in
+cut_part pairs j start len e i = let whole : start + len - start ≡ len = omega arith in
     ap (λ k. take k (drop start pairs)) (whole ∙ i) ∙ ap (λ k. take (part_len (length pairs) j)
     (drop k pairs)) e
 
 -- cutting out a part gives its length
 pub length-cut_part : (pairs : List Pair) (start len : ℕ) → start + len ≤ length pairs
     → length (take (start + len - start) (drop start pairs)) ≡ len
-length-cut_part pairs start len h =
-    let whole : start + len - start ≡ len = omega arith in
+length-cut_part pairs start len h = let whole : start + len - start ≡ len = omega arith in
     let left = length-drop start pairs in
     ap (λ k. length (take k (drop start pairs))) whole ∙ length-take-le len (drop start pairs)
     (omega arith)
@@ -45,11 +35,8 @@ length-cut_part pairs start len h =
 -- the number of a part's pairs is its length
 pub length-part_of : (pairs : List Pair) (n j : ℕ) → length pairs ≡ n → j < degree n
     → length (part_of pairs j) ≡ part_len n j
-length-part_of pairs n j e h =
-    subst (λ m. j < degree m → length (part_of pairs j) ≡ part_len m j) e
-    (λ k.
-    let m = length pairs in
-    let end = part_end-le m j k in
+length-part_of pairs n j e h = subst (λ m. j < degree m → length (part_of pairs j) ≡ part_len m j) e
+    (λ k. let m = length pairs in let end = part_end-le m j k in
     let left = length-drop (part_start m j) pairs in
     length-take-le (part_len m j) (drop (part_start m j) pairs) (omega arith))
     h
@@ -82,8 +69,7 @@ slots_are base n pairs e =
 -- the words of two lists of rows
 pub row_words-append : (xs ys : List (ℕ × Piece)) → row_words (xs ++ ys) ≡ row_words xs ++ row_words ys
 row_words-append [] ys = refl
-row_words-append (x ∷ xs) ys =
-    ap (λ ws. words_of x.1 ++ ws) (row_words-append xs ys)
+row_words-append (x ∷ xs) ys = ap (λ ws. words_of x.1 ++ ws) (row_words-append xs ys)
     ∙ sym (append_assoc (words_of x.1) (row_words xs) (row_words ys))
 
 -- rows that fill the words from one place to another have all these words
@@ -92,14 +78,12 @@ length-row_words : (from to : ℕ) (rows : List (ℕ × Piece)) → FillWords fr
 length-row_words from to [] h = omega arith
 length-row_words from to (row ∷ rows) h =
     let rest = length-row_words (from + size_of row.1) to rows h.1 in
-    let both = length-append (words_of row.1) (row_words rows) in
-    omega arith
+    let both = length-append (words_of row.1) (row_words rows) in omega arith
 
 -- the number of a tree's words is its size
 pub length-tree_words : (base : ℕ) (pairs : List Pair)
     → length (tree_words base pairs) ≡ ideal_words (length pairs)
-length-tree_words base pairs =
-    let n = length pairs in
+length-tree_words base pairs = let n = length pairs in
     let filled = length-row_words base (base + ideal_words n) (rows_from base pairs)
     (fills_rows n base pairs (omega arith)) in
     omega arith
@@ -107,8 +91,7 @@ length-tree_words base pairs =
 -- the number of a top row's words follows from its degree
 pub length-top_words : (base : ℕ) (pairs : List Pair) → 2 ≤ length pairs
     → length (words_of (top_row base pairs)) ≡ inner_words (degree (length pairs))
-length-top_words base pairs two =
-    let keys = keys_of_parts (λ pair. pair.key) pairs two in
+length-top_words base pairs two = let keys = keys_of_parts (λ pair. pair.key) pairs two in
     let slots = slots_of-top_row base pairs in
     let both = length-append (first_keys (λ pair. pair.key) (drop 1 (parts pairs)))
     (map (λ part. word_of (tree_at part.0 part.1)) (placed_parts base pairs)) in
@@ -122,8 +105,7 @@ pub row_set : (old mid new : List ℕ) (base d : ℕ) (pairs : List Pair) → 2 
     → new ≡ sets mid (base + 3 + d)
     (map (λ part. word_of (tree_at part.0 part.1)) (placed_parts base pairs))
     → new ≡ sets old base (words_of (top_row base pairs))
-row_set old mid new base d pairs two e i m =
-    let n = length pairs in
+row_set old mid new base d pairs two e i m = let n = length pairs in
     let keys = first_keys (λ pair. pair.key) (drop 1 (parts pairs)) in
     let slots = map (λ part. word_of (tree_at part.0 part.1)) (placed_parts base pairs) in
     let many = keys_of_parts (λ pair. pair.key) pairs two in
@@ -148,12 +130,9 @@ row_set old mid new base d pairs two e i m =
     ∙ sym (sets-append (fields (degree n)) (suc (suc (suc (suc base)))) keys slots)
 
 -- there is room for the two words of one pair
-pub leaf_room : (base n whole : ℕ) → 1 ≤ n → n < 2 → base + ideal_words n ≤ whole
-    → base + 2 ≤ whole
-leaf_room base n whole least most room =
-    let one : n ≡ 1 = omega arith in
-    let size = ap ideal_words one ∙ ideal_words_one in
-    omega arith
+pub leaf_room : (base n whole : ℕ) → 1 ≤ n → n < 2 → base + ideal_words n ≤ whole → base + 2 ≤ whole
+leaf_room base n whole least most room = let one : n ≡ 1 = omega arith in
+    let size = ap ideal_words one ∙ ideal_words_one in omega arith
 
 -- the words of no pair, and of one
 pub nothing_set : (words : List ℕ) (base : ℕ) (pairs : List Pair) → length pairs < 1
@@ -168,8 +147,7 @@ pub leaf_set : (words : List ℕ) (base : ℕ) (pairs : List Pair) (default : Pa
     ≡ sets words base (tree_words base pairs)
 unfolding rows_within
 leaf_set words base [] default one = absurd (omega arith)
-leaf_set words base (p ∷ []) default one =
-    ap (λ i. set (set words base p.key) i p.value)
+leaf_set words base (p ∷ []) default one = ap (λ i. set (set words base p.key) i p.value)
     (let e : base + 1 ≡ suc base = omega arith in e)
 leaf_set words base (p ∷ q ∷ pairs) default one = absurd (omega arith)
 
@@ -178,10 +156,8 @@ pub tree_set : (old mid new : List ℕ) (base : ℕ) (pairs : List Pair) → 2 �
     → mid ≡ sets old base (words_of (top_row base pairs))
     → new ≡ sets mid (part_base base (length pairs) 0) (row_words (rows_after base pairs 0))
     → new ≡ sets old base (tree_words base pairs)
-tree_set old mid new base pairs two e i =
-    let n = length pairs in
-    let size = length-top_words base pairs two in
-    let first = words_of (top_row base pairs) in
+tree_set old mid new base pairs two e i = let n = length pairs in
+    let size = length-top_words base pairs two in let first = words_of (top_row base pairs) in
     let rest = row_words (rows_after base pairs 0) in
     let begin : part_base base n 0 ≡ base + length first = omega arith in
     i ∙ ap (λ at. sets mid at rest) begin ∙ ap (λ ws. sets ws (base + length first) rest) e
@@ -194,10 +170,8 @@ pub part_set : (old new : List ℕ) (base at next j : ℕ) (pairs part : List Pa
     → new ≡ sets old at (tree_words at part) → at + ideal_words (length part) ≡ next
     → sets old at (row_words (rows_after base pairs j))
     ≡ sets new next (row_words (rows_after base pairs (j + 1)))
-part_set old new base at next j pairs part h e i set n =
-    let b = part_base base (length pairs) j in
-    let following = rows_after base pairs (j + 1) in
-    let here = tree_words at part in
+part_set old new base at next j pairs part h e i set n = let b = part_base base (length pairs) j in
+    let following = rows_after base pairs (j + 1) in let here = tree_words at part in
     let long = length-tree_words at part in
     let same : tree_words b (part_of pairs j) ≡ here =
     ap (λ k. tree_words k (part_of pairs j)) (sym e) ∙ ap (tree_words at) (sym i) in
@@ -212,8 +186,7 @@ part_set old new base at next j pairs part h e i set n =
 -- after the last part none are set
 pub no_part_set : (words : List ℕ) (base at j : ℕ) (pairs : List Pair) → j ≡ degree (length pairs)
     → sets words at (row_words (rows_after base pairs j)) ≡ words
-no_part_set words base at j pairs e =
-    ap (λ rows. sets words at (row_words rows))
+no_part_set words base at j pairs e = ap (λ rows. sets words at (row_words rows))
     (ap (rows_after base pairs) e ∙ rows_after-last base pairs)
 
 -- of the slots and the words of the parts, the next part's are set
@@ -226,10 +199,8 @@ pub slot_and_part_set : (old new : List ℕ) (base slot next_slot at next j x : 
     ≡ sets (sets new next_slot (slots_after base pairs (j + 1))) next
     (row_words (rows_after base pairs (j + 1)))
 slot_and_part_set old new base slot next_slot at next j x pairs part h e i room is n put m =
-    let d = degree (length pairs) in
-    let more = slots_after base pairs (j + 1) in
-    let here = tree_words at part in
-    let one = set old slot x in
+    let d = degree (length pairs) in let more = slots_after base pairs (j + 1) in
+    let here = tree_words at part in let one = set old slot x in
     let size = length-map-range_with_len (slot_word base pairs) (j + 1) (d - (j + 1)) in
     ap (λ ws. sets ws at (row_words (rows_after base pairs j)))
     (set_made (slot_word base pairs) old slot next_slot j d x h is n)
@@ -240,8 +211,7 @@ slot_and_part_set old new base slot next_slot at next j x pairs part h e i room 
     ∙ ap (λ ws. sets ws next_slot more) (sym put))
 
 -- after the last part neither slots nor words of parts are set
-pub none_set : (words : List ℕ) (base slot at j : ℕ) (pairs : List Pair)
-    → j ≡ degree (length pairs)
+pub none_set : (words : List ℕ) (base slot at j : ℕ) (pairs : List Pair) → j ≡ degree (length pairs)
     → sets (sets words slot (slots_after base pairs j)) at (row_words (rows_after base pairs j))
     ≡ words
 none_set words base slot at j pairs e =
@@ -254,11 +224,9 @@ pub head_set : (old mid new : List ℕ) (base : ℕ) (pairs : List Pair) → 2 �
     → new ≡ sets (sets mid (slot_base base (length pairs)) (slots_after base pairs 0))
     (part_base base (length pairs) 0) (row_words (rows_after base pairs 0))
     → new ≡ sets old base (tree_words base pairs)
-head_set old mid new base pairs two e i =
-    let n = length pairs in
+head_set old mid new base pairs two e i = let n = length pairs in
     let slots = sets mid (slot_base base n) (slots_after base pairs 0) in
-    let all : degree n - 0 ≡ degree n = omega arith in
-    tree_set old slots new base pairs two
+    let all : degree n - 0 ≡ degree n = omega arith in tree_set old slots new base pairs two
     (row_set old mid slots base (degree n) pairs two refl e
     (ap (λ d. sets mid (slot_base base n) (map (slot_word base pairs) (range_with_len 0 d))) all
     ∙ ap (sets mid (slot_base base n)) (slots_are base n pairs refl)))
@@ -270,10 +238,8 @@ pub all_left : (words : List ℕ) (base slot at : ℕ) (pairs : List Pair)
     → sets (sets words slot (slots_after base pairs 0)) at (row_words (rows_after base pairs 0))
     ≡ sets (sets words (slot_base base (length pairs)) (slots_after base pairs 0))
     (part_base base (length pairs) 0) (row_words (rows_after base pairs 0))
-all_left words base slot at pairs s e =
-    let slots = slots_after base pairs 0 in
-    let rows = row_words (rows_after base pairs 0) in
-    ap (λ k. sets (sets words k slots) at rows) s
+all_left words base slot at pairs s e = let slots = slots_after base pairs 0 in
+    let rows = row_words (rows_after base pairs 0) in ap (λ k. sets (sets words k slots) at rows) s
     ∙ ap (λ k. sets (sets words (slot_base base (length pairs)) slots) k rows) e
 
 -- so the slot of a part and its tree are written

@@ -2,13 +2,8 @@
 use Rattle.std.proofs.Common.{◌≡◌, ◌∙◌, ◌+◌, ◌-◌, ◌<◌, ◌≤◌, ℕ, zero, suc, List, [], ◌∷◌, ◌++◌, length, map, take, drop, zip, get_or, refl, sym, ap, arith, length-take}
 use Rattle.std.specs.List.{flat_map, range_with_len}
 use Rattle.ist_core.specs.declared.pairs.Pair.{Pair}
-use Rattle.ist_core.specs.Arithmetic.{degree, part_len, part_lens, part_start}
-use Rattle.ist_core.specs.RowLayout.{inner_words}
-use Rattle.ist_core.specs.Shapes.{ideal_words}
-use Rattle.ist_core.specs.Parts.{cut, parts, first_keys}
-use Rattle.ist_core.specs.StartLayout.{bases_from, placed_parts, top_row, rows_within, rows_from}
-use Rattle.ist_core.proofs.RootLemmas.{least_degree-le}
-use Rattle.ist_core.proofs.PartLemmas.{part_len-pos, part_len-lt, part_start-suc, part_end-le}
+use Rattle.ist_core.specs.WordTerms.{degree, part_len, part_lens, part_start, inner_words, ideal_words, cut, parts, first_keys, bases_from, placed_parts, top_row, rows_within, rows_from}
+use Rattle.ist_core.proofs.AllWordLemmas.{least_degree-le, part_len-pos, part_len-lt, part_start-suc, part_end-le}
 use Rattle.ist_image.specs.Placing.{part_of, words_before, part_base, rows_after}
 use Rattle.ist_image.proofs.PlacingSizeLemmas.{words_before-suc}
 
@@ -21,8 +16,7 @@ drop_none (suc n) = refl
 drop_twice : {A : Type 0} (m k : ℕ) (xs : List A) → drop k (drop m xs) ≡ drop (m + k) xs
 drop_twice zero k xs = ap (λ n. drop n xs) (let e : k ≡ 0 + k = omega arith in e)
 drop_twice (suc m) k [] = drop_none k ∙ sym (drop_none (suc m + k))
-drop_twice (suc m) k (x ∷ xs) =
-    let e : suc m + k ≡ suc (m + k) = omega arith in drop_twice m k xs
+drop_twice (suc m) k (x ∷ xs) = let e : suc m + k ≡ suc (m + k) = omega arith in drop_twice m k xs
     ∙ sym (ap (λ n. drop n (x ∷ xs)) e)
 
 -- a list cut into parts from part j on
@@ -43,8 +37,7 @@ bases_by_index : (n base j k : ℕ)
     → bases_from (base + words_before n j) (map (part_len n) (range_with_len j k))
     ≡ map (λ i. base + words_before n i) (range_with_len j k)
 bases_by_index n base j zero = refl
-bases_by_index n base j (suc k) =
-    let more = words_before-suc n j in
+bases_by_index n base j (suc k) = let more = words_before-suc n j in
     let next : base + words_before n j + ideal_words (part_len n j) ≡ base + words_before n
     (j + 1) = omega arith in
     ap (λ b. (base + words_before n j) ∷ bases_from b (map (part_len n) (range_with_len (j + 1) k)))
@@ -68,9 +61,7 @@ pub placed_by_index : (base : ℕ) (pairs : List Pair)
     → placed_parts base pairs ≡ map (λ i. (part_base base (length pairs) i, part_of pairs i))
     (range_with_len 0 (degree (length pairs)))
 unfolding part_lens
-placed_by_index base pairs =
-    let n = length pairs in
-    let from = base + inner_words (degree n) in
+placed_by_index base pairs = let n = length pairs in let from = base + inner_words (degree n) in
     let js = range_with_len 0 (degree n) in
     let begin : from ≡ from + words_before n 0 = omega arith in
     ap (λ b. zip (bases_from b (map (part_len n) js)) (parts pairs)) begin
@@ -81,8 +72,7 @@ placed_by_index base pairs =
 -- ---- rows by the indices of parts
 
 joined_by_index : {A B : Type 0} (f : A → List B) (p : ℕ → A) (g : ℕ → List B)
-    → ((i : ℕ) → f (p i) ≡ g i)
-    → (js : List ℕ) → flat_map f (map p js) ≡ flat_map g js
+    → ((i : ℕ) → f (p i) ≡ g i) → (js : List ℕ) → flat_map f (map p js) ≡ flat_map g js
 joined_by_index f p g same [] = refl
 joined_by_index f p g same (j ∷ js) =
     ap (λ xs. xs ++ flat_map f (map p js)) (same j) ∙ ap (λ xs. g j ++ xs)
@@ -91,11 +81,8 @@ joined_by_index f p g same (j ∷ js) =
 -- a part of two pairs or more has fewer pairs
 pub fewer_in_part : (pairs : List Pair) (i : ℕ) → 2 ≤ length pairs
     → length (part_of pairs i) < length pairs
-fewer_in_part pairs i two =
-    let n = length pairs in
-    let less = part_len-lt n i two in
-    let most = length-take (part_len n i) (drop (part_start n i) pairs) in
-    omega arith
+fewer_in_part pairs i two = let n = length pairs in let less = part_len-lt n i two in
+    let most = length-take (part_len n i) (drop (part_start n i) pairs) in omega arith
 
 -- one level per pair is enough
 rows_enough : (f g base : ℕ) (pairs : List Pair) → length pairs ≤ f → length pairs ≤ g
@@ -105,10 +92,8 @@ rows_enough f g base [] h k = refl
 rows_enough f g base (pair ∷ []) h k = refl
 rows_enough zero g base (pair ∷ more ∷ pairs) h k = absurd (omega arith)
 rows_enough (suc f) zero base (pair ∷ more ∷ pairs) h k = absurd (omega arith)
-rows_enough (suc f) (suc g) base (pair ∷ more ∷ pairs) h k =
-    let all = pair ∷ more ∷ pairs in
-    let n = length all in
-    let js = range_with_len 0 (degree n) in
+rows_enough (suc f) (suc g) base (pair ∷ more ∷ pairs) h k = let all = pair ∷ more ∷ pairs in
+    let n = length all in let js = range_with_len 0 (degree n) in
     let placed = placed_by_index base all in
     let same = joined_by_index (λ (part : ℕ × List Pair). rows_within f part.0 part.1)
     (λ i. (part_base base n i, part_of all i)) (λ i. rows_within g (part_base base n i)
@@ -128,12 +113,9 @@ pub rows_from-many : (base : ℕ) (pairs : List Pair) → 2 ≤ length pairs
 unfolding rows_within
 rows_from-many base [] two = absurd (omega arith)
 rows_from-many base (pair ∷ []) two = absurd (omega arith)
-rows_from-many base (pair ∷ more ∷ pairs) two =
-    let all = pair ∷ more ∷ pairs in
-    let n = length all in
-    let fuel = suc (length pairs) in
-    let whole : degree n ≡ degree n - 0 = omega arith in
-    ap (λ xs. (base, top_row base all) ∷ xs)
+rows_from-many base (pair ∷ more ∷ pairs) two = let all = pair ∷ more ∷ pairs in
+    let n = length all in let fuel = suc (length pairs) in
+    let whole : degree n ≡ degree n - 0 = omega arith in ap (λ xs. (base, top_row base all) ∷ xs)
     (ap (flat_map (λ part. rows_within fuel part.0 part.1)) (placed_by_index base all)
     ∙ joined_by_index (λ (part : ℕ × List Pair). rows_within fuel part.0 part.1)
     (λ i. (part_base base n i, part_of all i)) (λ i. rows_from (part_base base n i)
@@ -179,11 +161,8 @@ keys_by_index : {A : Type 0} (key : A → ℕ) (xs : List A) (j k : ℕ) → 2 �
     (range_with_len j k))
     ≡ map (λ i. get_or (map key xs) (part_start (length xs) i) 0) (range_with_len j k)
 keys_by_index key xs j zero two h = refl
-keys_by_index key xs j (suc k) two h =
-    let n = length xs in
-    let some = part_len-pos n j two in
-    let end = part_end-le n j (omega arith) in
-    first_key key (part_len n j) (part_start n j) xs
+keys_by_index key xs j (suc k) two h = let n = length xs in let some = part_len-pos n j two in
+    let end = part_end-le n j (omega arith) in first_key key (part_len n j) (part_start n j) xs
     (map (λ i. take (part_len n i) (drop (part_start n i) xs)) (range_with_len (j + 1) k)) some
     (omega arith)
     ∙ ap (λ ks. get_or (map key xs) (part_start n j) 0 ∷ ks) (keys_by_index key xs (j + 1) k two
@@ -192,11 +171,8 @@ keys_by_index key xs j (suc k) two h =
 -- the first keys of all parts but the first
 pub keys_of_parts_are : {A : Type 0} (key : A → ℕ) (xs : List A) → 2 ≤ length xs
     → map (λ i. get_or (map key xs) (part_start (length xs) i) 0)
-    (range_with_len 1 (degree (length xs) - 1))
-    ≡ first_keys key (drop 1 (parts xs))
-keys_of_parts_are key xs two =
-    let n = length xs in
-    let least = least_degree-le n in
+    (range_with_len 1 (degree (length xs) - 1)) ≡ first_keys key (drop 1 (parts xs))
+keys_of_parts_are key xs two = let n = length xs in let least = least_degree-le n in
     let one : degree n ≡ suc (degree n - 1) = omega arith in
     let P = λ (i : ℕ). take (part_len n i) (drop (part_start n i) xs) in
     sym (

@@ -9,8 +9,7 @@ use Rattle.std.proofs.lemmas.List.Edits.{sets}
 pub sets-append : (words : List ℕ) (at : ℕ) (xs ys : List ℕ)
     → sets words at (xs ++ ys) ≡ sets (sets words at xs) (at + length xs) ys
 sets-append words at [] ys = ap (λ i. sets words i ys) (let e : at ≡ at + 0 = omega arith in e)
-sets-append words at (x ∷ xs) ys =
-    sets-append (set words at x) (suc at) xs ys
+sets-append words at (x ∷ xs) ys = sets-append (set words at x) (suc at) xs ys
     ∙ ap (λ i. sets (sets (set words at x) (suc at) xs) i ys)
     (let e : suc at + length xs ≡ at + length (x ∷ xs) = omega arith in e)
 
@@ -18,8 +17,7 @@ sets-append words at (x ∷ xs) ys =
 pub set_made : (f : ℕ → ℕ) (words : List ℕ) (at next j d x : ℕ) → j < d → x ≡ f j → at + 1 ≡ next
     → sets words at (map f (range_with_len j (d - j)))
     ≡ sets (set words at x) next (map f (range_with_len (j + 1) (d - (j + 1))))
-set_made f words at next j d x h e n =
-    let left : d - j ≡ suc (d - (j + 1)) = omega arith in
+set_made f words at next j d x h e n = let left : d - j ≡ suc (d - (j + 1)) = omega arith in
     let more = map f (range_with_len (j + 1) (d - (j + 1))) in
     ap (λ k. sets words at (map f (range_with_len j k))) left
     ∙ ap (λ v. sets (set words at v) (suc at) more) (sym e)
@@ -28,16 +26,14 @@ set_made f words at next j d x h e n =
 -- after the last one none is set
 pub none_made : (f : ℕ → ℕ) (words : List ℕ) (at j d : ℕ) → j ≡ d
     → sets words at (map f (range_with_len j (d - j))) ≡ words
-none_made f words at j d e =
-    ap (λ k. sets words at (map f (range_with_len j k)))
+none_made f words at j d e = ap (λ k. sets words at (map f (range_with_len j k)))
     (let none : d - j ≡ 0 = omega arith in none)
 
 -- a word and words after it may be set in either order
 set-sets : (words : List ℕ) (at x base : ℕ) (ys : List ℕ) → at < base
     → set (sets words base ys) at x ≡ sets (set words at x) base ys
 set-sets words at x base [] h = refl
-set-sets words at x base (y ∷ ys) h =
-    set-sets (set words base y) at x (suc base) ys (omega arith)
+set-sets words at x base (y ∷ ys) h = set-sets (set words base y) at x (suc base) ys (omega arith)
     ∙ ap (λ ws. sets ws (suc base) ys) (set_comm words base at y x (λ same. omega arith))
 
 -- words and others after them may be set in either order

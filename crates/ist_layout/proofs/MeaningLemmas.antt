@@ -1,6 +1,6 @@
 -- What a word means that is read as a reference. Serves the readers of slots.
 use Rattle.std.proofs.Common.{◌≡◌, ℕ, Option, Some, option_map, sym, ap, ◌∙◌}
-use Rattle.ist_core.specs.References.{ref_of}
+use Rattle.ist_core.specs.WordTerms.{ref_of}
 use Rattle.ist_layout.specs.Meanings.{ref_meant}
 use Rattle.ist_layout.specs.declared.references.Ref as layout
 

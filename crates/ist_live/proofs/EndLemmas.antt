@@ -5,7 +5,7 @@ use Rattle.std.proofs.lemmas.Bool.Decides.{eqb_tells}
 use Rattle.ist_core.specs.declared.pairs.Pair.{Pair}
 use Rattle.ist_find.specs.Spans.{IsEdge}
 use Rattle.ist_find.specs.Sweeps.{one_of}
-use Rattle.ist_tree.specs.Faces.{PassFace}
+use Rattle.ist_tree.specs.CallTerms.{PassFace}
 use Rattle.ist_tree.specs.Spans.{state_seen}
 use Rattle.ist_live.specs.Reading.{ReadsFrom, HasOnlyRead, Had, HadNone, HasReadSpan, ReadsUp, ReadsDown, none_up, span_up, none_down, span_down}
 use Rattle.ist_live.specs.Lists.{value_among}
@@ -57,11 +57,8 @@ pub none_read : (p : PassFace) (following : ℕ) (m : PassFace) (from : ℕ) (pa
 none_read p following _ _ pairs e none_down =
     record { read = read_not p; under = omega arith; none = λ k low high. absurd (omega arith) }
 none_read p following q first _ e (span_down {m = m} {from = from} {pairs = pairs} None r begins s) =
-    let h = none_read p following m (from + 1) pairs e r in
-    let under = h.under in
-    let low = s.low in
-    let high = s.high in
-    record {
+    let h = none_read p following m (from + 1) pairs e r in let under = h.under in
+    let low = s.low in let high = s.high in record {
       read = read_more p m q h.read s.read;
       under = omega arith;
       none = λ k least most. ⊎_elim
@@ -69,16 +66,14 @@ none_read p following q first _ e (span_down {m = m} {from = from} {pairs = pair
           (λ (l : from + 1 ≤ k). had_after p m q s.read k None (h.none k l most)) (cases_lt k (from + 1));
     }
 none_read p following q first _ e (span_down {pairs = pairs} (Some x) r begins s) =
-    let long = ap length e in
-    absurd (omega arith)
+    let long = ap length e in absurd (omega arith)
 
 -- one span more, with the pair or with none
 pub next_down : (p m q : PassFace) (asked from following : ℕ) (pair : Option Pair)
     → ReadsDown p following m from [] → HasReadSpan m q asked (end_down pair) from pair
     → IsNextDown p q following pair
 next_down p m q asked from following (Some x) r s =
-    let h = none_read p following m from [] refl r in
-    let under = h.under in
+    let h = none_read p following m from [] refl r in let under = h.under in
     let within = s.within.1 in (
       omega arith,
       had_before p m q h.read x.key (Some x.value)
@@ -88,8 +83,7 @@ next_down p m q asked from following (Some x) r s =
           (subst (Had m q k) (other_key x k (λ e. omega arith)) (s.values k (omega arith) l)))
           (λ (l : from ≤ k). had_after p m q s.read k None (h.none k l high)) (cases_lt k from)),
     )
-next_down p m q asked from following None r s =
-    let h = none_read p following m from [] refl r in
+next_down p m q asked from following None r s = let h = none_read p following m from [] refl r in
     λ k low high. ⊎_elim (λ (l : k < from). had_before p m q h.read k None (s.values k low l))
     (λ (l : from ≤ k). had_after p m q s.read k None (h.none k l high)) (cases_lt k from)
 
@@ -133,13 +127,12 @@ module _ (p m q : PassFace) (key from to : ℕ) (o : Option Pair) (h : IsUpTo p 
 
   -- or up to where it goes on
   pub up_to_on : o ≡ None → to + 1 < 2 ^ 64 → IsEdge (state_seen q) (to + 1) → IsUpTo p q key (to + 1)
-  up_to_on is small edge =
-      record {
-        read = read_more p m q h.read s.read;
-        reads = all_up_to is;
-        begins = inr edge;
-        small = small;
-      }
+  up_to_on is small edge = record {
+    read = read_more p m q h.read s.read;
+    reads = all_up_to is;
+    begins = inr edge;
+    small = small;
+  }
 
 -- a read found this as the next pair downwards, span after span
 pub record FoundDown (p q : PassFace) (following : ℕ) (pair : Option Pair) : Type 0 where
@@ -161,13 +154,12 @@ module _ (p m q : PassFace) (following from to : ℕ) (o : Option Pair) (h : IsD
     (s : HasReadSpan m q from to (from + 1) o) where
   lower : (pair : Option Pair) → HasReadSpan m q from (end_down pair) (from + 1) pair
       → FoundDown p q following pair
-  lower pair r =
-      record {
-        read = read_more p m q h.read s.read;
-        next = next_down p m q from (from + 1) following pair h.reads r;
-        spans = subst (ReadsDown p following q (end_down pair)) (append-nil (one_of pair))
-            (span_down pair h.reads h.begins r);
-      }
+  lower pair r = record {
+    read = read_more p m q h.read s.read;
+    next = next_down p m q from (from + 1) following pair h.reads r;
+    spans = subst (ReadsDown p following q (end_down pair)) (append-nil (one_of pair))
+        (span_down pair h.reads h.begins r);
+  }
 
   -- one span more, down to its pair
   pub found_down : (x : Pair) → o ≡ Some x → FoundDown p q following (Some x)
@@ -183,8 +175,7 @@ module _ (p m q : PassFace) (following from to : ℕ) (o : Option Pair) (h : IsD
 
   -- or down to where it goes on
   pub down_to_on : o ≡ None → 0 < to → IsEdge (state_seen q) to → IsDownTo p q following (to - 1 + 1)
-  down_to_on is some edge =
-      let same : to ≡ to - 1 + 1 = omega arith in
+  down_to_on is some edge = let same : to ≡ to - 1 + 1 = omega arith in
       subst (IsDownTo p q following) same record {
         read = read_more p m q h.read s.read;
         reads = span_down None h.reads h.begins (subst (HasReadSpan m q from to (from + 1)) is s);

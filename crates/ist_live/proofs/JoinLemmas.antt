@@ -1,17 +1,93 @@
 -- Two lists of neighbouring keys, read one after the other, are one list. Serves whoever reads in pieces.
-use Rattle.std.proofs.Common.{◌≡◌, ℕ, suc, ◌+◌, ◌-◌, ◌<◌, ◌≤◌, ◌==◌, if◌then◌else◌, List, [], ◌∷◌, ◌++◌, map, get_or, Some, None, ⊎_elim, inl, inr, refl, sym, ap, ◌∙◌, subst, append-nil, append_assoc, arith}
+use Rattle.std.proofs.Common.{◌≡◌, ℕ, ◌<◌, ◌≤◌, List, Option, Some, None, ⊎_elim, inl, inr, sym, ap, ◌∙◌, subst, arith, suc, ◌+◌, ◌-◌, ◌==◌, if◌then◌else◌, [], ◌∷◌, ◌++◌, map, get_or, refl, append-nil, append_assoc}
+use Rattle.ist_core.specs.declared.pairs.Pair.{Pair}
+use Rattle.ist_core.specs.LogTerms.{Among, Each}
+use Rattle.ist_core.proofs.AllWordLemmas.{among-append, each-among, each_append}
+use Rattle.ist_tree.specs.CallTerms.{PassFace}
+use Rattle.ist_find.specs.Sweeps.{one_of}
+use Rattle.ist_live.specs.Reading.{HasOnlyRead, HadSince, Had}
+use Rattle.ist_live.specs.Lists.{HadInTurn, value_among, AreLive, AreInTurn}
+use Rattle.ist_live.proofs.SlotLemmas.{HasReadKeysOfSlot, SweepsUp, none_up, later_up, slot_up}
+use Rattle.ist_live.proofs.ReadLemmas.{read_more, since_before, since_after, had_before, had_after, had_since}
+use Rattle.ist_live.proofs.ListLemmas.{all_swept, other_first, each_higher, rises_on}
+use Rattle.ist_live.proofs.EndLemmas.{own_key}
 use Rattle.std.proofs.lemmas.Bool.{cases_lt}
 use Rattle.std.proofs.lemmas.Bool.Decides.{eqb_tells}
 use Rattle.std.specs.List.Sorted.{IsStrictlyIncreasing}
-use Rattle.ist_core.specs.declared.pairs.Pair.{Pair}
-use Rattle.ist_core.specs.Elements.{Among, Each}
-use Rattle.ist_core.proofs.ElementLemmas.{each_append, each-among, among-append}
-use Rattle.ist_tree.specs.Faces.{PassFace}
-use Rattle.ist_live.specs.Reading.{HasOnlyRead, Had}
-use Rattle.ist_live.specs.Lists.{value_among, AreLive, AreInTurn, HadInTurn}
-use Rattle.ist_live.proofs.ListLemmas.{other_first, each_higher, rises_on}
-use Rattle.ist_live.proofs.ReadLemmas.{read_more, had_before, had_after, had_since, since_before}
-use Rattle.ist_live.proofs.TurnLemmas.{turn_later}
+
+-- ---- of two pairs that were read upwards, the greater was read later. Serves `lists`.
+
+-- a span has one pair at most
+one_same : (pair : Option Pair) (x y : Pair) → Among x (one_of pair) → Among y (one_of pair) → x ≡ y
+one_same (Some z) x y (inl a) (inl b) = a ∙ sym b
+one_same (Some z) x y (inl a) (inr b) = absurd b
+one_same (Some z) x y (inr a) b = absurd a
+one_same None x y a b = absurd a
+
+-- which was in the map at a position of its search
+span_had : (p m q : PassFace) (from following : ℕ) (pair : Option Pair)
+    → HasReadKeysOfSlot p m q from following pair → (x : Pair) → Among x (one_of pair)
+    → (from ≤ x.key) × HadSince m q x.key (Some x.value)
+span_had p m q from following (Some y) s x (inl e) =
+    subst (λ z. (from ≤ z.key) × HadSince m q z.key (Some z.value)) (sym e)
+    (s.within.0, subst (HadSince m q y.key) (own_key y) (s.since y.key s.within.0 s.within.1))
+span_had p m q from following (Some y) s x (inr a) = absurd a
+span_had p m q from following None s x a = absurd a
+
+-- both were in turn at a later moment too
+pub turn_later : (p m q : PassFace) (x y : Pair) → HasOnlyRead m q → HadInTurn p m x y → HadInTurn p q x y
+turn_later p m q x y r t = record {
+  between = t.between;
+  before = t.before;
+  after = read_more t.between m q t.after r;
+  one_had = t.one_had;
+  other_had = since_after t.between m q r y.key (Some y.value) t.other_had;
+}
+
+module _ (p : PassFace) (first : ℕ) where
+  -- each pair that was read was in the map at a position
+  pair_had : (q : PassFace) (following : ℕ) (pairs : List Pair) → SweepsUp p first q following pairs
+      → (x : Pair) → Among x pairs → HadSince p q x.key (Some x.value)
+  pair_had _ _ _ none_up x a = absurd a
+  pair_had q following pairs (later_up {m = m} s r) x a =
+      since_after p m q r x.key (Some x.value) (pair_had m following pairs s x a)
+  pair_had q following _ (slot_up {m = m} {from = from} {pairs = pairs} pair r s) x a = ⊎_elim
+      (λ b. since_after p m q s.read x.key (Some x.value) (pair_had m from pairs r x b))
+      (λ b. since_before p m q (all_swept p first m from pairs r).read x.key (Some x.value)
+      (span_had p m q from following pair s x b).1)
+      (among-append x pairs (one_of pair) a)
+
+  -- and the greater of two at no earlier one
+  pub in_turn : (q : PassFace) (following : ℕ) (pairs : List Pair) → SweepsUp p first q following pairs
+      → (x y : Pair) → Among x pairs → Among y pairs → x.key < y.key → HadInTurn p q x y
+  in_turn _ _ _ none_up x y a b less = absurd a
+  in_turn q following pairs (later_up {m = m} s r) x y a b less =
+      turn_later p m q x y r (in_turn m following pairs s x y a b less)
+  in_turn q following _ (slot_up {m = m} {from = from} {pairs = pairs} pair r s) x y a b less =
+      ⊎_elim
+      (λ c. ⊎_elim (λ d. both_old (in_turn m from pairs r x y c d less)) (λ d. new_and_old c d) (among-append y pairs (one_of pair) b))
+      (λ c. ⊎_elim (λ d. absurd (wrong_way c d))
+      (λ d. let same = ap (λ (z : Pair). z.key) (one_same pair x y c d) in absurd (omega arith))
+      (among-append y pairs (one_of pair) b))
+      (among-append x pairs (one_of pair) a)
+    where
+      both_old : HadInTurn p m x y → HadInTurn p q x y
+      both_old = turn_later p m q x y s.read
+
+      new_and_old : Among x pairs → Among y (one_of pair) → HadInTurn p q x y
+      new_and_old c d = record {
+        between = m;
+        before = (all_swept p first m from pairs r).read;
+        after = s.read;
+        one_had = pair_had m from pairs r x c;
+        other_had = (span_had p m q from following pair s y d).1;
+      }
+
+      wrong_way : Among x (one_of pair) → Among y pairs → ⊥
+      wrong_way c d = let high = (span_had p m q from following pair s x c).0 in
+          let low = each-among (λ (z : Pair). z.key < from) y pairs
+          (all_swept p first m from pairs r).low d in
+          omega arith
 
 -- ---- keys that rise
 
@@ -27,8 +103,7 @@ each_by P Q f (p ∷ pairs) h = (f p.key h.0, each_by P Q f pairs h.1)
 -- the keys after the first one rise
 tail_rises : (x : Pair) (pairs : List Pair) → IsStrictlyIncreasing (keys (x ∷ pairs))
     → IsStrictlyIncreasing (keys pairs)
-tail_rises x pairs h k less =
-    let place : suc k + 1 ≡ suc (k + 1) = omega arith in
+tail_rises x pairs h k less = let place : suc k + 1 ≡ suc (k + 1) = omega arith in
     subst (λ n. get_or (keys pairs) k 0 < get_or (keys (x ∷ pairs)) n 0) place (h (suc k) (omega arith))
 
 -- and lie above it
@@ -46,8 +121,7 @@ tail_above x (y ∷ pairs) h =
 joined_rise : (ys xs : List Pair) (from : ℕ) → IsStrictlyIncreasing (keys xs) → Each (λ p. p.key < from) xs
     → IsStrictlyIncreasing (keys ys) → Each (λ p. from ≤ p.key) ys → IsStrictlyIncreasing (keys (xs ++ ys))
 joined_rise [] xs from a low b high = subst (λ ps. IsStrictlyIncreasing (keys ps)) (sym (append-nil xs)) a
-joined_rise (y ∷ ys) xs from a low b high =
-    let least = high.0 in
+joined_rise (y ∷ ys) xs from a low b high = let least = high.0 in
     subst (λ ps. IsStrictlyIncreasing (keys ps)) (append_assoc xs (y ∷ []) ys)
     (joined_rise ys (xs ++ y ∷ []) (y.key + 1) (rises_on xs y from low least a)
     (each_append (λ p. p.key < y.key + 1) xs (y ∷ [])
@@ -61,8 +135,7 @@ joined_rise (y ∷ ys) xs from a low b high =
 among_over : (pairs : List Pair) (from k : ℕ) → Each (λ p. from ≤ p.key) pairs → k < from
     → value_among pairs k ≡ None
 among_over [] from k high h = refl
-among_over (p ∷ pairs) from k high h =
-    let more = high.0 in
+among_over (p ∷ pairs) from k high h = let more = high.0 in
     other_first p pairs k (λ e. omega arith) ∙ among_over pairs from k high.1 h
 
 -- so below them the others decide
@@ -76,8 +149,7 @@ among_left (x ∷ xs) ys from k high h =
 among_right : (xs ys : List Pair) (from k : ℕ) → Each (λ p. p.key < from) xs → from ≤ k
     → value_among (xs ++ ys) k ≡ value_among ys k
 among_right [] ys from k low h = refl
-among_right (x ∷ xs) ys from k low h =
-    let less = low.0 in
+among_right (x ∷ xs) ys from k low h = let less = low.0 in
     other_first x (xs ++ ys) k (λ e. omega arith) ∙ among_right xs ys from k low.1 h
 
 -- a pair of a list whose keys rise is what the list gives its key
@@ -88,8 +160,7 @@ among_own (y ∷ pairs) x rise (inl e) =
     subst (λ z. value_among (y ∷ pairs) z.key ≡ Some z.value) (sym e) (first_key y pairs)
   where
     first_key : (p : Pair) (ps : List Pair) → value_among (p ∷ ps) p.key ≡ Some p.value
-    first_key p ps =
-        ⊎_elim (λ a. ap (λ b. if b then Some p.value else value_among ps p.key) a.0)
+    first_key p ps = ⊎_elim (λ a. ap (λ b. if b then Some p.value else value_among ps p.key) a.0)
         (λ a. absurd (a.1 refl)) (eqb_tells p.key p.key)
 among_own (y ∷ pairs) x rise (inr a) =
     let up = each-among (λ (p : Pair). y.key < p.key) x pairs (tail_above y pairs rise) a in
@@ -123,18 +194,17 @@ module _ (p m q : PassFace) (first from last : ℕ) (xs ys : List Pair) (r : Has
 
   -- the pairs of two neighbouring ranges, read one after the other, are those of both
   pub live_join : AreLive p q first last (xs ++ ys)
-  live_join =
-      record {
-        rise = joined_rise ys xs from a.rise below b.rise above;
-        within = each_append (λ z. (first ≤ z.key) × (z.key ≤ last)) xs ys (wider xs a.within)
-            (wide ys b.within);
-        values = λ k least most. ⊎_elim
-            (λ (l : k < from). subst (Had p q k) (sym (among_left xs ys from k above l))
-            (had_after p m q s k (value_among xs k) (a.values k least (omega arith))))
-            (λ (l : from ≤ k). subst (Had p q k) (sym (among_right xs ys from k below l))
-            (had_before p m q r k (value_among ys k) (b.values k l most)))
-            (cases_lt k from);
-      }
+  live_join = record {
+    rise = joined_rise ys xs from a.rise below b.rise above;
+    within = each_append (λ z. (first ≤ z.key) × (z.key ≤ last)) xs ys (wider xs a.within)
+        (wide ys b.within);
+    values = λ k least most. ⊎_elim
+        (λ (l : k < from). subst (Had p q k) (sym (among_left xs ys from k above l))
+        (had_after p m q s k (value_among xs k) (a.values k least (omega arith))))
+        (λ (l : from ≤ k). subst (Had p q k) (sym (among_right xs ys from k below l))
+        (had_before p m q r k (value_among ys k) (b.values k l most)))
+        (cases_lt k from);
+  }
     where
       wider : (zs : List Pair) → Each (λ z. (first ≤ z.key) × (z.key ≤ from - 1)) zs
           → Each (λ z. (first ≤ z.key) × (z.key ≤ last)) zs
@@ -148,34 +218,29 @@ module _ (p m q : PassFace) (first from last : ℕ) (xs ys : List Pair) (r : Has
 
   -- and time never goes back along all of them
   pub turn_join : AreInTurn p m xs → AreInTurn m q ys → AreInTurn p q (xs ++ ys)
-  turn_join c d x y i j less =
-      ⊎_elim
+  turn_join c d x y i j less = ⊎_elim
       (λ e. ⊎_elim (λ f. turn_later p m q x y s (c x y e f less)) (λ f. both e f) (among-append y xs ys j))
       (λ e. ⊎_elim (λ f. absurd (wrong_way e f)) (λ f. earlier (d x y e f less)) (among-append y xs ys j))
       (among-append x xs ys i)
     where
       both : Among x xs → Among y ys → HadInTurn p q x y
-      both e f =
-          record {
-            between = m;
-            before = r;
-            after = s;
-            one_had = had_since p m x.key (Some x.value) (live_had p m first (from - 1) xs a x e);
-            other_had = had_since m q y.key (Some y.value) (live_had m q from last ys b y f);
-          }
+      both e f = record {
+        between = m;
+        before = r;
+        after = s;
+        one_had = had_since p m x.key (Some x.value) (live_had p m first (from - 1) xs a x e);
+        other_had = had_since m q y.key (Some y.value) (live_had m q from last ys b y f);
+      }
 
       earlier : HadInTurn m q x y → HadInTurn p q x y
-      earlier t =
-          record {
-            between = t.between;
-            before = read_more p m t.between r t.before;
-            after = t.after;
-            one_had = since_before p m t.between r x.key (Some x.value) t.one_had;
-            other_had = t.other_had;
-          }
+      earlier t = record {
+        between = t.between;
+        before = read_more p m t.between r t.before;
+        after = t.after;
+        one_had = since_before p m t.between r x.key (Some x.value) t.one_had;
+        other_had = t.other_had;
+      }
 
       wrong_way : Among x ys → Among y xs → ⊥
-      wrong_way e f =
-          let more = each-among (λ (z : Pair). from ≤ z.key) x ys above e in
-          let under = each-among (λ (z : Pair). z.key < from) y xs below f in
-          omega arith
+      wrong_way e f = let more = each-among (λ (z : Pair). from ≤ z.key) x ys above e in
+          let under = each-among (λ (z : Pair). z.key < from) y xs below f in omega arith

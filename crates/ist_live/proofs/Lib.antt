@@ -2,7 +2,6 @@ pub mod ReadLemmas
 pub mod SlotLemmas
 pub mod ListLemmas
 pub mod EndLemmas
-pub mod TurnLemmas
 pub mod MomentLemmas
 pub mod JoinLemmas
 pub mod PieceLemmas

@@ -5,9 +5,9 @@ use Rattle.std.proofs.lemmas.Bool.Decides.{eqb_tells}
 use Rattle.std.proofs.lemmas.List.{get_or_append_left, get_or_push, map-append}
 use Rattle.std.specs.List.Sorted.{IsStrictlyIncreasing}
 use Rattle.ist_core.specs.declared.pairs.Pair.{Pair}
-use Rattle.ist_core.specs.Elements.{Each}
-use Rattle.ist_core.proofs.ElementLemmas.{each_append}
-use Rattle.ist_tree.specs.Faces.{PassFace}
+use Rattle.ist_core.specs.LogTerms.{Each}
+use Rattle.ist_core.proofs.AllWordLemmas.{each_append}
+use Rattle.ist_tree.specs.CallTerms.{PassFace}
 use Rattle.ist_find.specs.Sweeps.{one_of}
 use Rattle.ist_live.specs.Reading.{HasOnlyRead, Had, ReadsUp}
 use Rattle.ist_live.specs.Lists.{value_among, AreLive}
@@ -17,17 +17,14 @@ use Rattle.ist_live.proofs.ReadLemmas.{read_not, read_more, had_after}
 -- a pair of another key gives the key nothing
 pub other_first : (pair : Pair) (pairs : List Pair) (k : ℕ) → pair.key ≢ k
     → value_among (pair ∷ pairs) k ≡ value_among pairs k
-other_first pair pairs k ne =
-    ⊎_elim (λ a. absurd (ne a.1))
-    (λ a. ap (λ b. if b then Some pair.value else value_among pairs k) a.0)
-    (eqb_tells pair.key k)
+other_first pair pairs k ne = ⊎_elim (λ a. absurd (ne a.1))
+    (λ a. ap (λ b. if b then Some pair.value else value_among pairs k) a.0) (eqb_tells pair.key k)
 
 -- pairs below a key give it nothing
 pub among_none : (pairs : List Pair) (from k : ℕ) → Each (λ p. p.key < from) pairs → from ≤ k
     → value_among pairs k ≡ None
 among_none [] from k low h = refl
-among_none (p ∷ pairs) from k low h =
-    let less = low.0 in
+among_none (p ∷ pairs) from k low h = let less = low.0 in
     other_first p pairs k (λ e. omega arith) ∙ among_none pairs from k low.1 h
 
 -- one more pair above a key gives it nothing
@@ -41,8 +38,7 @@ among_old (p ∷ pairs) pair k high =
 pub among_new : (pairs : List Pair) (pair : Pair) (from k : ℕ) → Each (λ p. p.key < from) pairs
     → from ≤ k → value_among (pairs ++ pair ∷ []) k ≡ value_among (pair ∷ []) k
 among_new [] pair from k low h = refl
-among_new (p ∷ pairs) pair from k low h =
-    let less = low.0 in
+among_new (p ∷ pairs) pair from k low h = let less = low.0 in
     other_first p (pairs ++ pair ∷ []) k (λ e. omega arith) ∙ among_new pairs pair from k low.1 h
 
 -- the keys rise still
@@ -92,15 +88,14 @@ pub record Listed (p q : PassFace) (first following : ℕ) (pairs : List Pair) :
 
 -- no key yet
 listed_none : (p : PassFace) (first : ℕ) → Listed p p first first []
-listed_none p first =
-    record {
-      read = read_not p;
-      above = omega arith;
-      rise = λ k less. absurd (omega arith);
-      low = tt;
-      within = tt;
-      values = λ k low high. absurd (omega arith);
-    }
+listed_none p first = record {
+  read = read_not p;
+  above = omega arith;
+  rise = λ k less. absurd (omega arith);
+  low = tt;
+  within = tt;
+  values = λ k low high. absurd (omega arith);
+}
 
 -- pairs below a key are below a greater one
 pub each_higher : (pairs : List Pair) (from to : ℕ) → from ≤ to → Each (λ x. x.key < from) pairs
@@ -116,9 +111,7 @@ module _ (p m q : PassFace) (first from following : ℕ) (pairs : List Pair)
 
   listed_on : (pair : Option Pair) → HasReadKeysOfSlot p m q from following pair
       → Listed p q first following (pairs ++ one_of pair)
-  listed_on None s =
-      let above = h.above in
-      let some = s.some in
+  listed_on None s = let above = h.above in let some = s.some in
       subst (Listed p q first following) (sym (append-nil pairs)) record {
         read = read_more p m q h.read s.read;
         above = omega arith;
@@ -130,12 +123,8 @@ module _ (p m q : PassFace) (first from following : ℕ) (pairs : List Pair)
             (s.values k l most))
             (cases_lt k from);
       }
-  listed_on (Some x) s =
-      let above = h.above in
-      let some = s.some in
-      let least = s.within.0 in
-      let most = s.within.1 in
-      record {
+  listed_on (Some x) s = let above = h.above in let some = s.some in let least = s.within.0 in
+      let most = s.within.1 in record {
         read = read_more p m q h.read s.read;
         above = omega arith;
         rise = rises_on pairs x from h.low least h.rise;
@@ -152,15 +141,14 @@ module _ (p m q : PassFace) (first from following : ℕ) (pairs : List Pair)
 -- the same keys at a later moment
 listed_later : (p m q : PassFace) (first following : ℕ) (pairs : List Pair)
     → Listed p m first following pairs → HasOnlyRead m q → Listed p q first following pairs
-listed_later p m q first following pairs h r =
-    record {
-      read = read_more p m q h.read r;
-      above = h.above;
-      rise = h.rise;
-      low = h.low;
-      within = h.within;
-      values = λ k low high. had_after p m q r k (value_among pairs k) (h.values k low high);
-    }
+listed_later p m q first following pairs h r = record {
+  read = read_more p m q h.read r;
+  above = h.above;
+  rise = h.rise;
+  low = h.low;
+  within = h.within;
+  values = λ k low high. had_after p m q r k (value_among pairs k) (h.values k low high);
+}
 
 -- those of all slots
 pub all_swept : (p : PassFace) (first : ℕ) (q : PassFace) (following : ℕ) (pairs : List Pair)
@@ -187,19 +175,16 @@ each_both (x ∷ pairs) first last a b =
 -- all keys up to the last one were read
 pub all_live : (p q : PassFace) (first last : ℕ) (pairs : List Pair)
     → SweepsUp p first q (last + 1) pairs → AreLive p q first last pairs
-all_live p q first last pairs r =
-    let h = all_swept p first q (last + 1) pairs r in
-    record {
-      rise = h.rise;
-      within = each_both pairs first last h.within h.low;
-      values = λ k low high. h.values k low (omega arith);
-    }
+all_live p q first last pairs r = let h = all_swept p first q (last + 1) pairs r in record {
+  rise = h.rise;
+  within = each_both pairs first last h.within h.low;
+  values = λ k low high. h.values k low (omega arith);
+}
 
 -- where there are none, nothing needs to be read
 pub none_live : (p : PassFace) (first last : ℕ) → last < first → AreLive p p first last []
-none_live p first last less =
-    record {
-      rise = λ k h. absurd (omega arith);
-      within = tt;
-      values = λ k low high. absurd (omega arith);
-    }
+none_live p first last less = record {
+  rise = λ k h. absurd (omega arith);
+  within = tt;
+  values = λ k low high. absurd (omega arith);
+}

@@ -4,14 +4,13 @@ use Rattle.std.specs.Prelude.{IfSome}
 use Rattle.std.proofs.lemmas.Bool.Decides.{eqb_tells}
 use Rattle.ist_core.specs.declared.pairs.Pair.{Pair}
 use Rattle.ist_find.specs.Spans.{pair_value}
-use Rattle.ist_tree.specs.Faces.{PassFace}
+use Rattle.ist_tree.specs.CallTerms.{PassFace}
 use Rattle.ist_live.specs.Ends.{IsNextUp}
 use Rattle.ist_live.specs.Reading.{HasOnlyRead, Had, HadNone}
-use Rattle.ist_live.proofs.JoinLemmas.{live_join, turn_join}
+use Rattle.ist_live.proofs.JoinLemmas.{live_join, turn_join, in_turn}
 use Rattle.ist_live.proofs.ListLemmas.{all_live, none_live}
 use Rattle.ist_live.proofs.ReadLemmas.{had_before, had_since, read_not, read_more}
 use Rattle.ist_live.proofs.SlotLemmas.{SweepsUp, none_up, slot_up}
-use Rattle.ist_live.proofs.TurnLemmas.{in_turn}
 use Rattle.ist_live.specs.Pieces.{IsPiece, end_of}
 
 -- ---- within a piece
@@ -26,34 +25,31 @@ pub record IsReadTo (p q : PassFace) (first from last : ℕ) (pairs : List Pair)
 -- nothing was read yet
 pub read_to_none : (p : PassFace) (first last : ℕ) (pairs : List Pair) → pairs ≡ [] → first ≤ last
     → IsReadTo p p first first last pairs
-read_to_none p first last pairs none some =
-    record {
-      read = read_not p;
-      swept = subst (SweepsUp p first p first) (sym none) none_up;
-      low = omega arith;
-      high = some;
-    }
+read_to_none p first last pairs none some = record {
+  read = read_not p;
+  swept = subst (SweepsUp p first p first) (sym none) none_up;
+  low = omega arith;
+  high = some;
+}
 
 -- keys that were swept are a piece
 swept_piece : (p q : PassFace) (first last : ℕ) (next : Option ℕ) (pairs : List Pair)
     → IfSome next (λ key. (first < key) × (key ≤ last)) → SweepsUp p first q (end_of next last + 1) pairs
     → IsPiece p q first last next pairs
-swept_piece p q first last next pairs goes_on s =
-    record {
-      live = all_live p q first (end_of next last) pairs s;
-      in_turn = in_turn p first q (end_of next last + 1) pairs s;
-      goes_on = goes_on;
-    }
+swept_piece p q first last next pairs goes_on s = record {
+  live = all_live p q first (end_of next last) pairs s;
+  in_turn = in_turn p first q (end_of next last + 1) pairs s;
+  goes_on = goes_on;
+}
 
 -- if there are no keys, the piece is empty
 pub piece_none : (p : PassFace) (first last : ℕ) (pairs : List Pair) → pairs ≡ [] → last < first
     → IsPiece p p first last None pairs
-piece_none p first last pairs none less =
-    subst (IsPiece p p first last None) (sym none) record {
-      live = none_live p first last less;
-      in_turn = λ one other a. absurd a;
-      goes_on = tt;
-    }
+piece_none p first last pairs none less = subst (IsPiece p p first last None) (sym none) record {
+  live = none_live p first last less;
+  in_turn = λ one other a. absurd a;
+  goes_on = tt;
+}
 
 module _ (p m q : PassFace) (first from last : ℕ) (pairs : List Pair) (h : IsReadTo p m first from last pairs)
     (r : HasOnlyRead m q) where
@@ -63,8 +59,7 @@ module _ (p m q : PassFace) (first from last : ℕ) (pairs : List Pair) (h : IsR
 
   -- if there is no pair up to the last key, it is the last piece
   pub piece_ends : HadNone m q from (last + 1) → IsPiece p q first last None pairs
-  piece_ends none =
-      let some = h.high in
+  piece_ends none = let some = h.high in
       swept_piece p q first last None pairs tt (subst (SweepsUp p first q (last + 1)) (append-nil pairs)
       (slot_up None h.swept record {
         read = r;
@@ -101,18 +96,14 @@ module _ (p m q : PassFace) (first from last : ℕ) (pairs : List Pair) (h : IsR
 
     -- or the next piece begins after it
     pub piece_goes_on : x.key < last → IsPiece p q first last (Some (x.key + 1)) all
-    piece_goes_on less =
-        let low = next.0 in
-        let least = h.low in
+    piece_goes_on less = let low = next.0 in let least = h.low in
         let same : x.key + 1 ≡ x.key + 1 - 1 + 1 = omega arith in
         swept_piece p q first last (Some (x.key + 1)) all (omega arith, omega arith)
         (subst (λ n. SweepsUp p first q n all) same one_more)
 
     -- or the piece goes on
     pub read_to_more : x.key < last → IsReadTo p q first (x.key + 1) last all
-    read_to_more less =
-        let low = next.0 in
-        let least = h.low in
+    read_to_more less = let low = next.0 in let least = h.low in
         record { read = read_on; swept = one_more; low = omega arith; high = omega arith }
 
 -- ---- piece after piece

@@ -3,7 +3,7 @@ use Rattle.std.specs.Prelude.{ℕ, ◌<◌, ◌≤◌, List, [], ◌++◌, Optio
 use Rattle.ist_core.specs.declared.pairs.Pair.{Pair}
 use Rattle.ist_find.specs.Spans.{pair_value}
 use Rattle.ist_find.specs.Sweeps.{one_of}
-use Rattle.ist_tree.specs.Faces.{PassFace}
+use Rattle.ist_tree.specs.CallTerms.{PassFace}
 use Rattle.ist_live.specs.Reading as spans
 use Rattle.ist_live.specs.Reading.{HasOnlyRead, Had, HadSince, ReadsUp}
 use Rattle.ist_live.proofs.ReadLemmas.{had_before, had_since, read_more, read_not}

@@ -1,6 +1,5 @@
 pub mod HandLemmas
 pub mod RunLemmas
-pub mod GrowLemmas
 pub mod RefusalLemmas
 pub mod ScriptLemmas
 pub mod OwningLemmas

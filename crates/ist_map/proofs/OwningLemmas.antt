@@ -5,11 +5,9 @@ use Rattle.std.specs.FinMap as fin
 use Rattle.std.specs.FinMap.{gets}
 use Rattle.ist_core.specs.declared.commands.Command.{Command}
 use Rattle.ist_core.specs.declared.commands.Command.TheVariants.{Put, Remove, Get}
-use Rattle.ist_core.specs.Elements.{Among, Each}
-use Rattle.ist_core.specs.Map.{Map, key_of, map_after}
-use Rattle.ist_core.specs.Histories.{IsLegal}
-use Rattle.ist_core.specs.Replies.{Answered}
-use Rattle.ist_core.proofs.ElementLemmas.{each_of}
+use Rattle.ist_core.specs.LogTerms.{Among, Each, IsLegal, Answered}
+use Rattle.ist_core.specs.TreeTerms.{Map, key_of, map_after}
+use Rattle.ist_core.proofs.AllWordLemmas.{each_of}
 use Rattle.laws_histories.proofs.MapLemmas.{same_head, same_tail}
 use Rattle.ist_reopen.specs.Interleaving.{Owned, IsMadeOf, told_to_pass}
 use Rattle.ist_map.specs.Owning.{is_about, value_after, ReadBack, OnlyGets}
@@ -38,8 +36,7 @@ module _ (key owner : ℕ) where
       → fin.get (map_after m x.told.command) key ≡ fin.get m key
   left_by_other m x other fair = ⊎_elim
       (λ same. ap (λ c. fin.get (map_after m c) key) (fair (grind (arith, nat_tests)) same.1))
-      (λ away. get_other m x.told.command key away.1)
-      (eqb_tells (key_of x.told.command) key)
+      (λ away. get_other m x.told.command key away.1) (eqb_tells (key_of x.told.command) key)
 
   -- the owner reads back, if each call of another leaves the key
   pub read_back : (m : Map) (owned : List Owned) → IsLegal m (map (λ x. x.told) owned)
@@ -52,8 +49,7 @@ module _ (key owner : ℕ) where
     where
       at : ReadBack (fin.get (map_after m x.told.command) key)
           (filter (is_about key) (told_to_pass owner owned))
-          → (mine : Bool) → (x.owner == owner) ≡ mine → (about : Bool)
-          → is_about key x.told ≡ about
+          → (mine : Bool) → (x.owner == owner) ≡ mine → (about : Bool) → is_about key x.told ≡ about
           → ReadBack (fin.get m key) (filter (is_about key) (told_to_pass owner (x ∷ owned)))
       at rest false his about e = rw his
           (subst (λ v. ReadBack v (filter (is_about key) (told_to_pass owner owned)))
@@ -66,8 +62,7 @@ module _ (key owner : ℕ) where
                 (get_same m x.told.command key same) rest,
           )
       at rest true mine false e =
-          let other : key_of x.told.command ≢ key = grind (arith, nat_tests) in
-          rw (mine, e)
+          let other : key_of x.told.command ≢ key = grind (arith, nat_tests) in rw (mine, e)
           (subst (λ v. ReadBack v (filter (is_about key) (told_to_pass owner owned)))
           (get_other m x.told.command key other) rest)
 

@@ -3,12 +3,9 @@ use Rattle.std.proofs.Common.{◌≡◌, ◌∙◌, ◌⊎◌, ⊎_elim, inl, in
 use Rattle.std.proofs.lemmas.Option.{none-some}
 use Rattle.std.proofs.lemmas.Result.{IfErr-weaker}
 use Rattle.ist_core.specs.declared.ports.Full.{Full}
-use Rattle.ist_core.specs.Logs.{Log, GoesOn, same_log}
-use Rattle.ist_core.proofs.PrefixLemmas.{goes_on_more}
-use Rattle.ist_tree.specs.Calls.{HasSeenMore}
-use Rattle.ist_tree.specs.Faces.{TreeFace, PassFace}
-use Rattle.ist_tree.specs.Refusals.{KeepsRowRefusal}
-use Rattle.ist_tree.specs.Updates.{IsTurnedAway}
+use Rattle.ist_core.specs.LogTerms.{Log, GoesOn, same_log}
+use Rattle.ist_core.proofs.AllLogLemmas.{goes_on_more}
+use Rattle.ist_tree.specs.CallTerms.{HasSeenMore, TreeFace, PassFace, KeepsRowRefusal, IsTurnedAway}
 use Rattle.ist_map.specs.Refusing.{IsRefusedTo, to_update, to_rebuild, WasRefusedSince, IsRefusalOn}
 
 -- ---- one call
@@ -21,9 +18,7 @@ update_refused p q key value r = IfErr-weaker r _ _ (λ full away. to_update awa
 -- so was a rebuild that the pass keeps the refusal of, if it kept none before
 pub rebuild_refused : (p q : PassFace) → KeepsRowRefusal p q → (full : Full)
     → q.refused ≡ Some full → (p.refused ≡ Some full) ⊎ IsRefusedTo p q full
-rebuild_refused p q keeps full now = ⊎_elim
-    (λ before. inl before)
-    (λ row. inr (to_rebuild row.1))
+rebuild_refused p q keeps full now = ⊎_elim (λ before. inl before) (λ row. inr (to_rebuild row.1))
     (keeps.cause full now)
 
 -- ---- several calls
@@ -44,8 +39,7 @@ refused_now first p q full since call cause = record {
 pub kept_now : (first p q : PassFace) (full : Full) → HasSeenMore first p → HasSeenMore p q
     → p.refused ≡ None → (p.refused ≡ Some full) ⊎ IsRefusedTo p q full
     → WasRefusedSince first q.seen full
-kept_now first p q full since call none = ⊎_elim
-    (λ some. absurd (none-some full (sym none ∙ some)))
+kept_now first p q full since call none = ⊎_elim (λ some. absurd (none-some full (sym none ∙ some)))
     (refused_now first p q full since call)
 
 -- ---- a tree

@@ -3,21 +3,16 @@ use Rattle.std.proofs.Common.{◌≡◌, ◌∙◌, ℕ, List, [], ◌∷◌, �
 use Rattle.std.proofs.lemmas.List.{append-nil, append_assoc}
 use Rattle.ist_core.specs.declared.pairs.Pair.{Pair}
 use Rattle.ist_core.specs.declared.ports.Full.{Full}
-use Rattle.ist_core.proofs.PrefixLemmas.{goes_on_more}
-use Rattle.ist_core.specs.Map.{map_of, pairs_of}
-use Rattle.ist_core.specs.Elements.{Each}
-use Rattle.ist_core.specs.Changes.{Entry, changes_of, map_after_entries}
-use Rattle.ist_core.specs.Replies.{Answered}
-use Rattle.ist_core.specs.Resting.{told_by_call}
+use Rattle.ist_core.proofs.AllLogLemmas.{goes_on_more}
+use Rattle.ist_core.specs.TreeTerms.{map_of, pairs_of, Entry, changes_of, map_after_entries, told_by_call}
+use Rattle.ist_core.specs.LogTerms.{Each, Answered}
 use Rattle.laws_histories.specs.Telling.{map_now}
 use Rattle.plain_map.specs.Rising.{IsRising}
-use Rattle.plain_map.proofs.EntriesLemmas.{pairs_of-map_of}
+use Rattle.plain_map.proofs.PlaceLemmas.{pairs_of-map_of}
 use Rattle.ist_rest.specs.RestingWords.{HoldPairs}
-use Rattle.ist_rest.proofs.WholeLemmas.{same_pairs}
+use Rattle.ist_rest.proofs.WholeLemmas.{same_pairs, hold_map}
 use Rattle.ist_rest.specs.Standings.{Stands}
-use Rattle.ist_rest.proofs.MapLemmas.{hold_map}
-use Rattle.ist_tree.specs.Faces.{TreeFace, MakerFace}
-use Rattle.ist_tree.specs.Closing.{ClosesWith, calls_taken, told_to}
+use Rattle.ist_tree.specs.CallTerms.{TreeFace, MakerFace, ClosesWith, calls_taken, told_to}
 use Rattle.ist_reopen.specs.Generations.{Generation, IsGeneration, generation_of, FollowOn, moments_over, pairs_left, history, calls_of}
 use Rattle.ist_reopen.specs.Interleaving.{told_over}
 use Rattle.ist_map.specs.Hands.{HaveWorked}
@@ -26,7 +21,7 @@ use Rattle.ist_map.specs.Refusing.{IsRefusalOn, WasRefusedOn}
 use Rattle.ist_map.specs.Running.{HasRunOn, HasRunOnOne, IsUnderway, WereRefused, IsOneHistory}
 use Rattle.ist_reopen.proofs.GenerationLemmas.{closed_is, history_legal, history_leads}
 use Rattle.ist_reopen.proofs.PassLemmas.{made_over}
-use Rattle.ist_reopen.proofs.TimeLemmas.{history_linear, moments_told}
+use Rattle.ist_reopen.proofs.ReopenLemmas.{history_linear, moments_told}
 
 -- trees that follow others, and one more that begins where these lead to
 follow-push : (first middle : List Pair) (gs : List Generation) (g : Generation)
@@ -114,8 +109,7 @@ run_on first middle last asked left later before between after refused a b =
       follow = follow-push a.began a.ended a.trees b.tree a.follow same b.is;
       sizes = doubled-push asked a.trees b.tree a.sizes b.size;
       left_is = b.left_is ∙ sym (last_words-push asked a.trees b.tree);
-      told = λ number.
-          b.told number
+      told = λ number. b.told number
           ∙ ap (λ ts. ts ++ map told_by_call (calls_of b.tree number)) (a.told number)
           ∙ append_assoc (slice_index_or before number []) (told_over a.trees number)
           (map told_by_call (calls_of b.tree number))
@@ -229,8 +223,7 @@ no_entries (entry ∷ entries) made none h = let low = h.0 in absurd (omega arit
 -- the words of a tree that no pass was made of hold the pairs that it was opened with
 pub holds_first : (m : MakerFace) (closed : List ℕ) → ClosesWith m closed → m.made ≡ 0
     → IsRising m.tree.start → HoldPairs closed m.tree.start
-holds_first m closed c none rising =
-    subst (HoldPairs closed)
+holds_first m closed c none rising = subst (HoldPairs closed)
     (ap (λ es. pairs_of (map_after_entries (map_of m.tree.start) es))
     (no_entries (changes_of m.tree.start (length closed) c.stands.log) m.made none c.owners)
     ∙ pairs_of-map_of m.tree.start rising)

@@ -2,13 +2,12 @@
 use Rattle.std.proofs.Common.{◌≡◌, ◌∙◌, ℕ, ◌<◌, List, [], ◌∷◌, ◌++◌, length, Option, slice_index_or, refl, sym, ap, arith}
 use Rattle.std.proofs.lemmas.List.{append_assoc}
 use Rattle.ist_core.specs.declared.commands.Command.{Command}
-use Rattle.ist_core.specs.Replies.{Answered, told}
+use Rattle.ist_core.specs.LogTerms.{Answered, told}
 use Rattle.ist_map.specs.Scripts.{told_in}
 
 -- one reply more is one answered command more
 pub told_in-push : (commands : List Command) (replies : List (Option ℕ)) (reply : Option ℕ)
-    (d : Command) → length replies < length commands
-    → told_in commands (replies ++ reply ∷ [])
+    (d : Command) → length replies < length commands → told_in commands (replies ++ reply ∷ [])
     ≡ told_in commands replies ++ told (slice_index_or commands (length replies) d) reply ∷ []
 told_in-push [] replies reply d low = absurd (omega arith)
 told_in-push (c ∷ cs) [] reply d low = none cs
@@ -22,13 +21,11 @@ told_in-push (c ∷ cs) (r ∷ replies) reply d low =
 -- if one command more has its reply, what was told is what had been told, and then this reply
 pub told_more : (commands : List Command) (replies after : List (Option ℕ)) (reply : Option ℕ)
     (command : Command) (before old new : List Answered) → after ≡ replies ++ reply ∷ []
-    → length replies < length commands
-    → slice_index_or commands (length replies) command ≡ command
+    → length replies < length commands → slice_index_or commands (length replies) command ≡ command
     → told_in commands replies ≡ before ++ old → new ≡ old ++ told command reply ∷ []
     → told_in commands after ≡ before ++ new
 told_more commands replies after reply command before old new items low is was added =
     ap (told_in commands) items ∙ told_in-push commands replies reply command low
     ∙ ap (λ x. told_in commands replies ++ told x reply ∷ []) is
     ∙ ap (λ ts. ts ++ told command reply ∷ []) was
-    ∙ append_assoc before old (told command reply ∷ [])
-    ∙ ap (λ ts. before ++ ts) (sym added)
+    ∙ append_assoc before old (told command reply ∷ []) ∙ ap (λ ts. before ++ ts) (sym added)

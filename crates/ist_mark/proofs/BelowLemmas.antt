@@ -1,21 +1,19 @@
 -- What hangs below a slot that was passed. Serves `pass_slot`.
 use Rattle.std.proofs.Common.{◌≡◌, ◌≢◌, ℕ, Option, Some, None, option_map, sym, ap, ◌∙◌, subst, arith}
-use Rattle.ist_core.specs.References.{Empty, Unset, LeafAt, InnerAt, ChangeAt, RebuildAt, ref_of}
-use Rattle.ist_core.specs.Logs.{Passes}
-use Rattle.ist_core.specs.Marking.{HasTarget, as_child, after_rebuild, IsFrozen, CountsFor, no_key, one_key}
-use Rattle.ist_core.proofs.NamingLemmas.{SideNames, IsRebuildFor}
-use Rattle.ist_core.proofs.OptionLemmas.{same_rebuild}
+use Rattle.ist_core.specs.WordTerms.{Empty, Unset, LeafAt, InnerAt, ChangeAt, RebuildAt, ref_of}
+use Rattle.ist_core.specs.LogTerms.{Passes}
+use Rattle.ist_core.specs.TreeTerms.{HasTarget, as_child, after_rebuild, IsFrozen, CountsFor, no_key, one_key}
+use Rattle.ist_core.proofs.AllPlaceLemmas.{SideNames, IsRebuildFor}
+use Rattle.ist_core.proofs.AllWordLemmas.{same_rebuild}
+use Rattle.ist_rule.specs.RuleTerms.{IsSound, now, GoesOnTo}
 use Rattle.ist_rule.specs.declared.view.View.{View}
-use Rattle.ist_rule.specs.Rule.{IsSound}
-use Rattle.ist_rule.specs.Learning.{now, GoesOnTo}
 use Rattle.ist_rule.proofs.WentOnLemmas.{goes_on_went}
 use Rattle.ist_layout.specs.declared.references.Ref as layout
 use Rattle.ist_layout.specs.Meanings.{ref_meant}
 use Rattle.ist_mark.specs.declared.below.PassedChild.TheVariants.{Keys, Node}
 use Rattle.ist_mark.specs.Marking.{to_row, to_target}
 use Rattle.ist_mark.specs.Passing.{HangsBelow, PassedWith}
-use Rattle.ist_mark.proofs.KeepingLemmas.{happened_went}
-use Rattle.ist_mark.proofs.NodeLemmas.{frozen_names, target_inner}
+use Rattle.ist_mark.proofs.KeepingLemmas.{happened_went, frozen_names, target_inner}
 
 -- ---- words
 
@@ -49,8 +47,7 @@ target_below v s node i word rebuild child p is t =
     let high = (target_inner v.start v.words s.lawful.opens v.log s.lawful.enabled rebuild t.row
     t.published).0 in
     let parent : t.row.parent ≡ node = ap (λ r. r.parent) (sym same) ∙ named.parent in
-    let target = t.target_is in
-    record {
+    let target = t.target_is in record {
       above = omega arith;
       called = after_rebuild node i word rebuild p is t;
       leads = to_target rebuild is t;
@@ -73,10 +70,8 @@ passed_row v s node i word child p is =
 pub passed_target : (v w : View) → GoesOnTo v w → (node i word rebuild child : ℕ) → IsFrozen v.log node i word
     → HasTarget (now w) rebuild child → ref_of word ≡ Some (RebuildAt rebuild)
     → PassedWith w node i (Node child)
-passed_target v w g node i word rebuild child p t is =
-    let P = Passes node i word in
-    let frozen = happened_went P v w (goes_on_went P v w g) P p in
-    record {
+passed_target v w g node i word rebuild child p t is = let P = Passes node i word in
+    let frozen = happened_went P v w (goes_on_went P v w g) P p in record {
       word = word;
       frozen = frozen;
       is = target_below w g.sound node i word rebuild child frozen is t;

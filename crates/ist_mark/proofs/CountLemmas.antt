@@ -2,18 +2,12 @@
 use Rattle.std.proofs.Common.{◌≡◌, ℕ, suc, ◌+◌, ◌*◌, ◌≤◌, List, [], ◌∷◌, length, get_or, drop, Option, refl, sym, ap, ap₂, ◌∙◌, subst, add_assoc, arith}
 use Rattle.std.proofs.Math.Seq.{drop-cons}
 use Rattle.ist_core.specs.declared.pairs.Pair.{Pair}
-use Rattle.ist_core.specs.RowLayout.{place_limit}
-use Rattle.ist_core.specs.References.{Ref, ref_of}
-use Rattle.ist_core.specs.Snapshots.{Snapshot}
-use Rattle.ist_core.specs.StartLayout.{start}
-use Rattle.ist_core.specs.Logs.{Log}
-use Rattle.ist_core.specs.Marking.{HasTarget, CountsFor, no_key, one_key, of_child, of_target, ArePassed, past_end, one_passed}
-use Rattle.ist_core.specs.Rebuilding.{IsFinishedWith}
-use Rattle.ist_core.specs.Lawful.{EachEnabled, CanOpen, state_of}
-use Rattle.ist_core.proofs.FrozenLemmas.{passes_agree}
-use Rattle.ist_core.proofs.OptionLemmas.{same_rebuild}
-use Rattle.ist_core.proofs.DrawLemmas.{finished_once}
-use Rattle.laws_links.proofs.FinishedLeafLemmas.{finished_few}
+use Rattle.ist_core.specs.WordTerms.{place_limit, Ref, ref_of, start}
+use Rattle.ist_core.specs.LogTerms.{Snapshot, Log, EachEnabled, CanOpen, state_of}
+use Rattle.ist_core.specs.TreeTerms.{HasTarget, CountsFor, no_key, one_key, of_child, of_target, ArePassed, past_end, one_passed, IsFinishedWith}
+use Rattle.ist_core.proofs.AllLogLemmas.{passes_agree, finished_once}
+use Rattle.ist_core.proofs.AllWordLemmas.{same_rebuild}
+use Rattle.laws_links.proofs.ContentLemmas.{finished_few}
 use Rattle.ist_mark.specs.Passing.{AreCounted, no_slot_yet, one_slot_more}
 
 -- ---- one number
@@ -21,8 +15,7 @@ use Rattle.ist_mark.specs.Passing.{AreCounted, no_slot_yet, one_slot_more}
 -- two targets of one rebuild are one
 target_once : (t : Snapshot) (rebuild a b : ℕ) → HasTarget t rebuild a → HasTarget t rebuild b
     → a ≡ b
-target_once t rebuild a b f g =
-    sym f.target_is
+target_once t rebuild a b f g = sym f.target_is
     ∙ ap (λ r. r.target) (same_rebuild (t.pieces rebuild) f.row g.row f.published g.published)
     ∙ g.target_is
 
@@ -37,8 +30,7 @@ counts_once t _ _ _ _ (of_child {child = child} {k = k} f) (of_child {child = ot
 counts_once t _ _ _ _ (of_target {rebuild = rebuild} {target = target} {k = k} h f)
     (of_target {rebuild = other} {target = more} {k = n} j g) e =
     let same : rebuild ≡ other = cc in
-    let one = target_once t rebuild target more h
-    (subst (λ r. HasTarget t r more) (sym same) j) in
+    let one = target_once t rebuild target more h (subst (λ r. HasTarget t r more) (sym same) j) in
     finished_once t target k n f (subst (λ c. IsFinishedWith t c n) (sym one) g)
 counts_once t _ _ _ _ no_key one_key e = absurd (cc)
 counts_once t _ _ _ _ no_key (of_child g) e = absurd (cc)
@@ -62,8 +54,7 @@ module _ (pairs : List Pair) (words : ℕ) (opens : CanOpen pairs words) (log : 
   pub passed_once : (node i a b : ℕ) (slots : List ℕ) → ArePassed t log node i slots a
       → ArePassed t log node i slots b → a ≡ b
   passed_once node i _ _ _ past_end past_end = refl
-  passed_once node i _ _ _
-      (one_passed {here = here} {rest = rest} {slots = slots} word p c more)
+  passed_once node i _ _ _ (one_passed {here = here} {rest = rest} {slots = slots} word p c more)
       (one_passed {here = also} {rest = left} other q d following) =
       ap₂ (λ x y. x + y)
       (counts_once t (ref_of word) (ref_of other) here also c d
@@ -85,16 +76,13 @@ module _ (pairs : List Pair) (words : ℕ) (opens : CanOpen pairs words) (log : 
   pub counted_few : (node i k : ℕ) → AreCounted t log node i k → k ≤ i * place_limit
   counted_few node _ _ no_slot_yet = omega arith
   counted_few node _ _ (one_slot_more {i = i} {k = k} {here = here} word a p c) =
-      let few = counted_few node i k a in
-      let less = count_few (ref_of word) here c in
-      omega arith
+      let few = counted_few node i k a in let less = count_few (ref_of word) here c in omega arith
 
   -- slots that were counted up to one that others go on from were passed
   counted_on : (node i k rest : ℕ) (slots : List ℕ) → AreCounted t log node i k → i ≤ length slots
       → ArePassed t log node i (drop i slots) rest → ArePassed t log node 0 slots (k + rest)
   counted_on node _ _ rest slots no_slot_yet inside more =
-      let none : rest ≡ 0 + rest = omega arith in
-      subst (ArePassed t log node 0 slots) none more
+      let none : rest ≡ 0 + rest = omega arith in subst (ArePassed t log node 0 slots) none more
   counted_on node _ _ rest slots
       (one_slot_more {i = i} {k = k} {here = here} word a p c) inside more =
       let next : i + 1 ≡ suc i = omega arith in
@@ -109,8 +97,7 @@ module _ (pairs : List Pair) (words : ℕ) (opens : CanOpen pairs words) (log : 
   -- all slots that were counted were passed
   pub counted_all : (node k : ℕ) (slots : List ℕ) → AreCounted t log node (length slots) k
       → ArePassed t log node 0 slots k
-  counted_all node k slots a =
-      let none : k + 0 ≡ k = omega arith in
+  counted_all node k slots a = let none : k + 0 ≡ k = omega arith in
       subst (ArePassed t log node 0 slots) none
       (counted_on node (length slots) k 0 slots a (omega arith)
       (subst (λ xs. ArePassed t log node (length slots) xs 0) (sym (drop_all slots)) past_end))

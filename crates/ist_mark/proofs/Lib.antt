@@ -1,4 +1,3 @@
-pub mod NodeLemmas
 pub mod KeepingLemmas
 pub mod SubtreeLemmas
 pub mod MarkLemmas
@@ -6,4 +5,3 @@ pub mod CountLemmas
 pub mod FinishLemmas
 pub mod PassLemmas
 pub mod BelowLemmas
-pub mod CountingLemmas

@@ -4,36 +4,23 @@ use Rattle.std.proofs.lemmas.Bool.Decides.{eqb_tells}
 use Rattle.ist_core.specs.declared.events.Event.{Event}
 use Rattle.ist_core.specs.declared.events.Event.TheVariants.{Mark}
 use Rattle.ist_core.specs.declared.states.InnerRow.{InnerRow}
-use Rattle.ist_core.specs.RowLayout.{inner_status_offset}
-use Rattle.ist_core.specs.Statuses.{Finished, status_of, open_word, marked_word}
-use Rattle.ist_core.specs.Pieces.{Inner, with_status}
-use Rattle.ist_core.specs.StartLayout.{start}
-use Rattle.ist_core.specs.Marking.{IsCalled}
-use Rattle.ist_core.specs.Snapshots.{Snapshot}
-use Rattle.ist_core.specs.Rebuilding.{IsFinishedWith}
-use Rattle.ist_core.specs.Lawful.{EachEnabled, state_of}
-use Rattle.ist_core.proofs.FateLemmas.{grow_between}
-use Rattle.ist_core.proofs.GrowingLemmas.{inner_there}
-use Rattle.ist_core.proofs.RowLemmas.{changed_at-same}
-use Rattle.ist_core.proofs.StatusLemmas.{status_of-open, status_word-status_of}
-use Rattle.ist_rule.specs.declared.view.View.{View}
 use Rattle.ist_core.specs.declared.events.Who.TheVariants.{Caller}
-use Rattle.ist_rule.specs.Rule.{IsSound}
-use Rattle.ist_rule.specs.Learning.{now, Looked, Logged, Exchanged}
-use Rattle.ist_rule.specs.Conditions.{CanMake, IsKnown, CanExchange}
-use Rattle.ist_rule.specs.Watching.{number_of}
+use Rattle.ist_core.specs.WordTerms.{inner_status_offset, Finished, status_of, open_word, marked_word, Inner, with_status, start}
+use Rattle.ist_core.specs.TreeTerms.{IsCalled, IsFinishedWith}
+use Rattle.ist_core.specs.LogTerms.{Snapshot, EachEnabled, state_of}
+use Rattle.ist_core.proofs.AllLogLemmas.{grow_between, inner_there}
+use Rattle.ist_core.proofs.AllWordLemmas.{changed_at-same, status_of-open, status_word-status_of}
+use Rattle.ist_rule.specs.RuleTerms.{IsSound, now, Looked, Logged, Exchanged, CanMake, IsKnown, CanExchange, number_of, WentOn}
+use Rattle.ist_rule.specs.declared.view.View.{View}
 use Rattle.ist_rule.proofs.LaterLemmas.{later-goes_on}
 use Rattle.ist_dcss.proofs.FieldLemmas.{looked_row}
 use Rattle.laws_coming.specs.Coming.{IsGone}
-use Rattle.ist_rule.specs.Going.{WentOn}
-use Rattle.laws_coming.proofs.ComingLemmas.{exchange_comes}
+use Rattle.laws_coming.proofs.KnownLemmas.{exchange_comes, in_piece, fast_known, gone_missed, open_gone}
 use Rattle.ist_rule.proofs.WentOnLemmas.{logged_went, looked_went, went_who}
-use Rattle.laws_coming.proofs.KnownLemmas.{in_piece, fast_known, gone_missed, open_gone}
 use Rattle.ist_mark.specs.Marking.{MayMark, the_node, Marks}
 use Rattle.ist_mark.specs.MarkEvents.{marking}
 use Rattle.ist_mark.specs.Passing.{IsClosed, MayPass}
-use Rattle.ist_mark.proofs.KeepingLemmas.{inner_went, closed_went}
-use Rattle.ist_mark.proofs.NodeLemmas.{called_inner}
+use Rattle.ist_mark.proofs.KeepingLemmas.{inner_went, closed_went, called_inner}
 
 -- the log before an event of the caller is lawful
 pub before_enabled : (v : View) (event : Event) (w : View) (l : Logged v event w)
@@ -49,8 +36,7 @@ module _ (v : View) (s : IsSound v) (number node : ℕ) (mine : v.who ≡ Caller
     (at : place ≡ node + inner_status_offset) where
   -- the status is known
   pub status_known : IsKnown v place
-  status_known =
-      subst (IsKnown v) (sym at)
+  status_known = subst (IsKnown v) (sym at)
       (fast_known v _ (in_piece node 0 (Inner row) published (omega arith)))
 
   -- a caller may mark a node that has a cause, whoever was first
@@ -98,8 +84,7 @@ module _ (v : View) (number node place found : ℕ) (w : View) (row : InnerRow)
   where
     -- after a Mark the node is marked
     mark_hit : Logged v (Mark number node) w → found ≡ open_word → MarkTells v w node found
-    mark_hit l is =
-        let b = state_of v.start v.words l.before in
+    mark_hit l is = let b = state_of v.start v.words l.before in
         let on = inner_there (now v).pieces b.pieces
         (grow_between v.start v.words v.log l.before (before_enabled v (Mark number node) w l)
         (later-goes_on l.later)) node row published in
@@ -119,8 +104,7 @@ module _ (v : View) (number node place found : ℕ) (w : View) (row : InnerRow)
 
     -- and if another word was found, it is the status of a node that isn't open
     mark_miss : Looked v place found w → found ≢ open_word → MarkTells v w node found
-    mark_miss l other =
-        let went = looked_went (Marks w node) v place found w l in
+    mark_miss l other = let went = looked_went (Marks w node) v place found w l in
         let on = inner_went (Marks w node) v w went node row published in
         let is : found ≡ on.0.status =
         looked_row v place found w l node (Inner on.0) 0 on.0.status on.1 refl at in
@@ -147,8 +131,7 @@ pub degree_tells : (v : View) (place degree : ℕ) (w : View) → Looked v place
     → MayMark v node → IsClosed (now v) node → place ≡ node + 2 → MayPass w node degree
 degree_tells v place degree w l node m c at =
     let went = looked_went (Marks w node) v place degree w l in
-    let now_closed = closed_went (Marks w node) v w went node c in
-    record {
+    let now_closed = closed_went (Marks w node) v w went node c in record {
       number = m.number;
       mine = went_who (Marks w node) v w went ∙ m.mine;
       row = now_closed.row;
@@ -171,8 +154,7 @@ mark_row v s node m =
 pub may_mark : (v : View) → IsSound v → (node : ℕ) → MayMark v node → (place old new : ℕ)
     → place ≡ node + inner_status_offset → old ≡ open_word → new ≡ marked_word
     → CanExchange v place old new (marking v place)
-may_mark v s node m place old new at old_is new_is =
-    let it = mark_row v s node m in
+may_mark v s node m place old new at old_is new_is = let it = mark_row v s node m in
     let base : place ≡ node = omega arith in
     subst (λ n. CanExchange v place n new (marking v place)) (sym old_is)
     (subst (λ n. CanExchange v place open_word n (marking v place)) (sym new_is)
@@ -184,27 +166,23 @@ may_mark v s node m place old new at old_is new_is =
 pub finished_told : (v : View) → IsSound v → (node : ℕ) → MayMark v node → (place word k : ℕ) (w : View)
     → place ≡ node + inner_status_offset → Looked v place word w → status_of word ≡ Some (Finished k)
     → MarkTells v w node word
-finished_told v s node m place word k w at l is =
-    let it = mark_row v s node m in
+finished_told v s node m place word k w at l is = let it = mark_row v s node m in
     mark_miss v m.number node place word w it.0 it.1 at l (not_open word k is)
 
 -- and this is known after the exchange
 pub mark_told : (v : View) → IsSound v → (node : ℕ) → MayMark v node → (place old found : ℕ)
     → (w : View) → place ≡ node + inner_status_offset → old ≡ open_word
     → Exchanged v (marking v place) place old found w → MarkTells v w node found
-mark_told v s node m place old found w at old_is x =
-    let it = mark_row v s node m in
-    let base : place ≡ node = omega arith in
-    mark_tells v m.number node place found w it.0 it.1 at
+mark_told v s node m place old found w at old_is x = let it = mark_row v s node m in
+    let base : place ≡ node = omega arith in mark_tells v m.number node place found w it.0 it.1 at
     (subst (λ (e : Event). Exchanged v e place open_word found w)
     (marking_is v m.number node place m.mine base)
     (subst (λ n. Exchanged v (marking v place) place n found w) old_is x))
 
 -- a finished node isn't open
 pub finished_closed : (t : Snapshot) (node k : ℕ) → IsFinishedWith t node k → IsClosed t node
-finished_closed t node k f =
-    record {
-      row = f.row;
-      published = f.published;
-      closed = λ e. let is = f.status in omega arith;
-    }
+finished_closed t node k f = record {
+  row = f.row;
+  published = f.published;
+  closed = λ e. let is = f.status in omega arith;
+}

@@ -6,44 +6,24 @@ use Rattle.ist_core.specs.declared.events.Event.{Event}
 use Rattle.ist_core.specs.declared.events.Event.TheVariants.{Pass}
 use Rattle.ist_core.specs.declared.pairs.Pair.{Pair}
 use Rattle.ist_core.specs.declared.states.InnerRow.{InnerRow}
-use Rattle.ist_core.specs.RowLayout.{place_limit, slot_place}
-use Rattle.ist_core.specs.References.{Ref, Empty, Unset, LeafAt, InnerAt, ChangeAt, RebuildAt, ref_of, word_of, unset_word}
-use Rattle.ist_core.specs.Statuses.{marked_word, finished_word}
-use Rattle.ist_core.specs.Pieces.{Inner, Change, as_inner}
-use Rattle.ist_core.specs.Snapshots.{Snapshot}
-use Rattle.ist_core.specs.StartLayout.{start}
-use Rattle.ist_core.specs.Logs.{Log}
-use Rattle.ist_core.specs.Slots.{SlotHolds, in_row, past_change, past_rebuild, logical}
-use Rattle.ist_core.specs.Freezing.{KeepsWord, holds_it, holds_change}
-use Rattle.ist_core.specs.Marking.{IsFrozen}
-use Rattle.ist_core.specs.Lawful.{EachEnabled, CanOpen, state_of}
-use Rattle.ist_core.specs.Writing.{place_of_slot}
-use Rattle.ist_core.proofs.FrozenLemmas.{closed}
-use Rattle.ist_core.proofs.NamingLemmas.{slot_names, SlotNames}
-use Rattle.ist_core.proofs.OrderLemmas.{names}
-use Rattle.ist_core.proofs.PlaceLemmas.{anchor_free}
-use Rattle.ist_core.proofs.ReferenceLemmas.{ref_of-unset, word_of-ref_of}
-use Rattle.ist_core.proofs.RoomLemmas.{published_good, ref_of-change}
-use Rattle.ist_core.proofs.ShapedLemmas.{shaped}
-use Rattle.ist_core.proofs.SlotLemmas.{slot_once}
+use Rattle.ist_core.specs.WordTerms.{place_limit, slot_place, Ref, Empty, Unset, LeafAt, InnerAt, ChangeAt, RebuildAt, ref_of, word_of, unset_word, marked_word, finished_word, Inner, Change, as_inner, start, SlotHolds, in_row, past_change, past_rebuild, logical}
+use Rattle.ist_core.specs.LogTerms.{Snapshot, Log, EachEnabled, CanOpen, state_of, IsShown}
+use Rattle.ist_core.specs.TreeTerms.{KeepsWord, holds_it, holds_change, IsFrozen, place_of_slot}
+use Rattle.ist_core.proofs.AllLogLemmas.{closed, published_good, ref_of-change}
+use Rattle.ist_core.proofs.AllPlaceLemmas.{slot_names, SlotNames, names, anchor_free, shaped, slot_once, both_true}
+use Rattle.ist_core.proofs.AllWordLemmas.{ref_of-unset, word_of-ref_of}
 use Rattle.laws_links.proofs.FinishedLemmas.{finished_slot}
+use Rattle.ist_rule.specs.RuleTerms.{IsSound, now, Looked, LoggedLoad, LoadedAs, as_event, as_load, number_of, is_marked, is_change_ref, pass_of, CanLoadPass, WentOn}
 use Rattle.ist_rule.specs.declared.view.View.{View}
-use Rattle.ist_core.specs.Shown.{IsShown}
-use Rattle.ist_core.proofs.IntervalLemmas.{both_true}
-use Rattle.ist_rule.specs.Rule.{IsSound}
-use Rattle.ist_rule.specs.Learning.{now, Looked, LoggedLoad, LoadedAs, as_event, as_load}
-use Rattle.ist_rule.specs.Watching.{number_of, is_marked, is_change_ref, pass_of, CanLoadPass}
 use Rattle.ist_rule.proofs.WatchLemmas.{if_some, no_change, place_inner}
 use Rattle.ist_dcss.proofs.FieldLemmas.{row_low}
 use Rattle.ist_dcss.proofs.SlotPlaceLemmas.{slot_shown, no_anchor}
-use Rattle.ist_rule.specs.Going.{WentOn}
 use Rattle.ist_rule.proofs.WentOnLemmas.{logged_load_went, looked_went, went_now}
 use Rattle.ist_mark.specs.Marking.{the_node, Marks}
 use Rattle.ist_dcss.specs.Reading.{IsNoChange}
 use Rattle.ist_dcss.proofs.DecideLemmas.{not_named}
 use Rattle.ist_mark.specs.Passing.{MayPass, IsMetAt}
-use Rattle.ist_mark.proofs.KeepingLemmas.{may_pass_went}
-use Rattle.ist_mark.proofs.NodeLemmas.{closed_status}
+use Rattle.ist_mark.proofs.KeepingLemmas.{may_pass_went, closed_status}
 use Rattle.laws_links.proofs.ClosedLemmas.{closed_was_linked}
 use Rattle.laws_links.proofs.LinkLemmas.{linked_or_finished}
 use Rattle.laws_links.proofs.ResolvedLemmas.{resolved_gone}
@@ -68,8 +48,7 @@ module _ (pairs : List Pair) (words : ℕ) (opens : CanOpen pairs words) (log : 
       at p.word p.passed keeps
     where
       at : (v : ℕ) → IsFrozen log node i v → KeepsWord t log node i v → IsFrozen log node i word
-      at v p (holds_it k) =
-          subst (IsFrozen log node i)
+      at v p (holds_it k) = subst (IsFrozen log node i)
           (slot_once t node i v word (anchor_free pairs words log h) k slot) p
       at v p (holds_change x) =
           let same = slot_once t node i word (word_of (ChangeAt x.base))
@@ -82,13 +61,11 @@ module _ (pairs : List Pair) (words : ℕ) (opens : CanOpen pairs words) (log : 
   set_if_marked : row.status ≡ marked_word → word ≢ unset_word
   set_if_marked marked unset =
       let was = closed_was_linked pairs words opens log h node row published
-      (λ e. let one : row.status ≡ 1 = marked in omega arith) in
-      ⊎_elim
+      (λ e. let one : row.status ≡ 1 = marked in omega arith) in ⊎_elim
       (λ linked. linked_set pairs words opens log h node i word linked slot
       (ap (logical t.pieces) unset ∙ ap (λ o. past_rebuild t.pieces (past_change t.pieces o))
       ref_of-unset))
-      (λ f.
-      let same : f.1.row ≡ row = cc (f.1.published) in
+      (λ f. let same : f.1.row ≡ row = cc (f.1.published) in
       let odd : f.1.row.status ≡ 4 * f.0 + 3 = f.1.status in
       let one : f.1.row.status ≡ 1 = ap (λ r. r.status) same ∙ marked in
       omega arith)
@@ -126,8 +103,7 @@ module _ (v : View) (node degree i place word : ℕ) (m : MayPass v node degree)
   -- a load that is a Pass froze the slot
   passed_now : (event : Event) (l : LoggedLoad v event place word w)
       → pass_of v node i l.before word ≡ Some event → LookTells v w node i word
-  passed_now event l named =
-      let u = state_of v.start v.words l.before in
+  passed_now event l named = let u = state_of v.start v.words l.before in
       let test = is_marked (as_inner (u.pieces node))
       && (not (is_change_ref (ref_of word)) && not (word == unset_word)) in
       let pass : Event = Pass (number_of v.who) node i word in
@@ -147,37 +123,34 @@ module _ (v : View) (node degree i place word : ℕ) (m : MayPass v node degree)
   -- a load that isn't a Pass met a change, or came after another Pass
   passed_before : Looked v place word w → pass_of v node i w.log word ≡ None
       → LookTells v w node i word
-  passed_before l none =
-      record {
-        went = went;
-        change = λ c e.
-            let named : SlotNames (now w).pieces node i (Some (ChangeAt c)) =
-            subst (SlotNames (now w).pieces node i) e
-            (slot_names (now w) node i word
-            (names w.start w.words l.sound.lawful.opens w.log enabled) holds) in
-            record {
-              may_help = record {
-                number = here.number;
-                mine = here.mine;
-                row = named.row;
-                installed = named.published;
-              };
-              node_is = named.node_is;
-              unresolved = λ before.
-                  resolved_gone w.start w.words l.sound.lawful.opens w.log enabled c before node i
-                  (subst (SlotHolds (now w) node i)
-                  (sym (word_of-ref_of word (ChangeAt c) e).same_word) holds);
-            };
-        frozen = λ plain.
-            ⊎_elim
-            (λ marked.
-            absurd (set_if_marked w.start w.words l.sound.lawful.opens w.log enabled node i word
-            here.row here.published holds marked (unset marked plain)))
-            (λ f.
-            frozen_if_finished w.start w.words l.sound.lawful.opens w.log enabled node i word
-            here.row here.published holds f.0 f.1 plain)
-            (closed_status w.start w.words w.log enabled node here.row here.published here.closed);
-      }
+  passed_before l none = record {
+    went = went;
+    change = λ c e.
+        let named : SlotNames (now w).pieces node i (Some (ChangeAt c)) =
+        subst (SlotNames (now w).pieces node i) e
+        (slot_names (now w) node i word
+        (names w.start w.words l.sound.lawful.opens w.log enabled) holds) in
+        record {
+          may_help = record {
+            number = here.number;
+            mine = here.mine;
+            row = named.row;
+            installed = named.published;
+          };
+          node_is = named.node_is;
+          unresolved = λ before.
+              resolved_gone w.start w.words l.sound.lawful.opens w.log enabled c before node i
+              (subst (SlotHolds (now w) node i)
+              (sym (word_of-ref_of word (ChangeAt c) e).same_word) holds);
+        };
+    frozen = λ plain. ⊎_elim
+        (λ marked.
+        absurd (set_if_marked w.start w.words l.sound.lawful.opens w.log enabled node i word
+        here.row here.published holds marked (unset marked plain)))
+        (λ f. frozen_if_finished w.start w.words l.sound.lawful.opens w.log enabled node i word
+        here.row here.published holds f.0 f.1 plain)
+        (closed_status w.start w.words w.log enabled node here.row here.published here.closed);
+  }
     where
       went : WentOn (Marks w node) v w
       went = looked_went (Marks w node) v place word w l
@@ -199,27 +172,23 @@ module _ (v : View) (node degree i place word : ℕ) (m : MayPass v node degree)
           )
 
       place_is : place_of_slot (now w) node i ≡ place
-      place_is =
-          place_inner (now w) node i here.row here.published
+      place_is = place_inner (now w) node i here.row here.published
           (no_anchor w.start w.words w.log enabled node here.row here.published)
           ∙ ap (λ d. slot_place node d i) here.degree_is ∙ sym at
 
       holds : SlotHolds (now w) node i word
-      holds =
-          subst (SlotHolds (now w) node i)
+      holds = subst (SlotHolds (now w) node i)
           (sym (l.stood in_slot.0 (subst (λ p. IsShown (now w) p in_slot.0) place_is
           (slot_shown w.start w.words w.log enabled node i in_slot.0 in_slot.1)))) in_slot.1
 
       unset : here.row.status ≡ marked_word → IsNoChange word → word ≡ unset_word
-      unset marked plain =
-          let u = state_of v.start v.words w.log in
+      unset marked plain = let u = state_of v.start v.words w.log in
           let piece : u.pieces node ≡ Some (Inner here.row) =
           ap (λ x. x.pieces node) (sym (went_now (Marks w node) v w went)) ∙ here.published in
           let test : is_marked (as_inner (u.pieces node)) ≡ true =
           ap (λ o. is_marked (as_inner o)) piece ∙ ap (λ n. n == marked_word) marked in
           let c = unset_by_test (is_marked (as_inner (u.pieces node))) (is_change_ref (ref_of word))
-          (word == unset_word)
-          (not_named _ (Pass (number_of v.who) node i word) none) test
+          (word == unset_word) (not_named _ (Pass (number_of v.who) node i word) none) test
           (plain_test (ref_of word) plain) in
           eqb-true word unset_word c
 
@@ -231,27 +200,22 @@ module _ (v : View) (node degree i place word : ℕ) (m : MayPass v node degree)
 -- a caller that may pass a slot may load it so
 pub can_look : (v : View) (node degree i place : ℕ) → MayPass v node degree → i < degree
     → place ≡ slot_place node degree i → CanLoadPass v node i place
-can_look v node degree i place m less at =
-    let same = m.degree_is in
-    record {
-      number = m.number;
-      mine = m.mine;
-      row = m.row;
-      published = m.published;
-      within = omega arith;
-      at = at ∙ ap (λ d. slot_place node d i) (sym m.degree_is);
-    }
+can_look v node degree i place m less at = let same = m.degree_is in record {
+  number = m.number;
+  mine = m.mine;
+  row = m.row;
+  published = m.published;
+  within = omega arith;
+  at = at ∙ ap (λ d. slot_place node d i) (sym m.degree_is);
+}
 
 -- a node has fewer slots than a table has places
 pub degree_low : (v : View) → IsSound v → (node degree : ℕ) → MayPass v node degree
     → degree < place_limit
 degree_low v s node degree m =
     let d = shaped v.start v.words v.log s.lawful.enabled node (Inner m.row) m.published in
-    let slots = d.slots in
-    let both = length-append m.row.keys m.row.slots in
+    let slots = d.slots in let both = length-append m.row.keys m.row.slots in
     let same = m.degree_is in
     let low = row_low v s node (Inner m.row) m.published (3 + length m.row.keys + length m.row.slots)
     (omega arith) in
-    let place = low.0 in
-    let all = low.1 in
-    omega arith
+    let place = low.0 in let all = low.1 in omega arith

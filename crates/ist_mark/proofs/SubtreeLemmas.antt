@@ -2,20 +2,16 @@
 use Rattle.std.proofs.Common.{◌≡◌, ℕ, sym, ap, ◌∙◌, subst}
 use Rattle.ist_core.specs.declared.events.Event.{Event}
 use Rattle.ist_core.specs.declared.events.Event.TheVariants.{Reserve, Install, Okay, Decide, Resolve, Mark, Pass, Finish, Root, Place, Lose}
-use Rattle.ist_core.specs.Logs.{Log, Passes}
-use Rattle.ist_core.specs.Snapshots.{Snapshot}
+use Rattle.ist_core.specs.LogTerms.{Log, Passes, Snapshot}
 use Rattle.laws_links.proofs.FinishedLemmas.{target_grows}
+use Rattle.ist_rule.specs.RuleTerms.{TokenFace, IsSound, now, GoesOnTo, WentOn, KeepsSearch}
 use Rattle.ist_rule.specs.declared.view.TableName.{TableName}
 use Rattle.ist_rule.specs.declared.view.View.{View}
-use Rattle.ist_rule.specs.Faces.{TokenFace}
-use Rattle.ist_rule.specs.Rule.{IsSound}
-use Rattle.ist_rule.specs.Learning.{now, GoesOnTo}
-use Rattle.ist_rule.specs.Going.{WentOn, KeepsSearch}
 use Rattle.ist_rule.proofs.WentOnLemmas.{went_grow, went_all, went_more, went_same, goes_on_went}
-use Rattle.ist_rule.proofs.KeptSearchLemmas.{keeps_more, keeps_same, goes_on_keeps}
-use Rattle.ist_rows.specs.CallerLaws.{KeepsRows}
+use Rattle.ist_rule.proofs.ExchangeLemmas.{keeps_more, keeps_same, goes_on_keeps}
+use Rattle.ist_rows.specs.RowTerms.{KeepsRows}
 use Rattle.ist_dcss.specs.Helping.{Serves}
-use Rattle.ist_dcss.proofs.HelperLemmas.{went_row}
+use Rattle.ist_dcss.proofs.ResolvedLemmas.{went_row}
 use Rattle.ist_mark.specs.Marking.{MayMark, LeadsTo, to_row, to_target, LiesUnder, the_node, one_lower, IsOnSubtree, Marks}
 use Rattle.ist_mark.specs.Passing.{IsMetAt, MayPass, HasMarked}
 use Rattle.ist_mark.proofs.KeepingLemmas.{happened_went, may_mark_went, may_pass_went}
@@ -47,23 +43,20 @@ under_lower t log node child _ top (one_lower {above = above} i word under p lea
 -- a change on a slot of it stays such a change
 on_later : {P : Event → Type 0} (v w : View) → WentOn P v w → (node base : ℕ)
     → IsOnSubtree v node base → IsOnSubtree w node base
-on_later {P = P} v w g node base s =
-    let on = went_row P base v w g s.change s.published in
-    record {
-      change = on.0;
-      published = on.1;
-      under = subst (LiesUnder (now w) w.log node) (sym (ap (λ r. r.node) on.2.others))
-          (under_later v w g node s.change.node s.under);
-    }
+on_later {P = P} v w g node base s = let on = went_row P base v w g s.change s.published in record {
+  change = on.0;
+  published = on.1;
+  under = subst (LiesUnder (now w) w.log node) (sym (ap (λ r. r.node) on.2.others))
+      (under_later v w g node s.change.node s.under);
+}
 
 on_lower : (v : View) (node child base : ℕ) → LiesUnder (now v) v.log node child
     → IsOnSubtree v child base → IsOnSubtree v node base
-on_lower v node child base top s =
-    record {
-      change = s.change;
-      published = s.published;
-      under = under_lower (now v) v.log node child s.change.node top s.under;
-    }
+on_lower v node child base top s = record {
+  change = s.change;
+  published = s.published;
+  under = under_lower (now v) v.log node child s.change.node top s.under;
+}
 
 -- ---- steps of marking
 
@@ -84,8 +77,7 @@ marks_lower : (v : View) (node child : ℕ) → LiesUnder (now v) v.log node chi
 marks_lower v node child top (Okay caller base) is = on_lower v node child base top is
 marks_lower v node child top (Decide caller base said) is = on_lower v node child base top is
 marks_lower v node child top (Resolve caller base) is = on_lower v node child base top is
-marks_lower v node child top (Mark caller row) is =
-    under_lower (now v) v.log node child row top is
+marks_lower v node child top (Mark caller row) is = under_lower (now v) v.log node child row top is
 marks_lower v node child top (Pass caller row i word) is =
     under_lower (now v) v.log node child row top is
 marks_lower v node child top (Finish caller row keys) is =
@@ -114,15 +106,13 @@ marks_keep v node _ is = tt
 -- marking on
 pub marked_more : (node : ℕ) (u v w : View) → WentOn (Marks v node) u v → WentOn (Marks w node) v w
     → WentOn (Marks w node) u w
-marked_more node u v w a b =
-    went_more (Marks w node) u v w
+marked_more node u v w a b = went_more (Marks w node) u v w
     (went_all (Marks v node) (Marks w node) (marks_later v w b node) u v a) b
 
 -- marking on below the node
 pub marked_lower : (node child : ℕ) (u v w : View) → WentOn (Marks v node) u v
     → LiesUnder (now v) v.log node child → WentOn (Marks w child) v w → WentOn (Marks w node) u w
-marked_lower node child u v w a under b =
-    marked_more node u v w a
+marked_lower node child u v w a under b = marked_more node u v w a
     (went_all (Marks w child) (Marks w node)
     (marks_lower w node child (under_later v w b node child under)) v w b)
 
@@ -145,45 +135,40 @@ marked_help node base u v w a m h =
 -- marking on twice
 pub mark_more : (node : ℕ) (a b c : TokenFace) → HasMarked node a b → HasMarked node b c
     → HasMarked node a c
-mark_more node a b c first second =
-    record {
-      went = marked_more node a.view b.view c.view first.went second.went;
-      search = keeps_more a.view b.view c.view first.search second.search;
-    }
+mark_more node a b c first second = record {
+  went = marked_more node a.view b.view c.view first.went second.went;
+  search = keeps_more a.view b.view c.view first.search second.search;
+}
 
 -- marking on below the node
 pub mark_lower : (node child : ℕ) (a b c : TokenFace) → HasMarked node a b
     → LiesUnder (now b.view) b.view.log node child → HasMarked child b c → HasMarked node a c
-mark_lower node child a b c first under second =
-    record {
-      went = marked_lower node child a.view b.view c.view first.went under second.went;
-      search = keeps_more a.view b.view c.view first.search second.search;
-    }
+mark_lower node child a b c first under second = record {
+  went = marked_lower node child a.view b.view c.view first.went under second.went;
+  search = keeps_more a.view b.view c.view first.search second.search;
+}
 
 -- a caller that did nothing has only marked
 pub mark_same : (node : ℕ) (a : TokenFace) → IsSound a.view → HasMarked node a a
-mark_same node a s =
-    record {
-      went = went_same (Marks a.view node) a.view s;
-      search = keeps_same a.view;
-    }
+mark_same node a s = record {
+  went = went_same (Marks a.view node) a.view s;
+  search = keeps_same a.view;
+}
 
 -- and so has one that made loads
 pub mark_loads : (node : ℕ) (a b : TokenFace) → GoesOnTo a.view b.view → HasMarked node a b
-mark_loads node a b g =
-    record {
-      went = goes_on_went (Marks b.view node) a.view b.view g;
-      search = goes_on_keeps a.view b.view g;
-    }
+mark_loads node a b g = record {
+  went = goes_on_went (Marks b.view node) a.view b.view g;
+  search = goes_on_keeps a.view b.view g;
+}
 
 -- and one that helped a change which it met in a slot of the node
 pub mark_help : (node base : ℕ) (a b c : TokenFace) → HasMarked node a b → IsMetAt b.view node base
     → WentOn (Serves base) b.view c.view → KeepsSearch b.view c.view → HasMarked node a c
-mark_help node base a b c first met went search =
-    record {
-      went = marked_help node base a.view b.view c.view first.went met went;
-      search = keeps_more a.view b.view c.view first.search search;
-    }
+mark_help node base a b c first met went search = record {
+  went = marked_help node base a.view b.view c.view first.went met went;
+  search = keeps_more a.view b.view c.view first.search search;
+}
 
 -- the token of a caller that only marked is of its table still
 pub table_on : (node : ℕ) (a b : TokenFace) (t : TableName) → HasMarked node a b → a.view.table ≡ t

@@ -6,8 +6,8 @@ use Rattle.std.proofs.lemmas.Bool.Decides.{nat_tests}
 use Rattle.std.proofs.lemmas.List.{take_all}
 use Rattle.std.proofs.lemmas.List.Sums.{count_by-le-length, count_by_more_yes, count_by_more_no}
 use Rattle.std.specs.List.Sorted.{IsStrictlyIncreasing}
-use Rattle.ist_core.specs.Arithmetic.{child_count}
-use Rattle.ist_core.proofs.RisingLemmas.{child_count_tells}
+use Rattle.ist_core.specs.WordTerms.{child_count}
+use Rattle.ist_core.proofs.AllPlaceLemmas.{child_count_tells}
 use Rattle.ist_math.specs.declared.gallops.Gallop.{Gallop}
 use Rattle.ist_math.specs.Gallops.{Gallops}
 use Rattle.ist_math.proofs.GallopLemmas.{looks-near}
@@ -16,22 +16,18 @@ use Rattle.ist_math.proofs.GallopLemmas.{looks-near}
 rises_over : (keys : List ℕ) (k m : ℕ) → IsStrictlyIncreasing keys → k + m < length keys
     → get_or keys k 0 ≤ get_or keys (k + m) 0
 rises_over keys k zero rises h =
-    let e = ap (λ i. get_or keys i 0) (let z : k + 0 ≡ k = omega arith in z) in
-    omega arith
+    let e = ap (λ i. get_or keys i 0) (let z : k + 0 ≡ k = omega arith in z) in omega arith
 rises_over keys k (suc m) rises h =
     let step : get_or keys (k + m) 0 < get_or keys (k + m + 1) 0 = rises (k + m) (omega arith) in
     let e = ap (λ i. get_or keys i 0) (let z : k + suc m ≡ k + m + 1 = omega arith in z) in
-    let rest = rises_over keys k m rises (omega arith) in
-    omega arith
+    let rest = rises_over keys k m rises (omega arith) in omega arith
 
 -- a later key is at least as large
 pub keys_rise : (keys : List ℕ) (i k : ℕ) → IsStrictlyIncreasing keys → i ≤ k → k < length keys
     → get_or keys i 0 ≤ get_or keys k 0
-keys_rise keys i k rises h l =
-    let e : i + (k - i) ≡ k = omega arith in
+keys_rise keys i k rises h l = let e : i + (k - i) ≡ k = omega arith in
     let same = ap (λ j. get_or keys j 0) e in
-    let over = rises_over keys i (k - i) rises (omega arith) in
-    omega arith
+    let over = rises_over keys i (k - i) rises (omega arith) in omega arith
 
 -- of two keys or more the last is above the first
 pub first-lt-last : (keys : List ℕ) → IsStrictlyIncreasing keys → 2 ≤ length keys
@@ -51,27 +47,22 @@ child_count_is keys x at rises within above below =
   where
     up_to : (j : ℕ) → j ≤ length keys → child_count (take j keys) x ≡ min j at
     up_to zero h = omega arith
-    up_to (suc j) h =
-        ap (λ k. child_count (take k keys) x) (sym (add-one j))
+    up_to (suc j) h = ap (λ k. child_count (take k keys) x) (sym (add-one j))
         ∙ (let so_far = up_to j (omega arith) in
         ⊎_elim (before so_far) (following so_far) (cases_lt j at))
       where
         before : child_count (take j keys) x ≡ min j at → j < at
             → child_count (take (j + 1) keys) x ≡ min (suc j) at
-        before so_far y =
-            let rest = keys_rise keys j (at - 1) rises (omega arith) (omega arith) in
-            let last = below (omega arith) in
-            let low : get_or keys j 0 ≤ x = omega arith in
+        before so_far y = let rest = keys_rise keys j (at - 1) rises (omega arith) (omega arith) in
+            let last = below (omega arith) in let low : get_or keys j 0 ≤ x = omega arith in
             let test : nat_le (get_or keys j 0) x ≡ true = grind (arith, nat_tests) in
             let yes = count_by_more_yes (λ key. nat_le key x) keys j 0 (omega arith) test in
             omega arith
 
         following : child_count (take j keys) x ≡ min j at → at ≤ j
             → child_count (take (j + 1) keys) x ≡ min (suc j) at
-        following so_far y =
-            let rest = keys_rise keys at j rises y (omega arith) in
-            let first = above (omega arith) in
-            let high : x < get_or keys j 0 = omega arith in
+        following so_far y = let rest = keys_rise keys at j rises y (omega arith) in
+            let first = above (omega arith) in let high : x < get_or keys j 0 = omega arith in
             let test : nat_le (get_or keys j 0) x ≡ false = grind (arith, nat_tests) in
             let no = count_by_more_no (λ key. nat_le key x) keys j 0 (omega arith) test in
             omega arith
@@ -85,28 +76,23 @@ module _ (keys : List ℕ) (rises : IsStrictlyIncreasing keys) (x i : ℕ) (is :
   where
     -- otherwise a number from x on would have a child before it
     none_above : 0 < i → x < get_or keys (i - 1) 0 → ⊥
-    none_above some less =
-        let most = child_most keys x in
-        let y = get_or keys (i - 1) 0 - 1 in
+    none_above some less = let most = child_most keys x in let y = get_or keys (i - 1) 0 - 1 in
         let before : child_count keys y ≡ i - 1 = child_count_is keys y (i - 1) rises
         (omega arith) (λ l. omega arith)
         (λ more. let r = rises (i - 1 - 1) (omega arith) in let n : i - 1 - 1 + 1 ≡ i - 1 =
         omega arith in
         let r : get_or keys (i - 1 - 1) 0 < get_or keys (i - 1) 0 =
         subst (λ m. get_or keys (i - 1 - 1) 0 < get_or keys m 0) n r in omega arith) in
-        let tells = child_count_tells keys y x (omega arith) in
-        omega arith
+        let tells = child_count_tells keys y x (omega arith) in omega arith
 
     -- the key before the child, if there is one, is at most x
     pub key_before_child : 0 < i → get_or keys (i - 1) 0 ≤ x
-    key_before_child some =
-        ⊎_elim (λ less. absurd (none_above some less)) (λ low. low)
+    key_before_child some = ⊎_elim (λ less. absurd (none_above some less)) (λ low. low)
         (cases_lt x (get_or keys (i - 1) 0))
 
     -- the key after the child, if there is one, is above x
     pub key_after_child : i < length keys → x < get_or keys i 0
-    key_after_child more =
-        let k = get_or keys i 0 in
+    key_after_child more = let k = get_or keys i 0 in
         let following : child_count keys k ≡ i + 1 = child_count_is keys k (i + 1) rises
         (omega arith) (λ l. rises i l)
         (λ some. let n : i + 1 - 1 ≡ i = omega arith in subst (λ m. get_or keys m 0 ≤ k) (sym n)
@@ -126,32 +112,23 @@ pub galloped_on : (keys : List ℕ) (x guess : ℕ) (g next : Gallop) (looks at 
     → next.low ≡ cond (nat_lt x (get_or keys at 0)) g.low at
     → next.high ≡ cond (nat_lt x (get_or keys at 0)) at g.high → Gallops next guess (suc looks)
     → HasGalloped keys x guess next (looks + 1)
-galloped_on keys x guess g next looks at h up down =
-    by (nat_lt x (get_or keys at 0)) refl
+galloped_on keys x guess g next looks at h up down = by (nat_lt x (get_or keys at 0)) refl
   where
     by : (above : Bool) → nat_lt x (get_or keys at 0) ≡ above → next.low ≡ cond above g.low at
         → next.high ≡ cond above at g.high → Gallops next guess (suc looks)
         → HasGalloped keys x guess next (looks + 1)
-    by true test low high gallops =
-        let over : x < get_or keys at 0 = grind (arith, nat_tests) in
-        let within = h.within in
-        let below = h.below in
-        let same = ap (λ n. get_or keys n 0) low in
-        let here = ap (λ n. get_or keys n 0) high in
-        record {
+    by true test low high gallops = let over : x < get_or keys at 0 = grind (arith, nat_tests) in
+        let within = h.within in let below = h.below in let same = ap (λ n. get_or keys n 0) low in
+        let here = ap (λ n. get_or keys n 0) high in record {
           within = omega arith;
           below = omega arith;
           above = omega arith;
           gallops = subst (Gallops next guess) (let e : suc looks ≡ looks + 1 = omega arith in e)
               gallops;
         }
-    by false test low high gallops =
-        let under : get_or keys at 0 ≤ x = grind (arith, nat_tests) in
-        let within = h.within in
-        let above = h.above in
-        let same = ap (λ n. get_or keys n 0) high in
-        let here = ap (λ n. get_or keys n 0) low in
-        record {
+    by false test low high gallops = let under : get_or keys at 0 ≤ x = grind (arith, nat_tests) in
+        let within = h.within in let above = h.above in let same = ap (λ n. get_or keys n 0) high in
+        let here = ap (λ n. get_or keys n 0) low in record {
           within = omega arith;
           below = omega arith;
           above = omega arith;
@@ -163,11 +140,8 @@ galloped_on keys x guess g next looks at h up down =
 pub galloped_to : (keys : List ℕ) (x guess : ℕ) (g : Gallop) (looks : ℕ)
     → IsStrictlyIncreasing keys → HasGalloped keys x guess g looks → g.low + 1 ≡ g.high
     → child_count keys x ≡ g.high
-galloped_to keys x guess g looks rises h e =
-    let within = h.within in
-    let below = h.below in
-    let one : g.high - 1 ≡ g.low = omega arith in
-    let same = ap (λ n. get_or keys n 0) one in
+galloped_to keys x guess g looks rises h e = let within = h.within in let below = h.below in
+    let one : g.high - 1 ≡ g.low = omega arith in let same = ap (λ n. get_or keys n 0) one in
     child_count_is keys x g.high rises (omega arith) (λ _. h.above) (λ _. omega arith)
 
 -- of keys that are all above x the first is the child, and of keys that are all at most x the last
@@ -186,8 +160,5 @@ child_is_last keys x rises below =
 -- looks are few enough to be counted
 pub looks_fit : (keys : List ℕ) (x guess : ℕ) (g : Gallop) (looks : ℕ)
     → HasGalloped keys x guess g looks → guess < length keys → looks ≤ 2 * length keys + 3
-looks_fit keys x guess g looks h less =
-    let near = looks-near g guess looks h.gallops in
-    let within = h.within in
-    let some = h.gallops.some in
-    omega arith
+looks_fit keys x guess g looks h less = let near = looks-near g guess looks h.gallops in
+    let within = h.within in let some = h.gallops.some in omega arith

@@ -1,11 +1,11 @@
 -- How a gallop goes on, and how many looks it makes. Serves `gallops` and `laws`.
-use Rattle.std.proofs.Common.{◌≡◌, ℕ, zero, suc, ◌+◌, ◌-◌, ◌*◌, ◌/◌, ◌^◌, ◌<◌, ◌≤◌, Bool, true, false, cond, not, ◌&&◌, nat_lt, ⊎_elim, refl, sym, subst, arith}
+use Rattle.std.proofs.Common.{◌≡◌, ℕ, zero, suc, ◌+◌, ◌-◌, ◌*◌, ◌/◌, ◌^◌, ◌<◌, ◌≤◌, Bool, true, false, cond, not, ◌&&◌, nat_lt, ⊎_elim, refl, sym, subst, arith, nat_le, mul-le-mul_right}
 use Rattle.std.proofs.lemmas.Bool.{cases_lt}
 use Rattle.std.proofs.lemmas.Bool.Decides.{nat_tests}
-use Rattle.std.proofs.lemmas.Nat.{pow_pos, pow_below}
-use Rattle.std.proofs.Math.Nat.{pow-suc}
+use Rattle.std.proofs.lemmas.Nat.{pow_pos, pow_below, div_below}
+use Rattle.std.proofs.Math.Nat.{pow-suc, div-le_of_le-mul, mul_comm, mul-lt-mul_of_pos_right}
 use Rattle.ist_math.specs.declared.gallops.Gallop.{Gallop}
-use Rattle.ist_math.specs.Guess.{distance}
+use Rattle.ist_math.specs.Guess.{distance, guess_of}
 use Rattle.ist_math.specs.Gallops.{width, probe_of, next_step_of, least_distance, IsOnSide, Gallops}
 
 -- ---- what a look shows
@@ -23,45 +23,32 @@ side_stays low high step nearer above next guess false h l s = omega arith
 -- a look at the middle, between two keys of which one takes its place
 halved : (g : Gallop) (guess looks low high : ℕ) → Gallops g guess looks → width g ≤ g.step
     → g.low + 1 < g.high → g.low ≤ low → high ≤ g.high → low < high
-    → high - low ≤ width g - width g / 2
-    → Gallops (gallop low high g.step g.down) guess (suc looks)
-halved g guess looks low high h over between up down some half =
-    let steps = h.steps in
-    let far = h.far in
-    let near = h.near over in
-    at h.halvings near.0 near.1
+    → high - low ≤ width g - width g / 2 → Gallops (gallop low high g.step g.down) guess (suc looks)
+halved g guess looks low high h over between up down some half = let steps = h.steps in
+    let far = h.far in let near = h.near over in at h.halvings near.0 near.1
   where
     at : (t : ℕ) → width g ≤ 2 ^ t → looks + t ≤ 2 * h.doublings + 2
         → Gallops (gallop low high g.step g.down) guess (suc looks)
     at zero wide few = absurd (omega arith)
-    at (suc t) wide few =
-        let double = pow-suc 2 t in
-        let far = h.far in
-        record {
-          doublings = h.doublings;
-          halvings = t;
-          some = some;
-          steps = h.steps;
-          side = side_stays g.low g.high g.step low high g.step guess g.down up down h.side;
-          far = omega arith;
-          away = λ less. absurd (omega arith);
-          near = λ _. (omega arith, omega arith);
-        }
+    at (suc t) wide few = let double = pow-suc 2 t in let far = h.far in record {
+      doublings = h.doublings;
+      halvings = t;
+      some = some;
+      steps = h.steps;
+      side = side_stays g.low g.high g.step low high g.step guess g.down up down h.side;
+      far = omega arith;
+      away = λ less. absurd (omega arith);
+      near = λ _. (omega arith, omega arith);
+    }
 
 -- the side to which a step goes, and the other one
 module _ (low high step guess looks : ℕ) (less : step < high - low) where
   -- a step that goes on is doubled
   goes_down : Gallops (gallop low high step true) guess looks
       → Gallops (gallop low (high - step) (2 * step) true) guess (suc looks)
-  goes_down h =
-      let double = pow-suc 2 h.doublings in
-      let away = h.away less in
-      let is = away.0 in
-      let count = away.1 in
-      let far = h.far in
-      let steps = h.steps in
-      let side : high ≤ guess = h.side in
-      record {
+  goes_down h = let double = pow-suc 2 h.doublings in let away = h.away less in let is = away.0 in
+      let count = away.1 in let far = h.far in let steps = h.steps in
+      let side : high ≤ guess = h.side in record {
         doublings = suc h.doublings;
         halvings = suc h.doublings;
         some = omega arith;
@@ -74,15 +61,9 @@ module _ (low high step guess looks : ℕ) (less : step < high - low) where
 
   goes_up : Gallops (gallop low high step false) guess looks
       → Gallops (gallop (low + step) high (2 * step) false) guess (suc looks)
-  goes_up h =
-      let double = pow-suc 2 h.doublings in
-      let away = h.away less in
-      let is = away.0 in
-      let count = away.1 in
-      let far = h.far in
-      let steps = h.steps in
-      let side : guess ≤ low = h.side in
-      record {
+  goes_up h = let double = pow-suc 2 h.doublings in let away = h.away less in let is = away.0 in
+      let count = away.1 in let far = h.far in let steps = h.steps in
+      let side : guess ≤ low = h.side in record {
         doublings = suc h.doublings;
         halvings = suc h.doublings;
         some = omega arith;
@@ -96,14 +77,8 @@ module _ (low high step guess looks : ℕ) (less : step < high - low) where
   -- a step that passed the key has as much before it as it is long
   passed_down : Gallops (gallop low high step true) guess looks
       → Gallops (gallop (high - step) high step true) guess (suc looks)
-  passed_down h =
-      let away = h.away less in
-      let is = away.0 in
-      let count = away.1 in
-      let far = h.far in
-      let steps = h.steps in
-      let side : high ≤ guess = h.side in
-      record {
+  passed_down h = let away = h.away less in let is = away.0 in let count = away.1 in
+      let far = h.far in let steps = h.steps in let side : high ≤ guess = h.side in record {
         doublings = h.doublings;
         halvings = h.doublings;
         some = omega arith;
@@ -116,14 +91,8 @@ module _ (low high step guess looks : ℕ) (less : step < high - low) where
 
   passed_up : Gallops (gallop low high step false) guess looks
       → Gallops (gallop low (low + step) step false) guess (suc looks)
-  passed_up h =
-      let away = h.away less in
-      let is = away.0 in
-      let count = away.1 in
-      let far = h.far in
-      let steps = h.steps in
-      let side : guess ≤ low = h.side in
-      record {
+  passed_up h = let away = h.away less in let is = away.0 in let count = away.1 in
+      let far = h.far in let steps = h.steps in let side : guess ≤ low = h.side in record {
         doublings = h.doublings;
         halvings = h.doublings;
         some = omega arith;
@@ -157,11 +126,9 @@ module _ (g : Gallop) (guess looks : ℕ) (h : Gallops g guess looks) (between :
           → Gallops (gallop g.low
           (cond t (cond g.down (g.high - g.step) (g.low + g.step)) (g.low + width g / 2))
           (cond (t && g.down) (2 * g.step) g.step) g.down) guess (suc looks)
-      at true e =
-          let less : g.step < width g = grind (arith, nat_tests) in
+      at true e = let less : g.step < width g = grind (arith, nat_tests) in
           step_above g.down g.low g.high g.step guess looks less h
-      at false e =
-          let over : width g ≤ g.step = grind (arith, nat_tests) in
+      at false e = let over : width g ≤ g.step = grind (arith, nat_tests) in
           halved g guess looks g.low (g.low + width g / 2) h over between (omega arith)
           (omega arith) (omega arith) (omega arith)
 
@@ -173,11 +140,9 @@ module _ (g : Gallop) (guess looks : ℕ) (h : Gallops g guess looks) (between :
           → Gallops (gallop
           (cond t (cond g.down (g.high - g.step) (g.low + g.step)) (g.low + width g / 2)) g.high
           (cond (t && not g.down) (2 * g.step) g.step) g.down) guess (suc looks)
-      at true e =
-          let less : g.step < width g = grind (arith, nat_tests) in
+      at true e = let less : g.step < width g = grind (arith, nat_tests) in
           step_below g.down g.low g.high g.step guess looks less h
-      at false e =
-          let over : width g ≤ g.step = grind (arith, nat_tests) in
+      at false e = let over : width g ≤ g.step = grind (arith, nat_tests) in
           halved g guess looks (g.low + width g / 2) g.high h over between (omega arith)
           (omega arith) (omega arith) (omega arith)
 
@@ -201,17 +166,12 @@ module _ (g : Gallop) (guess looks : ℕ) (h : Gallops g guess looks) (between :
 twice-le_pow : (n : ℕ) → 2 * n ≤ 2 ^ n
 twice-le_pow zero = omega arith
 twice-le_pow (suc zero) = omega arith
-twice-le_pow (suc (suc n)) =
-    let so_far = twice-le_pow (suc n) in
-    let double = pow-suc 2 (suc n) in
-    let some = pow_pos n in
-    let first = pow-suc 2 n in
-    omega arith
+twice-le_pow (suc (suc n)) = let so_far = twice-le_pow (suc n) in let double = pow-suc 2 (suc n) in
+    let some = pow_pos n in let first = pow-suc 2 n in omega arith
 
 -- a power that is at most another has no larger exponent
 exponent-le : (i k : ℕ) → 2 ^ i ≤ 2 ^ k → i ≤ k
-exponent-le i k h =
-    ⊎_elim (λ (less : k < i). let over = pow_below k i less in absurd (omega arith))
+exponent-le i k h = ⊎_elim (λ (less : k < i). let over = pow_below k i less in absurd (omega arith))
     (λ (low : i ≤ k). low) (cases_lt k i)
 
 -- twice the doublings, and two more
@@ -225,20 +185,14 @@ looks-doublings g guess looks h =
 -- at most three more than the guess lies off
 pub looks-near : (g : Gallop) (guess looks : ℕ) → Gallops g guess looks
     → looks ≤ least_distance g guess + 3
-looks-near g guess looks h =
-    let most = looks-doublings g guess looks h in
-    let twice = twice-le_pow h.doublings in
-    let far = h.far in
-    omega arith
+looks-near g guess looks h = let most = looks-doublings g guess looks h in
+    let twice = twice-le_pow h.doublings in let far = h.far in omega arith
 
 -- at most two for each bit of it, and two
 looks-far : (g : Gallop) (guess looks : ℕ) → Gallops g guess looks → (k : ℕ)
     → least_distance g guess < 2 ^ k → looks ≤ 2 * k + 2
-looks-far g guess looks h k less =
-    let most = looks-doublings g guess looks h in
-    let far = h.far in
-    let few = exponent-le h.doublings k (omega arith) in
-    omega arith
+looks-far g guess looks h k less = let most = looks-doublings g guess looks h in let far = h.far in
+    let few = exponent-le h.doublings k (omega arith) in omega arith
 
 -- a gallop that has ended made at most three looks more than the distance from its guess to the
 -- child
@@ -250,3 +204,39 @@ end-near g guess looks h e = let near = looks-near g guess looks h in omega arit
 pub end-far : (g : Gallop) (guess looks : ℕ) → Gallops g guess looks → g.low + 1 ≡ g.high → (k : ℕ)
     → distance guess g.high < 2 ^ k → looks ≤ 2 * k + 2
 end-far g guess looks h e k less = looks-far g guess looks h k (omega arith)
+
+-- ---- the value of the guess.
+
+-- a share of k, by a part of a whole, is at most k
+pub share-le : (part whole k : ℕ) → part ≤ whole → part * k / whole ≤ k
+share-le part whole k h = div-le_of_le-mul whole (mul-le-mul_right k h)
+
+-- the guess is at most the number of keys
+pub guess_of-le : (first last m x : ℕ) → 1 ≤ m → guess_of first last m x ≤ m
+guess_of-le first last m x h = at (nat_lt x first) (nat_le last x) refl refl
+  where
+    at : (a b : Bool) → nat_lt x first ≡ a → nat_le last x ≡ b
+        → cond a 0 (cond b m (1 + (x - first) * (m - 1) / (last - first))) ≤ m
+    at true b e f = omega arith
+    at false true e f = omega arith
+    at false false e f = let l : x < last = grind (arith, nat_tests) in
+        let k = share-le (x - first) (last - first) (m - 1) (omega arith) in omega arith
+
+-- a share of k is less than k, if the part is less than the whole
+share-lt : (part whole k : ℕ) → part < whole → 0 < k → part * k / whole < k
+share-lt part whole k h some = let less = mul-lt-mul_of_pos_right h some in
+    let turned = mul_comm whole k in div_below (part * k) whole k (omega arith) (omega arith)
+
+-- between the end keys it is one of them, and not the first
+pub guess_of-between : (first last m x : ℕ) → 2 ≤ m → first ≤ x → x < last
+    → (1 ≤ guess_of first last m x) × (guess_of first last m x < m)
+guess_of-between first last m x some low less = at (nat_lt x first) (nat_le last x) refl refl
+  where
+    at : (a b : Bool) → nat_lt x first ≡ a → nat_le last x ≡ b
+        → let n = cond a 0 (cond b m (1 + (x - first) * (m - 1) / (last - first))) in
+        (1 ≤ n) × (n < m)
+    at true b e f = let under : x < first = grind (arith, nat_tests) in absurd (omega arith)
+    at false true e f = let over : last ≤ x = grind (arith, nat_tests) in absurd (omega arith)
+    at false false e f =
+        let share = share-lt (x - first) (last - first) (m - 1) (omega arith) (omega arith) in
+        (omega arith, omega arith)

@@ -1,5 +1,4 @@
 pub mod SizeLemmas
-pub mod GuessLemmas
 pub mod ChildLemmas
 pub mod QuotientLemmas
 pub mod GallopLemmas

@@ -18,8 +18,7 @@ pub record IsAroundRoot (n bits : ℕ) : Type 0 where
 
 -- half the bits of a number are around its root
 pub around_root : (n : ℕ) → 1 ≤ n → n < 2 ^ 32 → IsAroundRoot n (half_bits n)
-around_root n some fits =
-    let top = leading_top 64 n (omega arith) (omega arith) in
+around_root n some fits = let top = leading_top 64 n (omega arith) (omega arith) in
     subst (IsAroundRoot n) (let e : top.0 / 2 ≡ half_bits n = omega (arith, top.1) in e)
     (at top.0 top.2 top.3)
   where
@@ -37,10 +36,8 @@ around_root n some fits =
         let double : 2 ^ (1 + j / 2) ≡ 2 * 2 ^ (j / 2) = pow-add 2 1 (j / 2) in
         let over = pow-le-pow_right {n = 2} (omega arith) {i = suc j}
         {j = (1 + j / 2) + (1 + j / 2)} more in
-        let wide = pow-add 2 (1 + j / 2) (1 + j / 2) in
-        let whole = ap (λ k. k * k) double in
-        let bits : j / 2 ≤ 15 = omega arith in
-        record {
+        let wide = pow-add 2 (1 + j / 2) (1 + j / 2) in let whole = ap (λ k. k * k) double in
+        let bits : j / 2 ≤ 15 = omega arith in record {
           few = bits;
           small = pow-le-pow_right {n = 2} (omega arith) {i = j / 2} {j = 15} bits;
           low = omega arith;

@@ -1,10 +1,8 @@
 -- Two trees, one with one key more than the other: their parts have the same two sizes.
 use Rattle.std.proofs.Common.{◌≡◌, ◌∙◌, ℕ, ◌+◌, ◌-◌, ◌*◌, ◌/◌, ◌%◌, ◌<◌, ◌≤◌, min, ⊎_elim, sym, ap, subst, arith, mul-le-mul_left}
 use Rattle.std.proofs.lemmas.Bool.{cases_lt}
-use Rattle.ist_core.specs.Arithmetic.{degree}
-use Rattle.ist_core.specs.Shapes.{ideal_words}
-use Rattle.ist_core.proofs.RootLemmas.{least_degree-le, degree_next}
-use Rattle.ist_core.proofs.WordLemmas.{mixed_words, ideal_words_by_two}
+use Rattle.ist_core.specs.WordTerms.{degree, ideal_words}
+use Rattle.ist_core.proofs.AllWordLemmas.{least_degree-le, degree_next, mixed_words, ideal_words_by_two}
 
 -- d parts of s or s + 1 keys have n keys, and e such parts have one key more
 pub record FitsBoth (n d e s : ℕ) : Type 0 where
@@ -18,8 +16,7 @@ quotient_is : (n d q : ℕ) → 0 < d → d * q ≤ n → n < d * (q + 1) → n 
 quotient_is n d q h k l = by (n / d) (n % d) (omega arith) (omega arith)
   where
     by : (p r : ℕ) → d * p + r ≡ n → r < d → p ≡ q
-    by p r e f =
-        ⊎_elim
+    by p r e f = ⊎_elim
         (λ (y : p < q).
         let o = mul-le-mul_left d (let x : p + 1 ≤ q = omega arith in x) in
         absurd (omega arith))
@@ -33,8 +30,7 @@ quotient_is n d q h k l = by (n / d) (n % d) (omega arith) (omega arith)
 
 -- the same degree: the smaller tree has the shorter parts
 fits_same : (n d s : ℕ) → 2 ≤ d → s ≡ min (n / d) ((n + 1) / d) → FitsBoth n d d s
-fits_same n d s h e =
-    by (n / d) ((n + 1) / d) (n % d) ((n + 1) % d) e
+fits_same n d s h e = by (n / d) ((n + 1) / d) (n % d) ((n + 1) % d) e
     (omega arith) (omega arith) (omega arith) (omega arith)
   where
     by : (p q r t : ℕ) → s ≡ min p q → d * p + r ≡ n → r < d → d * q + t ≡ n + 1 → t < d
@@ -45,9 +41,7 @@ fits_same n d s h e =
         let o = mul-le-mul_left d (let u : q + 1 ≤ p = omega arith in u) in
         absurd (omega arith))
         (λ (z : p ≤ q). z) (cases_lt q p) in
-        let is : s ≡ p = omega arith in
-        let product = ap (λ k. d * k) is in
-        record {
+        let is : s ≡ p = omega arith in let product = ap (λ k. d * k) is in record {
           enough = omega arith;
           near = omega arith;
           enough_next = omega arith;
@@ -57,15 +51,12 @@ fits_same n d s h e =
 -- the next degree: the larger tree is a square, and the smaller one has parts of one key more
 fits_next : (n d e s : ℕ) → 2 ≤ d → s ≡ min (n / d) ((n + 1) / e) → e ≡ d + 1
     → n + 1 ≡ (d + 1) * (d + 1) → FitsBoth n d e s
-fits_next n d e s h m k l =
-    let square = ap (λ c. c * (d + 1)) k in
+fits_next n d e s h m k l = let square = ap (λ c. c * (d + 1)) k in
     let above = ap (λ c. c * (d + 1 + 1)) k in
     let first : n / d ≡ d + 2 = quotient_is n d (d + 2) (omega arith) (omega arith) (omega arith) in
     let second : (n + 1) / e ≡ d + 1 =
     quotient_is (n + 1) e (d + 1) (omega arith) (omega arith) (omega arith) in
-    let is : s ≡ d + 1 = omega arith in
-    let p = ap (λ c. d * c) is in
-    let q = ap (λ c. e * c) is in
+    let is : s ≡ d + 1 = omega arith in let p = ap (λ c. d * c) is in let q = ap (λ c. e * c) is in
     record {
       enough = omega arith;
       near = omega arith;
@@ -83,8 +74,7 @@ shortest_fits n d e s h f g m = ⊎_elim same next (degree_next n h)
         m ∙ ap (λ k. min (n / k) ((n + 1) / e)) f ∙ ap (λ k. min (n / degree n) ((n + 1) / k)) g
 
     same : degree (n + 1) ≡ degree n → FitsBoth n (degree n) (degree (n + 1)) s
-    same x =
-        let one = shortest ∙ ap (λ k. min (n / degree n) ((n + 1) / k)) x in
+    same x = let one = shortest ∙ ap (λ k. min (n / degree n) ((n + 1) / k)) x in
         let fits = fits_same n (degree n) s (least_degree-le n) one in
         subst (λ k. FitsBoth n (degree n) k s) (sym x) fits
 

@@ -4,17 +4,12 @@ use Rattle.std.proofs.Common.{◌≡◌, ◌∙◌, ℕ, Bool, true, false, Resu
 use Rattle.std.specs.Result.{IsErr}
 use Rattle.ist_build.specs.Laying.{IsReservation}
 use Rattle.ist_core.specs.declared.ports.Full.{Full}
-use Rattle.ist_core.specs.Slots.{IsOpen}
-use Rattle.ist_core.specs.Snapshots.{Snapshot}
-use Rattle.ist_rule.specs.Faces.{TokenFace}
-use Rattle.ist_rule.specs.Going.{WentOn}
-use Rattle.ist_rule.specs.Learning.{now, GoesOnTo}
-use Rattle.ist_rule.specs.Rule.{IsSound}
+use Rattle.ist_core.specs.WordTerms.{IsOpen}
+use Rattle.ist_core.specs.LogTerms.{Snapshot}
+use Rattle.ist_rule.specs.RuleTerms.{TokenFace, WentOn, now, GoesOnTo, IsSound}
 use Rattle.ist_rule.proofs.WentOnLemmas.{went_all, went_more}
+use Rattle.ist_rows.specs.RowTerms.{IsQuiet, IsCaller, TakesNoWords}
 use Rattle.ist_rows.specs.declared.callers.Caller.{Caller}
-use Rattle.ist_rows.specs.Going.{IsQuiet}
-use Rattle.ist_rows.specs.Rows.{IsCaller}
-use Rattle.ist_rows.specs.Taken.{TakesNoWords}
 use Rattle.ist_dcss.specs.Helping.{Serves, IsDecided, IsOut}
 use Rattle.ist_dcss.specs.Installing.{Filling, IsInstalled, IsOther}
 use Rattle.ist_rebuild.specs.declared.answers.Started.{Started}
@@ -24,41 +19,37 @@ use Rattle.ist_rebuild.specs.Starting.{ReservesNeeded, StartsDoneSince, StartsNo
 use Rattle.ist_rebuild.specs.StartSteps.{HasBegun, HasReserved, IsStartReady, TellsStart, start_filling}
 use Rattle.ist_rebuild.proofs.FewLemmas.{none_installed}
 use Rattle.ist_rebuild.proofs.StartAnswerLemmas.{after_done, after_uninstalled, after_unstarted, has_put, no_closed, no_done, no_start, put_aims, put_begins, yes_done, yes_started}
-use Rattle.ist_rebuild.proofs.StartGoingLemmas.{HasPutIn, aims_reserving, begins_reserving}
-use Rattle.ist_rebuild.proofs.StartOwnLemmas.{starts_none_reserving, starts_reserving}
-use Rattle.ist_rebuild.proofs.StartPutLemmas.{put_caller, put_quiet, put_refused, start_bases}
-use Rattle.ist_rebuild.proofs.StartReservedLemmas.{loads_reserved}
-use Rattle.ist_rebuild.proofs.StartResultLemmas.{other_stood}
+use Rattle.ist_rebuild.proofs.NeedLemmas.{HasPutIn, aims_reserving, begins_reserving}
+use Rattle.ist_rebuild.proofs.StartOwnLemmas.{starts_none_reserving, starts_reserving, other_stood}
+use Rattle.ist_rebuild.proofs.StartReservedLemmas.{put_caller, put_quiet, put_refused, start_bases, loads_reserved}
 
 -- ---- how the caller goes on
 
 -- a caller that made at most reservings has begun
 pub reserved_begun : (target : ℕ) (old new : Caller) → HasReserved old new → HasBegun target old new
-reserved_begun target old new r =
-    record {
-      caller = r.caller;
-      number = r.number;
-      fresh = r.fresh;
-      went = went_all IsReservation Begins begins_reserving old.token.view new.token.view r.went;
-      aims = went_all IsReservation (StartsAt target) (aims_reserving target) old.token.view
-          new.token.view r.went;
-      quiet = r.quiet;
-      refused = r.refused;
-    }
+reserved_begun target old new r = record {
+  caller = r.caller;
+  number = r.number;
+  fresh = r.fresh;
+  went = went_all IsReservation Begins begins_reserving old.token.view new.token.view r.went;
+  aims = went_all IsReservation (StartsAt target) (aims_reserving target) old.token.view
+      new.token.view r.went;
+  quiet = r.quiet;
+  refused = r.refused;
+}
 
 -- beginning twice
 pub begun_more : (target : ℕ) (old mid new : Caller) → HasBegun target old mid
     → HasBegun target mid new → HasBegun target old new
-begun_more target old mid new a b =
-    record {
-      caller = b.caller;
-      number = b.number ∙ a.number;
-      fresh = (b.fresh.0 ∙ a.fresh.0, b.fresh.1 ∙ a.fresh.1);
-      went = went_more Begins old.token.view mid.token.view new.token.view a.went b.went;
-      aims = went_more (StartsAt target) old.token.view mid.token.view new.token.view a.aims b.aims;
-      quiet = b.quiet;
-      refused = λ was. b.refused (a.refused was);
-    }
+begun_more target old mid new a b = record {
+  caller = b.caller;
+  number = b.number ∙ a.number;
+  fresh = (b.fresh.0 ∙ a.fresh.0, b.fresh.1 ∙ a.fresh.1);
+  went = went_more Begins old.token.view mid.token.view new.token.view a.went b.went;
+  aims = went_more (StartsAt target) old.token.view mid.token.view new.token.view a.aims b.aims;
+  quiet = b.quiet;
+  refused = λ was. b.refused (a.refused was);
+}
 
 -- ---- what is told after reservings
 
@@ -80,59 +71,54 @@ module _ (old new : Caller) (c : IsCaller old) (q : IsQuiet old) (r : HasReserve
   -- the slot held another word
   pub other_told : (word : ℕ) → StoodInstead new.token.view parent index target word
       → TellsStart old new parent index target (Ok (Other word))
-  other_told word stood =
-      record {
-        yes = λ rebuild e. absurd (cc e);
-        other = λ other e. subst (StoodInstead new.token.view parent index target)
-            (cc) stood;
-        marked = λ e. absurd (cc e);
-        done = done;
-        unstarted = none;
-        uninstalled = own;
-      }
+  other_told word stood = record {
+    yes = λ rebuild e. absurd (cc e);
+    other = λ other e. subst (StoodInstead new.token.view parent index target) (cc) stood;
+    marked = λ e. absurd (cc e);
+    done = done;
+    unstarted = none;
+    uninstalled = own;
+  }
 
   -- the parent isn't open
   pub closed_told : ¬ (IsOpen (now new.token.view) parent)
       → TellsStart old new parent index target (Ok Marked)
-  closed_told closed =
-      record {
-        yes = λ rebuild e. absurd (cc e);
-        other = λ word e. absurd (cc e);
-        marked = λ e. closed;
-        done = done;
-        unstarted = none;
-        uninstalled = tt;
-      }
+  closed_told closed = record {
+    yes = λ rebuild e. absurd (cc e);
+    other = λ word e. absurd (cc e);
+    marked = λ e. closed;
+    done = done;
+    unstarted = none;
+    uninstalled = tt;
+  }
 
   -- a row was refused
   pub refused_told : (answer : Result Started Full) → IsErr answer
       → TellsStart old new parent index target answer
   refused_told (Ok a) is = absurd (cc is)
-  refused_told (Err full) is =
-      record {
-        yes = λ rebuild e. absurd (cc e);
-        other = λ word e. absurd (cc e);
-        marked = λ e. absurd (cc e);
-        done = done;
-        unstarted = none;
-        uninstalled = own;
-      }
+  refused_told (Err full) is = record {
+    yes = λ rebuild e. absurd (cc e);
+    other = λ word e. absurd (cc e);
+    marked = λ e. absurd (cc e);
+    done = done;
+    unstarted = none;
+    uninstalled = own;
+  }
 
   -- what a start tells that follows them
   pub told_after : (last : Caller) (answer : Result Started Full)
       → TellsStart new last parent index target answer
       → TellsStart old last parent index target answer
-  told_after last answer t =
-      record {
-        yes = t.yes;
-        other = t.other;
-        marked = t.marked;
-        done = after_done old.token.view new.token.view last.token.view g old.number new.number
-            c.mine q.resolved r.number answer t.done;
-        unstarted = after_unstarted old.token.view new.token.view last.token.view g old.number
-            new.number c.mine q.resolved r.number answer t.unstarted;
-        uninstalled = after_uninstalled old new last r.number own answer t.uninstalled;
-      }
+  told_after last answer t = record {
+    yes = t.yes;
+    other = t.other;
+    marked = t.marked;
+    done = after_done old.token.view new.token.view last.token.view g old.number new.number
+        c.mine q.resolved r.number answer t.done;
+    unstarted = after_unstarted old.token.view new.token.view last.token.view g old.number
+        new.number c.mine q.resolved r.number answer t.unstarted;
+    uninstalled = after_uninstalled old new last r.number own answer t.uninstalled;
+  }
 
 -- ---- a start that was put in
 
@@ -142,15 +128,13 @@ module _ (who : Caller) (parent index target rebuild change : ℕ) (f : Filling)
     (token : TokenFace) where
   -- the slot held another word: the caller only made loads
   pub other_begun : GoesOnTo who.token.view token.view → HasBegun target who (record who { token = token })
-  other_begun g =
-      reserved_begun target who (record who { token = token })
+  other_begun g = reserved_begun target who (record who { token = token })
       (loads_reserved who token ready.caller ready.quiet g)
 
   -- and that is told
   pub other_told_of : (word : ℕ) → IsOther who.token.view change f word token.view
       → TellsStart who (record who { token = token }) parent index target (Ok (Other word))
-  other_told_of word o =
-      other_told who (record who { token = token }) ready.caller ready.quiet
+  other_told_of word o = other_told who (record who { token = token }) ready.caller ready.quiet
       (loads_reserved who token ready.caller ready.quiet o.seen) parent index target word
       (other_stood f who.number parent index target rebuild change who.token.view word token.view is
       o)
@@ -160,8 +144,7 @@ module _ (who : Caller) (parent index target rebuild change : ℕ) (f : Filling)
     abbrev bare : Caller
     bare = record who { token = last; change = None; rebuild = None }
 
-    put : (said : Bool) → IsDecided last.view change said
-        → HasPutIn who.token.view change
+    put : (said : Bool) → IsDecided last.view change said → HasPutIn who.token.view change
         (start_filling who.number parent index target rebuild) said last.view
     put said d =
         has_put who.token.view change f (start_filling who.number parent index target rebuild) said

@@ -1,22 +1,17 @@
 -- How few words a caller takes while it starts or helps a rebuild. Serves each function.
 use Rattle.std.proofs.Common.{◌≡◌, ℕ, ◌+◌, ◌≤◌, Option, Some, None, Result, Ok, Err, IfSome, IfErr, refl, sym, ap, ◌∙◌, subst, arith}
 use Rattle.std.specs.List.{sum}
-use Rattle.ist_core.specs.Shapes.{shape}
+use Rattle.ist_core.specs.WordTerms.{shape, change_words}
 use Rattle.ist_core.specs.declared.events.Event.{Event}
 use Rattle.ist_core.specs.declared.events.Event.TheVariants.{Install}
 use Rattle.ist_core.specs.declared.events.Who.TheVariants.{Caller as CallerOf}
 use Rattle.ist_core.specs.declared.ports.Full.{Full}
-use Rattle.ist_core.specs.RowLayout.{change_words}
-use Rattle.ist_core.specs.Logs.{GoesOn}
-use Rattle.ist_rule.specs.Faces.{TokenFace}
-use Rattle.ist_rule.specs.Going.{WentOn}
-use Rattle.ist_rule.specs.Learning.{now, GoesOnTo}
-use Rattle.ist_rule.proofs.GoingOnLemmas.{goes_on_who}
+use Rattle.ist_core.specs.LogTerms.{GoesOn}
+use Rattle.ist_rule.specs.RuleTerms.{TokenFace, WentOn, now, GoesOnTo, IsSound}
+use Rattle.ist_rule.proofs.EventLemmas.{goes_on_who}
+use Rattle.ist_rows.specs.RowTerms.{kind_words, IsCaller, IsFreshRow, IsKindRefused, HasRunOut, HasTakenFew, HasTakenFewIn, TakesNoWords, IsLaterCaller, taken_by, took_few, IsReady}
 use Rattle.ist_rows.specs.declared.callers.Caller.{Caller}
 use Rattle.ist_rows.specs.declared.kinds.Kind.TheVariants.{Change}
-use Rattle.ist_rows.specs.Kinds.{kind_words}
-use Rattle.ist_rows.specs.Rows.{IsCaller, IsFreshRow, IsKindRefused}
-use Rattle.ist_rows.specs.Taken.{HasRunOut, HasTakenFew, HasTakenFewIn, TakesNoWords, IsLaterCaller, taken_by, took_few}
 use Rattle.ist_rows.proofs.FewLemmas.{later_went, few_less, few_low, few_more, few_then, few_wider, out_wider}
 use Rattle.ist_rows.proofs.FewStepLemmas.{few_call, few_kept, few_reserved, few_same, full_out, none_kept, none_loads, none_logged, none_more}
 use Rattle.ist_build.specs.Calls.{IsTold, parts_words, root_words}
@@ -24,13 +19,11 @@ use Rattle.ist_build.proofs.LeftLemmas.{root_most}
 use Rattle.ist_build.proofs.RootReadyLemmas.{told_on}
 use Rattle.ist_dcss.specs.Helping.{Serves as HelpsWith}
 use Rattle.ist_dcss.specs.Installing.{Filling, IsInstalled, rows_of}
-use Rattle.ist_dcss.proofs.HelperLemmas.{serves_keep}
+use Rattle.ist_dcss.proofs.ResolvedLemmas.{serves_keep}
 use Rattle.ist_rule.proofs.WentOnLemmas.{went_grow}
-use Rattle.ist_rows.specs.Going.{IsReady}
-use Rattle.ist_rule.specs.Rule.{IsSound}
 use Rattle.ist_rebuild.specs.Helping.{HasHelped, IsHelpRefused}
 use Rattle.ist_rebuild.proofs.RefusalLemmas.{answer_refused}
-use Rattle.ist_rebuild.proofs.HelpedLemmas.{helped_loads, helped_more, helped_same}
+use Rattle.ist_rebuild.proofs.EventLemmas.{helped_loads, helped_more, helped_same}
 use Rattle.ist_rebuild.specs.Going.{Begins, ServesRebuild}
 use Rattle.ist_rebuild.specs.Needs.{needed, wanting}
 use Rattle.ist_build.specs.Laying.{IsReservation}
@@ -54,16 +47,15 @@ told_went P old new g rebuild k told =
 -- which rows a caller says that it has changes nothing
 none_beside : (old mid new : Caller) → new.token ≡ mid.token → new.number ≡ mid.number
     → TakesNoWords old mid → TakesNoWords old new
-none_beside old mid new token number h =
-    record {
-      later = record {
-        number = number ∙ h.later.number;
-        start = ap (λ (t : TokenFace). t.view.start) token ∙ h.later.start;
-        words = ap (λ (t : TokenFace). t.view.words) token ∙ h.later.words;
-        on = subst (λ (t : TokenFace). GoesOn old.token.view.log t.view.log) (sym token) h.later.on;
-      };
-      none = ap (λ (t : TokenFace). taken_by old.number t.view.log) token ∙ h.none;
-    }
+none_beside old mid new token number h = record {
+  later = record {
+    number = number ∙ h.later.number;
+    start = ap (λ (t : TokenFace). t.view.start) token ∙ h.later.start;
+    words = ap (λ (t : TokenFace). t.view.words) token ∙ h.later.words;
+    on = subst (λ (t : TokenFace). GoesOn old.token.view.log t.view.log) (sym token) h.later.on;
+  };
+  none = ap (λ (t : TokenFace). taken_by old.number t.view.log) token ∙ h.none;
+}
 
 -- help for a change
 pub none_helped : (who : Caller) (token : TokenFace) (change : ℕ)
@@ -74,14 +66,12 @@ none_helped who token change mine went =
 
 -- an Install, and help for its change
 pub none_installed : (who : Caller) (filling : Filling) (change : ℕ) (mid : TokenFace) (new : Caller)
-    → who.token.view.who ≡ CallerOf who.number
-    → IsInstalled who.token.view change filling mid.view
+    → who.token.view.who ≡ CallerOf who.number → IsInstalled who.token.view change filling mid.view
     → WentOn (HelpsWith change) mid.view new.token.view → new.number ≡ who.number
     → TakesNoWords who new
 none_installed who filling change mid new mine i went number =
     let before = record who { token = record who.token { view = i.before } } in
-    let installed = record who { token = mid } in
-    let helped = record who { token = new.token } in
+    let installed = record who { token = mid } in let helped = record who { token = new.token } in
     let mine_before = goes_on_who i.seen ∙ mine in
     let mine_after = ap (λ x. x.who) i.logged.view ∙ mine_before in
     none_beside who helped new refl number
@@ -95,8 +85,7 @@ none_installed who filling change mid new mine i went number =
 
 -- a change's row takes its words, if none is held
 pub few_row : (old new : Caller) (words : ℕ) (answer : Result ℕ Full) → IsCaller old
-    → words ≡ old.token.view.words
-    → IfSome old.change (λ base. (answer ≡ Ok base) × (new ≡ old))
+    → words ≡ old.token.view.words → IfSome old.change (λ base. (answer ≡ Ok base) × (new ≡ old))
     → IsFreshRow Change old new answer → IfErr answer (λ f. IsKindRefused words Change old new f)
     → HasTakenFewIn answer (wanting old.change change_words) 0 old new
 few_row old new words answer c words_is held fresh full = at old.change refl held answer fresh full
@@ -105,8 +94,7 @@ few_row old new words answer c words_is held fresh full = at old.change refl hel
         → (a : Result ℕ Full) → IsFreshRow Change old new a
         → IfErr a (λ f. IsKindRefused words Change old new f)
         → HasTakenFewIn a (wanting o change_words) 0 old new
-    at (Some base) e h (Ok found) f r =
-        subst (HasTakenFew 0 0 old) (sym h.1) (few_same 0 old)
+    at (Some base) e h (Ok found) f r = subst (HasTakenFew 0 0 old) (sym h.1) (few_same 0 old)
     at (Some base) e h (Err x) f r = absurd (cc (r.none))
     at None e h (Ok base) f r = few_reserved old new c base (kind_words Change) (f e).0
     at None e h (Err x) f r = full_out old new c words (kind_words Change) x words_is r.cause
@@ -134,8 +122,7 @@ turn_first who ready s n = (helped_same who ready s, few_same n who)
 pub turn_more : (old mid new : Caller)
     → HasHelped old mid × HasTakenFew (wanting old.change change_words) (wanting mid.change change_words) old mid
     → HasHelped mid new → wanting new.change change_words ≡ 0
-    → HasTakenFew (wanting mid.change change_words) 0 mid new
-    → HasHelped old new
+    → HasTakenFew (wanting mid.change change_words) 0 mid new → HasHelped old new
     × HasTakenFew (wanting old.change change_words) (wanting new.change change_words) old new
 turn_more old mid new h k none f = (
   helped_more old mid new h.0 k,
@@ -156,8 +143,7 @@ pub few_built : {A : Type 0} (r : Result A Full) (old mid new : Caller) (rebuild
     → ((k : ℕ) → IsTold (now old.token.view) rebuild k → HasTakenFew (root_words k) 0 old mid)
     → ((k : ℕ) → IsTold (now mid.token.view) rebuild k → HasTakenFewIn r (parts_words k) 0 mid new)
     → (k : ℕ) → IsTold (now old.token.view) rebuild k → HasTakenFewIn r (sum (shape k)) 0 old new
-few_built r old mid new rebuild h g f e k told =
-    let most = root_most k in
+few_built r old mid new rebuild h g f e k told = let most = root_most k in
     few_helped r old mid new (sum (shape k)) (parts_words k) 0 h g
     (few_low (root_words k + parts_words k) (0 + parts_words k) (sum (shape k)) (parts_words k) old
     mid (omega arith) (omega arith) (few_wider (root_words k) 0 (parts_words k) old mid (f k told)))
@@ -194,8 +180,7 @@ module _ (old mid built : Caller) (rebuild : ℕ) (m : TakesNoWords old mid) (h 
       × ((k : ℕ) → IsTold (now old.token.view) rebuild k
       → HasTakenFewIn r (sum (shape k) + change_words) 0 old new)
       × IfErr r (λ full. IsHelpRefused old.token.view rebuild words full new.token.view)
-  rebuilt r token new was words f seen e g is refused =
-      let plan = record built { token = token } in
+  rebuilt r token new was words f seen e g is refused = let plan = record built { token = token } in
       let all = helped_more old mid built h b in
       let on = helped_loads old built token all seen in (
         helped_more old plan new on e,

@@ -4,39 +4,25 @@ use Rattle.std.proofs.lemmas.Option.{slice_get-get_or, same_Some}
 use Rattle.std.specs.Prelude.{get_or}
 use Rattle.ist_core.specs.declared.events.Event.{Event}
 use Rattle.ist_core.specs.declared.states.RebuildRow.{RebuildRow}
-use Rattle.ist_core.specs.Growing.{RebuildGrows}
-use Rattle.ist_core.specs.Installing.{FitsKind, a_finish}
-use Rattle.ist_core.specs.Links.{WasLinked}
-use Rattle.ist_core.specs.Pieces.{Rebuild, words_of}
-use Rattle.ist_core.specs.Rebuilding.{IsStarted, IsBuilt}
-use Rattle.ist_core.specs.References.{RebuildAt, IsGoodBase}
-use Rattle.ist_core.specs.RowLayout.{rebuild_words}
-use Rattle.ist_core.specs.Slots.{SlotHolds}
-use Rattle.ist_core.specs.StartLayout.{start}
-use Rattle.ist_core.proofs.GrowingLemmas.{rebuild_there}
-use Rattle.ist_core.proofs.NamingLemmas.{IsRebuildFor}
-use Rattle.ist_core.proofs.ReferenceLemmas.{ref_of-word_of}
-use Rattle.ist_core.proofs.RoomLemmas.{published_good}
-use Rattle.ist_core.proofs.OptionLemmas.{same_rebuild}
+use Rattle.ist_core.specs.TreeTerms.{RebuildGrows, FitsKind, a_finish, WasLinked, IsStarted, IsBuilt}
+use Rattle.ist_core.specs.WordTerms.{Rebuild, words_of, RebuildAt, IsGoodBase, rebuild_words, SlotHolds, start}
+use Rattle.ist_core.proofs.AllLogLemmas.{rebuild_there, published_good}
+use Rattle.ist_core.proofs.AllPlaceLemmas.{IsRebuildFor}
+use Rattle.ist_core.proofs.AllWordLemmas.{ref_of-word_of, same_rebuild}
 use Rattle.laws_links.proofs.ChangeLemmas.{node_was_linked}
+use Rattle.ist_rule.specs.RuleTerms.{WentOn, now, GoesOnTo, Looked, IsSound, IsNode}
 use Rattle.ist_rule.specs.declared.view.View.{View}
-use Rattle.ist_rule.specs.Going.{WentOn}
-use Rattle.ist_rule.specs.Learning.{now, GoesOnTo, Looked}
-use Rattle.ist_rule.specs.Rule.{IsSound}
-use Rattle.ist_rule.specs.Watching.{IsNode}
-use Rattle.ist_rule.proofs.GoingOnLemmas.{goes_on_more, looked_goes_on}
+use Rattle.ist_rule.proofs.EventLemmas.{goes_on_more, looked_goes_on}
 use Rattle.ist_rule.proofs.WatchLemmas.{change_node}
 use Rattle.ist_rule.proofs.WentOnLemmas.{goes_on_grow, goes_on_went, later_by-goes_on, went_grow, went_lawful}
 use Rattle.ist_dcss.specs.HelpEvents.{IsSlot}
 use Rattle.ist_dcss.specs.Reading.{IsRebuildRow}
-use Rattle.ist_dcss.proofs.FieldLemmas.{looked_row}
-use Rattle.ist_dcss.proofs.FitsLemmas.{fits_later}
-use Rattle.ist_dcss.proofs.SlotPlaceLemmas.{change_slot}
-use Rattle.ist_dcss.proofs.TargetLemmas.{started_row, started_rebuild, fields_low}
+use Rattle.ist_dcss.proofs.FieldLemmas.{looked_row, started_row, started_rebuild, fields_low}
+use Rattle.ist_dcss.proofs.SlotPlaceLemmas.{fits_later, change_slot}
 use Rattle.ist_build.specs.Calls.{IsBuiltOut}
 use Rattle.ist_rebuild.specs.declared.sites.PlannedFinish.{PlannedFinish}
 use Rattle.ist_rebuild.specs.Finishing.{IsWordOf, IsPlan, finish_row}
-use Rattle.ist_rebuild.proofs.HelpedLemmas.{started_went}
+use Rattle.ist_rebuild.proofs.EventLemmas.{started_went}
 
 -- ---- a published rebuild
 
@@ -49,8 +35,7 @@ rebuild_good v s rebuild h =
 
 -- so is that of a plan's rebuild
 pub plan_good : (v : View) → IsSound v → (plan : PlannedFinish) → IsPlan v plan → IsGoodBase plan.rebuild
-plan_good v s plan p =
-    rebuild_good v s plan.rebuild record { row = p.row; published = p.published }
+plan_good v s plan p = rebuild_good v s plan.rebuild record { row = p.row; published = p.published }
 
 -- ---- words of its row
 
@@ -77,8 +62,7 @@ looked_word v place word w l rebuild offset h less at =
 -- the parent's word of a rebuild fits in 32 bits
 pub parent_small : (v : View) → IsSound v → (rebuild word : ℕ) → IsWordOf (now v) rebuild 1 word
     → word < 2 ^ 32
-parent_small v s rebuild word h =
-    subst (λ n. n < 2 ^ 32) (same_Some h.row.parent word h.is)
+parent_small v s rebuild word h = subst (λ n. n < 2 ^ 32) (same_Some h.row.parent word h.is)
     (fields_low v s rebuild h.row h.published).parent
 
 -- ---- the plan of a finish
@@ -132,8 +116,7 @@ plan_went P v w g plan p =
       parent_is = it.2.parent ∙ p.parent_is;
       index_is = it.2.index ∙ p.index_is;
       started = started_went P v w g plan.rebuild p.started;
-      fits = λ owner.
-          subst (λ x. FitsKind (start x w.words) w.log (finish_row plan owner) [])
+      fits = λ owner. subst (λ x. FitsKind (start x w.words) w.log (finish_row plan owner) [])
           (sym (ap (λ x. x.start) g.same))
           (subst (λ n. FitsKind (start v.start n) w.log (finish_row plan owner) [])
           (sym (ap (λ x. x.words) g.same))
@@ -150,10 +133,8 @@ plan_on v w g plan p = plan_went (λ event. ⊥) v w (goes_on_went (λ event. �
 pub planned : (v w : View) → IsSound v → (plan : PlannedFinish) → IsStarted (now v) plan.rebuild
     → IsBuiltOut (now v) plan.rebuild → HasReadSite v w plan.rebuild plan.parent plan.index plan.root
     → IsPlan w plan
-planned v w s plan started b r =
-    let first = started_rebuild v s plan.rebuild started in
-    let ga = r.to_parent in
-    let gb = goes_on_more v r.a r.b r.to_parent r.to_index in
+planned v w s plan started b r = let first = started_rebuild v s plan.rebuild started in
+    let ga = r.to_parent in let gb = goes_on_more v r.a r.b r.to_parent r.to_index in
     let gw = goes_on_more v r.b w gb r.to_root in
     let at_a = rebuild_on v r.a ga plan.rebuild first.row first.published in
     let at_b = rebuild_on v r.b gb plan.rebuild first.row first.published in
@@ -201,15 +182,13 @@ module _ (v : View) (s : IsSound v) (plan : PlannedFinish) (p : IsPlan v plan) w
 
   -- the parent is a node
   pub parent_node : IsNode (now v) plan.parent
-  parent_node =
-      subst (IsNode (now v)) node_is
+  parent_node = subst (IsNode (now v)) node_is
       (change_node v.start v.words v.log s.lawful.enabled p.started.base p.started.change
       p.started.published)
 
   -- which was linked
   pub parent_linked : WasLinked (start v.start v.words) v.log plan.parent
-  parent_linked =
-      subst (WasLinked (start v.start v.words) v.log) node_is
+  parent_linked = subst (WasLinked (start v.start v.words) v.log) node_is
       (node_was_linked v.start v.words s.lawful.opens v.log s.lawful.enabled p.started.base
       p.started.change p.started.published)
 

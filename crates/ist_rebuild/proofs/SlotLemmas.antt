@@ -1,32 +1,23 @@
 -- What a load of a rebuild's slot says of the rebuild. Serves `slot_word`, `settle` and `conclude`.
 use Rattle.std.proofs.Common.{◌≡◌, ◌≢◌, ℕ, ◌<◌, Some, sym, ap, ◌∙◌, subst, ⊎_elim, arith}
 use Rattle.ist_core.specs.declared.events.Event.{Event}
-use Rattle.ist_core.specs.RowLayout.{anchor, anchor_slot_place}
-use Rattle.ist_core.specs.Pieces.{Inner, size_of, words_of}
-use Rattle.ist_core.specs.Rebuilding.{IsReplaced}
-use Rattle.ist_core.specs.References.{ChangeAt, RebuildAt, ref_of, word_of}
-use Rattle.ist_core.specs.Shown.{IsShown, shown_next, shown_callers, shown_status, shown_slot, shown_row, shown_free}
-use Rattle.ist_core.specs.Slots.{SlotHolds, IsOpen, in_anchor, in_row, past_change}
-use Rattle.ist_core.specs.Writing.{place_of_slot}
-use Rattle.ist_core.proofs.ImageLemmas.{get_below}
-use Rattle.ist_core.proofs.PlaceLemmas.{anchor_free, placed, claimed_within}
-use Rattle.ist_core.proofs.ReferenceLemmas.{word_of-ref_of}
-use Rattle.ist_core.proofs.RoomLemmas.{next_within, words_same}
-use Rattle.ist_core.proofs.SlotLemmas.{slot_once}
-use Rattle.ist_core.proofs.FrozenLemmas.{past_no_change}
+use Rattle.ist_core.specs.WordTerms.{anchor, anchor_slot_place, Inner, size_of, words_of, ChangeAt, RebuildAt, ref_of, word_of, SlotHolds, IsOpen, in_anchor, in_row, past_change}
+use Rattle.ist_core.specs.TreeTerms.{IsReplaced, place_of_slot}
+use Rattle.ist_core.specs.LogTerms.{IsShown, shown_next, shown_callers, shown_status, shown_slot, shown_row, shown_free}
+use Rattle.ist_core.proofs.AllPlaceLemmas.{get_below, anchor_free, placed, claimed_within, slot_once}
+use Rattle.ist_core.proofs.AllWordLemmas.{word_of-ref_of}
+use Rattle.ist_core.proofs.AllLogLemmas.{next_within, words_same, past_no_change}
 use Rattle.laws_links.proofs.RebuiltLemmas.{started_reads, read_unreplaced}
+use Rattle.ist_rule.specs.RuleTerms.{WentOn, now, GoesOnTo, Looked, IsSound}
 use Rattle.ist_rule.specs.declared.view.View.{View}
-use Rattle.ist_rule.specs.Going.{WentOn}
-use Rattle.ist_rule.specs.Learning.{now, GoesOnTo, Looked}
-use Rattle.ist_rule.specs.Rule.{IsSound}
-use Rattle.ist_rule.proofs.GoingOnLemmas.{looked_goes_on}
+use Rattle.ist_rule.proofs.EventLemmas.{looked_goes_on}
 use Rattle.ist_rule.proofs.WentOnLemmas.{went_now, went_lawful, later_by-goes_on}
 use Rattle.ist_rule.proofs.WatchLemmas.{place_inner}
 use Rattle.ist_dcss.specs.HelpEvents.{IsSlot}
 use Rattle.ist_dcss.proofs.FieldLemmas.{row_above}
 use Rattle.ist_dcss.proofs.InstallLemmas.{slot_on}
-use Rattle.ist_dcss.proofs.InstalledLemmas.{place_on}
-use Rattle.ist_dcss.proofs.OpeningLemmas.{closed_node_stays}
+use Rattle.ist_dcss.proofs.CallingLemmas.{place_on}
+use Rattle.ist_dcss.proofs.DecideLemmas.{closed_node_stays}
 use Rattle.ist_dcss.proofs.SlotPlaceLemmas.{slot_shown}
 use Rattle.ist_rebuild.specs.declared.sites.PlannedFinish.{PlannedFinish}
 use Rattle.ist_rebuild.specs.Finishing.{IsPlan}
@@ -47,16 +38,14 @@ shown_low v s _ word (shown_row base p k there got) =
     ((placed v.start v.words v.log s.lawful.enabled).published base p there)).below_next in
     let less = get_below (words_of p) k word got in
     let low = next_within v.start v.words s.lawful.opens v.log s.lawful.enabled in
-    let all = words_same v.start v.words s.lawful.opens v.log in
-    omega arith
+    let all = words_same v.start v.words s.lawful.opens v.log in omega arith
 shown_low v s _ _ (shown_free far inside) =
     let all = words_same v.start v.words s.lawful.opens v.log in omega arith
 
 -- a word in a slot is in the table
 pub slot_low : (v : View) → IsSound v → (node i place : ℕ) → IsSlot v node i
     → place ≡ place_of_slot (now v) node i → place < v.words
-slot_low v s node i place slot at =
-    subst (λ p. p < v.words) (sym at)
+slot_low v s node i place slot at = subst (λ p. p < v.words) (sym at)
     (shown_low v s (place_of_slot (now v) node i) slot.word
     (slot_shown v.start v.words v.log s.lawful.enabled node i slot.word slot.holds))
 
@@ -67,17 +56,14 @@ slot_off v s node i place slot ne at = off slot.word slot.holds
   where
     off : (word : ℕ) → SlotHolds (now v) node i word → place ≢ anchor_slot_place
     off word (in_anchor e f g) same = absurd (ne e)
-    off word (in_row r e got) same =
-        let is = place_inner (now v) node i r e ne in
-        let above = row_above v s node (Inner r) e in
-        absurd (omega arith)
+    off word (in_row r e got) same = let is = place_inner (now v) node i r e ne in
+        let above = row_above v s node (Inner r) e in absurd (omega arith)
 
 -- a load of the slot gives its word
 pub slot_told : (v : View) → IsSound v → (node i place : ℕ) → IsSlot v node i
     → place ≡ place_of_slot (now v) node i → (word : ℕ) (w : View) → Looked v place word w
     → SlotHolds (now w) node i word
-slot_told v s node i place before at word w l =
-    let more = looked_goes_on v place word w l in
+slot_told v s node i place before at word w l = let more = looked_goes_on v place word w l in
     let slot = slot_on v w more node i before.word before.holds in
     let shown = slot_shown w.start w.words w.log l.sound.lawful.enabled node i slot.word slot.holds
     in
@@ -121,15 +107,13 @@ module _ (v : View) (s : IsSound v) (plan : PlannedFinish) (p : IsPlan v plan) (
     (holds : SlotHolds (now v) plan.parent plan.index word) where
   -- the slot, by the words of the rebuild's row
   in_row_words : SlotHolds (now v) p.row.parent p.row.index word
-  in_row_words =
-      subst (λ n. SlotHolds (now v) n p.row.index word) (sym p.parent_is)
+  in_row_words = subst (λ n. SlotHolds (now v) n p.row.index word) (sym p.parent_is)
       (subst (λ i. SlotHolds (now v) plan.parent i word) (sym p.index_is) holds)
 
   -- any other word that is no change's: the rebuild was replaced
   pub tells_replaced : ((change : ℕ) → ref_of word ≢ Some (ChangeAt change))
       → ref_of word ≢ Some (RebuildAt plan.rebuild) → IsReplaced (now v) plan.rebuild
-  tells_replaced no_change another =
-      ⊎_elim (λ k. k)
+  tells_replaced no_change another = ⊎_elim (λ k. k)
       (λ r.
       let same : r.word ≡ word =
       slot_once (now v) p.row.parent p.row.index r.word word
@@ -143,26 +127,24 @@ module _ (v : View) (s : IsSound v) (plan : PlannedFinish) (p : IsPlan v plan) (
   -- the rebuild's own: the rebuild is there
   pub tells_left : ref_of word ≡ Some (RebuildAt plan.rebuild) → ¬ (IsOpen (now v) plan.parent)
       → IsLeftToParent (now v) plan.rebuild
-  tells_left itself closed =
-      record {
-        row = p.row;
-        published = p.published;
-        closed = λ o. closed (subst (IsOpen (now v)) p.parent_is o);
-        stands = read_unreplaced v.start v.words s.lawful.opens v.log s.lawful.enabled plan.rebuild
-            p.row p.published
-            record {
-              word = word;
-              holds = in_row_words;
-              reads = ap (past_change (now v).pieces) itself;
-            };
-      }
+  tells_left itself closed = record {
+    row = p.row;
+    published = p.published;
+    closed = λ o. closed (subst (IsOpen (now v)) p.parent_is o);
+    stands = read_unreplaced v.start v.words s.lawful.opens v.log s.lawful.enabled plan.rebuild
+        p.row p.published
+        record {
+          word = word;
+          holds = in_row_words;
+          reads = ap (past_change (now v).pieces) itself;
+        };
+  }
 
 -- ---- what stays
 
 -- a closed parent stays closed
 pub closed_went : (P : Event → Type 0) (v w : View) → WentOn P v w → IsSound v → (plan : PlannedFinish)
     → IsPlan v plan → ¬ (IsOpen (now v) plan.parent) → ¬ (IsOpen (now w) plan.parent)
-closed_went P v w g s plan p closed =
-    subst (λ t. ¬ (IsOpen t plan.parent)) (sym (went_now P v w g))
+closed_went P v w g s plan p closed = subst (λ t. ¬ (IsOpen t plan.parent)) (sym (went_now P v w g))
     (closed_node_stays v.start v.words v.log w.log (went_lawful P v w g)
     (later_by-goes_on g.later) plan.parent (parent_node v s plan p) closed)

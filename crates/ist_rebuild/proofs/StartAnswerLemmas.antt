@@ -4,18 +4,12 @@ use Rattle.ist_build.specs.Laying.{IsReservation}
 use Rattle.ist_core.specs.declared.events.Event.{Event}
 use Rattle.ist_core.specs.declared.events.Event.TheVariants.{Okay, Decide, Resolve}
 use Rattle.ist_core.specs.declared.ports.Full.{Full}
-use Rattle.ist_core.specs.Pieces.{Change}
-use Rattle.ist_core.specs.References.{IsGoodBase}
-use Rattle.ist_core.specs.Rows.{Apart}
-use Rattle.ist_core.specs.RowLayout.{change_words, rebuild_words}
-use Rattle.ist_core.specs.Slots.{IsOpen}
-use Rattle.ist_core.specs.Snapshots.{Snapshot}
-use Rattle.ist_rule.specs.declared.view.View.{View}
 use Rattle.ist_core.specs.declared.events.Who.TheVariants.{Caller as CallerOf}
-use Rattle.ist_rule.specs.Conditions.{IsResolved}
-use Rattle.ist_rule.specs.Going.{WentOn}
-use Rattle.ist_rule.specs.Learning.{now}
-use Rattle.ist_rule.specs.Rule.{IsSound}
+use Rattle.ist_core.specs.WordTerms.{Change, IsGoodBase, change_words, rebuild_words, IsOpen}
+use Rattle.ist_core.specs.TreeTerms.{Apart}
+use Rattle.ist_core.specs.LogTerms.{Snapshot}
+use Rattle.ist_rule.specs.RuleTerms.{IsResolved, WentOn, now, IsSound}
+use Rattle.ist_rule.specs.declared.view.View.{View}
 use Rattle.ist_rule.proofs.WentOnLemmas.{went_all, went_more}
 use Rattle.ist_rows.specs.declared.callers.Caller.{Caller}
 use Rattle.ist_dcss.specs.Helping.{Serves, IsDecided}
@@ -25,11 +19,9 @@ use Rattle.ist_rebuild.specs.declared.answers.Started.TheVariants.{Yes, Other, M
 use Rattle.ist_rebuild.specs.Going.{Begins, StartsAt}
 use Rattle.ist_rebuild.specs.Starting.{IsStartedAt, LeavesDone, IsStartRefused, StartsDoneBut, StartsDoneSince, LeavesUninstalled, LeavesUnstarted, ReservesNeeded, StartsNone}
 use Rattle.ist_rebuild.specs.StartSteps.{IsStartReady, start_filling}
-use Rattle.ist_rebuild.proofs.StartFillLemmas.{rebuild_good, rows_apart}
-use Rattle.ist_rebuild.proofs.StartGoingLemmas.{HasPutIn, begins_reserving, begins_installing, begins_serving, put_went, aims_installing, aims_serving}
-use Rattle.ist_rebuild.proofs.StartOwnLemmas.{InstallsBut, own_was, starts_but, starts_none_reserving, starts_reserving}
-use Rattle.ist_rebuild.proofs.StartResultLemmas.{put_closed, put_said, put_started, put_to}
-use Rattle.ist_rebuild.proofs.NeedLemmas.{takes_more}
+use Rattle.ist_rebuild.proofs.StartReadyLemmas.{rebuild_good, rows_apart}
+use Rattle.ist_rebuild.proofs.NeedLemmas.{HasPutIn, begins_reserving, begins_installing, begins_serving, put_went, aims_installing, aims_serving, takes_more}
+use Rattle.ist_rebuild.proofs.StartOwnLemmas.{InstallsBut, own_was, starts_but, starts_none_reserving, starts_reserving, put_closed, put_said, put_started, put_to}
 use Rattle.ist_rows.proofs.ShortLemmas.{short_from}
 
 -- ---- answers
@@ -38,13 +30,12 @@ use Rattle.ist_rows.proofs.ShortLemmas.{short_from}
 pub has_put : (v : View) (change : ℕ) (f g : Filling) (said : Bool) (between w : View) → f ≡ g
     → IsInstalled v change f between → WentOn (Serves change) between w → IsDecided w change said
     → HasPutIn v change g said w
-has_put v change f g said between w is i helped d =
-    record {
-      between = between;
-      installed = subst (λ x. IsInstalled v change x between) is i;
-      helped = helped;
-      decided = d;
-    }
+has_put v change f g said between w is i helped d = record {
+  between = between;
+  installed = subst (λ x. IsInstalled v change x between) is i;
+  helped = helped;
+  decided = d;
+}
 
 -- ---- the rows
 
@@ -91,8 +82,7 @@ module _ (who : Caller) (parent index target rebuild change : ℕ) (f : Filling)
 
   put_but : (said : Bool) → HasPutIn v change plan said w
       → WentOn (InstallsBut who.number change) v w
-  put_but said h =
-      put_went (InstallsBut who.number change) v change plan said w h (λ n same. refl)
+  put_but said h = put_went (InstallsBut who.number change) v change plan said w h (λ n same. refl)
       (serving_but who.number change)
 
   -- ---- decided yes
@@ -100,15 +90,13 @@ module _ (who : Caller) (parent index target rebuild change : ℕ) (f : Filling)
   -- if it was decided yes, the rebuild is started there
   pub yes_started : HasPutIn v change plan true w → (other : ℕ) → Yes rebuild ≡ Yes other
       → IsStartedAt (now w) other parent index target
-  yes_started h other is =
-      subst (λ n. IsStartedAt (now w) n parent index target) (cc)
+  yes_started h other is = subst (λ n. IsStartedAt (now w) n parent index target) (cc)
       (put_started who.number parent index target rebuild change apart good v w h)
 
   -- if it was decided yes, all other starts of the caller since a state are done
   pub yes_done : HasPutIn v change plan true w → (first : Snapshot)
       → StartsDoneSince first (now v) who.number → StartsDoneBut first (now w) who.number rebuild
-  yes_done h first done base x e own kind said sent to =
-      ⊎_elim
+  yes_done h first done base x e own kind said sent to = ⊎_elim
       (λ same. inl (put_to who.number parent index target rebuild change apart v true w h good x
       (subst (λ b. (now w).pieces b ≡ Some (Change x)) same e) sent to))
       (λ d. inr d)
@@ -122,14 +110,12 @@ module _ (who : Caller) (parent index target rebuild change : ℕ) (f : Filling)
 
   -- if it was decided no, the parent isn't open
   pub no_closed : HasPutIn v change plan false w → ¬ (IsOpen (now w) parent)
-  no_closed h =
-      put_closed who.number parent index target rebuild change apart v w h.helped.sound h
+  no_closed h = put_closed who.number parent index target rebuild change apart v w h.helped.sound h
 
   -- if it was decided no, all starts of the caller since a state are done
   pub no_done : HasPutIn v change plan false w → (first : Snapshot)
       → StartsDoneSince first (now v) who.number → StartsDoneSince first (now w) who.number
-  no_done h first done base x e own kind said sent to =
-      ⊎_elim
+  no_done h first done base x e own kind said sent to = ⊎_elim
       (λ same. absurd (two_sides _ said
       (put_said who.number parent index target rebuild change apart v false w h x
       (subst (λ b. (now w).pieces b ≡ Some (Change x)) same e) ∙ h.decided.decision)))
@@ -151,8 +137,7 @@ module _ (who : Caller) (parent index target rebuild change : ℕ) (f : Filling)
 -- a refusal after reservings
 pub refused_after : (u v w : View) (words : ℕ) (full : Full) → WentOn IsReservation u v
     → IsStartRefused v words full w → IsStartRefused u words full w
-refused_after u v w words full g r =
-    short_from (WentOn Begins) (WentOn Begins) u v
+refused_after u v w words full g r = short_from (WentOn Begins) (WentOn Begins) u v
     (λ x. went_more Begins u v x (went_all IsReservation Begins begins_reserving u v g)) words full w
     r (λ asked. asked)
 
@@ -175,12 +160,11 @@ pub after_uninstalled : (old mid new : Caller) → mid.number ≡ old.number →
 after_uninstalled old mid new number first answer left = at answer left
   where
     both : ReservesNeeded mid new → ReservesNeeded old new
-    both next =
-        record {
-          went = went_more IsReservation old.token.view mid.token.view new.token.view first.went
-              next.went;
-          few = takes_more old mid new number first.few next.few;
-        }
+    both next = record {
+      went = went_more IsReservation old.token.view mid.token.view new.token.view first.went
+          next.went;
+      few = takes_more old mid new number first.few next.few;
+    }
 
     at : (a : Result Started Full) → LeavesUninstalled mid new a → LeavesUninstalled old new a
     at (Ok (Yes rebuild)) next = tt

@@ -3,17 +3,15 @@ use Rattle.std.proofs.Common.{ℕ, Result, Ok}
 use Rattle.ist_core.specs.declared.ports.Full.{Full}
 use Rattle.laws_coming.specs.Further.{CameFurther}
 use Rattle.laws_coming.proofs.FurtherLemmas.{no_less}
-use Rattle.ist_rule.specs.Faces.{TokenFace}
-use Rattle.ist_rule.specs.Learning.{GoesOnTo}
+use Rattle.ist_rule.specs.RuleTerms.{TokenFace, GoesOnTo}
+use Rattle.ist_rows.specs.RowTerms.{IsReady, HasTakenFew, HasTakenFewIn, TakesNoWords}
 use Rattle.ist_rows.specs.declared.callers.Caller.{Caller}
-use Rattle.ist_rows.specs.Going.{IsReady}
-use Rattle.ist_rows.specs.Taken.{HasTakenFew, HasTakenFewIn, TakesNoWords}
 use Rattle.ist_rows.proofs.FewStepLemmas.{few_any, few_call, few_kept, none_loads, none_more}
 use Rattle.ist_rows.proofs.GoneLemmas.{still_ready}
 use Rattle.ist_rebuild.specs.Going.{ServesRebuild}
 use Rattle.ist_rebuild.specs.Helping.{HasHelped}
 use Rattle.ist_rebuild.proofs.FewLemmas.{after_helped}
-use Rattle.ist_rebuild.proofs.HelpedLemmas.{helped_more, loads_helped}
+use Rattle.ist_rebuild.proofs.EventLemmas.{helped_more, loads_helped}
 
 module _ (who : Caller) (token : TokenFace) (ready : IsReady who)
     (seen : GoesOnTo who.token.view token.view) where
@@ -52,6 +50,5 @@ module _ (who : Caller) (token : TokenFace) (ready : IsReady who)
       -- if the last came further, all did
       pub tried_further : CameFurther tried.token.view last.token.view
           → CameFurther who.token.view last.token.view
-      tried_further f =
-          no_less ServesRebuild who.token.view tried.token.view last.token.view
+      tried_further f = no_less ServesRebuild who.token.view tried.token.view last.token.view
           (helped_more who new tried tried_helped k).on.gone.went f

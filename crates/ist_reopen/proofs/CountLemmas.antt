@@ -3,9 +3,8 @@
 use Rattle.std.proofs.Common.{◌≡◌, ℕ, zero, suc, ◌+◌, ◌≤◌, ◌==◌, if◌then◌else◌, Bool, true, false, List, [], ◌∷◌, filter, length, slice_get, Some, refl, ap, arith}
 use Rattle.std.proofs.lemmas.Bool.Decides.{nat_tests}
 use Rattle.ist_core.specs.declared.calls.Call.{Call}
-use Rattle.ist_core.specs.Elements.{Each}
-use Rattle.ist_core.specs.Changes.{Entry}
-use Rattle.ist_core.specs.Standing.{is_change, entry_by, entries_by, position_after, Follows, AllFollow}
+use Rattle.ist_core.specs.LogTerms.{Each}
+use Rattle.ist_core.specs.TreeTerms.{Entry, is_change, entry_by, entries_by, position_after, Follows, AllFollow}
 use Rattle.laws_real_time.proofs.CountLemmas.{count_rises}
 
 module _ (number : ℕ) where
@@ -32,8 +31,7 @@ module _ (number : ℕ) where
           → slice_get (entry ∷ entries) step ≡ Some (entry_by number call)
           → MadeAt (first + 1) entries call
       at zero same is = absurd (omega arith)
-      at (suc step) same is =
-          record { step = step; position_is = omega arith; entry_is = is }
+      at (suc step) same is = record { step = step; position_is = omega arith; entry_is = is }
 
   -- what holds of calls holds of each in a weaker form
   pub each_map : (P Q : Call → Type 0) → ((call : Call) → P call → Q call) → (calls : List Call)
@@ -88,20 +86,17 @@ module _ (number : ℕ) where
           → Each (MadeAt (first + 1) entries) (call ∷ calls)
           → length (call ∷ calls) ≤ length (entries_by number entries))
           → length (call ∷ calls) ≤ length (entries_by number (entry ∷ entries))
-      at zero same is one both =
-          let here : entry ≡ entry_by number call = cc in
+      at zero same is one both = let here : entry ≡ entry_by number call = cc in
           let owner : entry.owner ≡ number = ap (λ (e : Entry). e.owner) here in
           let mineis : (entry.owner == number) ≡ true = grind (arith, nat_tests) in
           let low = above first call (omega arith) calls climb.0 in
           let less = one low (shift_all first entry entries calls low made.1) in
           rw mineis (omega arith)
-      at (suc step) same is one both =
-          let high : first + 1 ≤ call.position = omega arith in
+      at (suc step) same is one both = let high : first + 1 ≤ call.position = omega arith in
           let low : Each (λ other. first + 1 ≤ other.position) (call ∷ calls)
           = (high, above first call (omega arith) calls climb.0) in
           let less = both low (shift_all first entry entries (call ∷ calls) low made) in
-          let more = count_rises number entry entries in
-          omega arith
+          let more = count_rises number entry entries in omega arith
 
   -- ---- the changes among the calls, as such
 
@@ -125,8 +120,7 @@ module _ (number : ℕ) where
       at : Climbs (filter is_change calls) → (v : Bool) → is_change call ≡ v
           → Climbs (filter is_change (call ∷ calls))
       at rest false e = rw e rest
-      at rest true e =
-          let past : position_after call ≡ call.position + 1 = rw e refl in
+      at rest true e = let past : position_after call ≡ call.position + 1 = rw e refl in
           rw e (
             each_map (Follows call) (λ other. call.position + 1 ≤ other.position)
                 (λ other k. let low = k.position in omega arith) (filter is_change calls)

@@ -4,14 +4,10 @@ use Rattle.std.proofs.Common.{◌≡◌, ℕ, zero, suc, ◌+◌, ◌≤◌, ◌
 use Rattle.std.proofs.lemmas.Bool.Decides.{nat_tests}
 use Rattle.std.proofs.lemmas.List.{map-append, append-nil, length-map}
 use Rattle.ist_core.specs.declared.calls.Call.{Call}
-use Rattle.ist_core.specs.Elements.{Each}
-use Rattle.ist_core.specs.Changes.{Entry}
-use Rattle.ist_core.specs.Standing.{is_change, entry_by, entries_by, AllFollow}
-use Rattle.ist_core.specs.Histories.{Reading, at_position, told_by_entry, told_by_reading}
-use Rattle.ist_core.specs.Resting.{told_by_call}
+use Rattle.ist_core.specs.LogTerms.{Each, Reading, at_position, told_by_entry, told_by_reading}
+use Rattle.ist_core.specs.TreeTerms.{Entry, is_change, entry_by, entries_by, AllFollow, told_by_call}
 use Rattle.ist_reopen.specs.Interleaving.{told_to_pass}
-use Rattle.ist_reopen.proofs.OwnedLemmas.{own_entry, own_reading, owned_from, mine, told_to-append, told_at_position}
-use Rattle.ist_reopen.proofs.SplitLemmas.{read_by, reads_at, Rest, Splits, splits, here_changes, here_reads, other_reads}
+use Rattle.ist_reopen.proofs.SplitLemmas.{own_entry, own_reading, owned_from, mine, told_to-append, told_at_position, read_by, reads_at, Rest, Splits, splits, here_changes, here_reads, other_reads}
 use Rattle.ist_reopen.proofs.SplitLemmas.Rest.{later, changes}
 use Rattle.ist_reopen.proofs.CountLemmas.{MadeAt, shift_made, changes_few}
 
@@ -49,9 +45,7 @@ module _ (number : ℕ) where
   here_told : (first : ℕ) (entries : List Entry) (xs : List Reading) (calls : List Call)
       → ArePlacedAmong first entries xs calls → (s : Splits number first calls)
       → told_to_pass number (map own_reading (at_position first xs)) ≡ map told_by_call s.here
-  here_told first entries xs calls h s =
-      told_at_position number first xs
-      ∙ ap (map told_by_reading)
+  here_told first entries xs calls h s = told_at_position number first xs ∙ ap (map told_by_reading)
       (h.reads first (omega arith)
       ∙ ap (λ cs. map (read_by number) (reads_at number first cs)) s.is
       ∙ ap (map (read_by number)) (here_reads number first s.here s.rest s.reads s.following))
@@ -98,8 +92,7 @@ module _ (number : ℕ) where
   laid_later : (first : ℕ) (entry : Entry) (entries : List Entry) (xs : List Reading)
       (here rest : List Call) → ArePlacedAmong first (entry ∷ entries) xs (here ++ rest)
       → Each (λ call. (is_change call ≡ false) × (call.position ≡ first)) here
-      → (calls : List Call) → AllFollow calls
-      → Each (λ call. first + 1 ≤ call.position) calls
+      → (calls : List Call) → AllFollow calls → Each (λ call. first + 1 ≤ call.position) calls
       → Each (λ call. call.position ≤ first + suc (length entries)) calls
       → Each (λ call. is_change call ≡ true → MadeAt number first (entry ∷ entries) call) calls
       → entries_by number entries ≡ map (entry_by number) (filter is_change calls)
@@ -111,9 +104,7 @@ module _ (number : ℕ) where
     high = shift_high first (length entries) calls high;
     made = shift_when first entry entries calls low made;
     exactly = exactly;
-    reads = λ position from.
-        h.reads position (omega arith)
-        ∙ ap (map (read_by number))
+    reads = λ position from. h.reads position (omega arith) ∙ ap (map (read_by number))
         (other_reads number first position from here rest reads ∙ same position);
   }
 
@@ -151,8 +142,7 @@ module _ (number : ℕ) where
           let few = changes_few number (first + 1) entries rest order low
           (shift_when first entry entries rest low made) in
           let long = ap length all in
-          let same = length-map (filter is_change rest) (entry_by number) in
-          absurd (omega arith)
+          let same = length-map (filter is_change rest) (entry_by number) in absurd (omega arith)
       at false e =
           let all : entries_by number entries ≡ map (entry_by number) (filter is_change rest)
           = rw e at exactly in
@@ -200,18 +190,15 @@ module _ (number : ℕ) where
   pub laid : (first : ℕ) (entries : List Entry) (xs : List Reading) (calls : List Call)
       → ArePlacedAmong first entries xs calls
       → told_to_pass number (owned_from first entries xs) ≡ map told_by_call calls
-  laid first [] xs calls h =
-      let s = splits number first calls h.order h.low in
+  laid first [] xs calls h = let s = splits number first calls h.order h.low in
       let high = each_back (λ call. call.position ≤ first + 0) s.here s.rest
       (subst (Each (λ call. call.position ≤ first + 0)) s.is h.high) in
       let made = each_back (λ call. is_change call ≡ true → MadeAt number first [] call) s.here
       s.rest (subst (Each (λ call. is_change call ≡ true → MadeAt number first [] call)) s.is h.made)
       in
-      let none = nothing_left first s.rest s.following high made in
-      here_told first [] xs calls h s
+      let none = nothing_left first s.rest s.following high made in here_told first [] xs calls h s
       ∙ ap (map told_by_call) (sym (s.is ∙ ap (λ cs. s.here ++ cs) none ∙ append-nil s.here))
-  laid first (entry ∷ entries) xs calls h =
-      let s = splits number first calls h.order h.low in
+  laid first (entry ∷ entries) xs calls h = let s = splits number first calls h.order h.low in
       let tail = own_entry entry ∷ owned_from (first + 1) entries xs in
       told_to-append number (map own_reading (at_position first xs)) tail
       ∙ ap (λ ts. ts ++ told_to_pass number tail) (here_told first (entry ∷ entries) xs calls h s)

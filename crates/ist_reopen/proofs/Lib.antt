@@ -1,9 +1,5 @@
-pub mod FewLemmas
 pub mod ReopenLemmas
-pub mod HistoryLemmas
-pub mod TimeLemmas
 pub mod GenerationLemmas
-pub mod OwnedLemmas
 pub mod SplitLemmas
 pub mod CountLemmas
 pub mod LaidLemmas

@@ -6,18 +6,13 @@ use Rattle.std.proofs.lemmas.List.{map-append, append-nil}
 use Rattle.std.proofs.lemmas.List.Elements.{filter-append}
 use Rattle.ist_core.specs.declared.calls.Call.{Call}
 use Rattle.ist_core.specs.declared.pairs.Pair.{Pair}
-use Rattle.ist_core.specs.Elements.{Among, Each}
-use Rattle.ist_core.specs.Logs.{Log}
-use Rattle.ist_core.specs.Changes.{Entry}
-use Rattle.ist_core.specs.Standing.{is_change, entry_by, entries_by, StandsIn, AllFollow, Follows}
-use Rattle.ist_core.specs.Histories.{Reading, readings, in_order, at_position}
-use Rattle.ist_core.specs.Resting.{AllStandIn, told_by_call}
-use Rattle.ist_core.proofs.ElementLemmas.{each_of}
+use Rattle.ist_core.specs.LogTerms.{Among, Each, Log, Reading, readings, in_order, at_position}
+use Rattle.ist_core.specs.TreeTerms.{Entry, is_change, entry_by, entries_by, StandsIn, AllFollow, Follows, AllStandIn, told_by_call}
+use Rattle.ist_core.proofs.AllWordLemmas.{each_of}
 use Rattle.laws_histories.specs.Weaving.{numbered}
 use Rattle.ist_reopen.specs.Generations.{Generation, IsGeneration, FollowOn, changes_in, history_in, history, pairs_left, calls_of}
 use Rattle.ist_reopen.specs.Interleaving.{IsMadeOf, told_over, told_to_pass}
-use Rattle.ist_reopen.proofs.OwnedLemmas.{owned_from, told_owned, told_to-append, mine, StampsClimb, in_order_mine}
-use Rattle.ist_reopen.proofs.SplitLemmas.{read_by}
+use Rattle.ist_reopen.proofs.SplitLemmas.{owned_from, told_owned, told_to-append, mine, StampsClimb, in_order_mine, read_by}
 use Rattle.ist_reopen.proofs.CountLemmas.{MadeAt}
 use Rattle.ist_reopen.proofs.LaidLemmas.{ArePlacedAmong, laid}
 
@@ -32,8 +27,7 @@ module _ (number : ℕ) where
   own_all : (calls : List Call)
       → mine number (map (read_by number) calls) ≡ map (read_by number) calls
   own_all [] = refl
-  own_all (call ∷ calls) =
-      let same : (number == number) ≡ true = grind (arith, nat_tests) in
+  own_all (call ∷ calls) = let same : (number == number) ≡ true = grind (arith, nat_tests) in
       rw same (ap (λ xs. read_by number call ∷ xs) (own_all calls))
 
   -- none of another pass is
@@ -60,8 +54,7 @@ module _ (number : ℕ) where
       ≡ map (read_by number) (plain (slice_index_or lists k []))
   one_of first [] zero same = refl
   one_of first [] (suc k) same = refl
-  one_of first (calls ∷ more) zero same =
-      let is : first ≡ number = omega arith in
+  one_of first (calls ∷ more) zero same = let is : first ≡ number = omega arith in
       filter-append (λ x. x.number == number) (map (read_by first) (plain calls))
       (readings (numbered (first + 1) more))
       ∙ ap (λ xs. mine number (map (read_by first) (plain calls)) ++ xs)
@@ -78,8 +71,7 @@ module _ (number : ℕ) where
       ∙ one_of (first + 1) more k (omega arith)
 
   -- readings at a position, by their calls
-  at_read : (position : ℕ) (calls : List Call)
-      → at_position position (map (read_by number) calls)
+  at_read : (position : ℕ) (calls : List Call) → at_position position (map (read_by number) calls)
       ≡ map (read_by number) (filter (λ call. call.position == position) calls)
   at_read position [] = refl
   at_read position (call ∷ calls) = at (at_read position calls) (call.position == position) refl
@@ -149,8 +141,7 @@ index_past (calls ∷ more) (suc k) low = index_past more k (omega arith)
 none_past : (count number : ℕ) → count ≤ number → (entries : List Entry)
     → Each (λ entry. entry.owner < count) entries → entries_by number entries ≡ []
 none_past count number past [] h = refl
-none_past count number past (entry ∷ entries) h =
-    let low = h.0 in
+none_past count number past (entry ∷ entries) h = let low = h.0 in
     let no : (entry.owner == number) ≡ false = grind (arith, nat_tests) in
     rw no (none_past count number past entries h.1)
 
@@ -160,8 +151,7 @@ either m n = grind arith
 -- the calls with each number are placed in the log, also if there is no such pass
 stand_each : (g : Generation) → IsGeneration g → (number : ℕ)
     → StandsIn g.start g.words g.log number (calls_of g number)
-stand_each g h number =
-    ⊎_elim
+stand_each g h number = ⊎_elim
     (λ past. subst (StandsIn g.start g.words g.log number) (sym (index_past g.calls number past))
     record {
       made = λ call i e. absurd i;
@@ -169,8 +159,7 @@ stand_each g h number =
       read = λ call i e. absurd i;
       in_order = tt;
     })
-    (λ low.
-    let same : 0 + number ≡ number = omega arith in
+    (λ low. let same : 0 + number ≡ number = omega arith in
     subst (λ n. StandsIn g.start g.words g.log n (calls_of g number)) same
     (stand_of g.start g.words g.log 0 g.calls h.stand number low))
     (either (length g.calls) number)
@@ -187,8 +176,7 @@ laid_all g h number = record {
       (λ call i e.
       record { step = call.position; position_is = omega arith; entry_is = stands.made call i e });
   exactly = stands.exactly;
-  reads = λ position from.
-      ap (at_position position)
+  reads = λ position from. ap (at_position position)
       (in_order_mine number xs
       (subst StampsClimb (sym one) (stamps_climb number calls stands.in_order)) ∙ one)
       ∙ at_read number position (plain calls);
@@ -219,28 +207,23 @@ laid_all g h number = record {
 -- the history of a generation is made of the calls of its passes
 pub generation_made : (g : Generation) → IsGeneration g
     → IsMadeOf (λ number. map told_by_call (calls_of g number)) (history_in g)
-generation_made g h =
-    let xs = in_order (readings (numbered 0 g.calls)) in
-    record {
-      owned = owned_from 0 (changes_in g) xs;
-      told_are = told_owned 0 (changes_in g) xs;
-      each = λ number. laid number 0 (changes_in g) xs (calls_of g number) (laid_all g h number);
-    }
+generation_made g h = let xs = in_order (readings (numbered 0 g.calls)) in record {
+  owned = owned_from 0 (changes_in g) xs;
+  told_are = told_owned 0 (changes_in g) xs;
+  each = λ number. laid number 0 (changes_in g) xs (calls_of g number) (laid_all g h number);
+}
 
 -- the history over all trees is made of the calls over all trees
 pub made_over : (first last : List Pair) (gs : List Generation) → FollowOn first gs last
     → IsMadeOf (told_over gs) (history gs)
 made_over first last [] h = record { owned = []; told_are = refl; each = λ number. refl }
-made_over first last (g ∷ gs) h =
-    let one = generation_made g h.1 in
-    let more = made_over (pairs_left g) last gs h.2 in
-    record {
+made_over first last (g ∷ gs) h = let one = generation_made g h.1 in
+    let more = made_over (pairs_left g) last gs h.2 in record {
       owned = one.owned ++ more.owned;
       told_are = map-append (λ x. x.told) one.owned more.owned
           ∙ ap (λ ts. ts ++ map (λ x. x.told) more.owned) one.told_are
           ∙ ap (λ ts. history_in g ++ ts) more.told_are;
-      each = λ number.
-          told_to-append number one.owned more.owned
+      each = λ number. told_to-append number one.owned more.owned
           ∙ ap (λ ts. ts ++ told_to_pass number more.owned) (one.each number)
           ∙ ap (λ ts. map told_by_call (calls_of g number) ++ ts) (more.each number);
     }

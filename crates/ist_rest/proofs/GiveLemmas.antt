@@ -3,16 +3,15 @@ use Rattle.std.proofs.Common.{◌≡◌, ℕ, zero, suc, ◌+◌, ◌-◌, ◌<�
 use Rattle.std.proofs.lemmas.Bool.Decides.{leb_tells}
 use Rattle.std.proofs.lemmas.List.{append_assoc, append-nil}
 use Rattle.ist_core.specs.declared.pairs.Pair.{Pair}
-use Rattle.ist_core.specs.Arithmetic.{child_count}
-use Rattle.ist_core.specs.Map.{pairs_between}
-use Rattle.ist_core.specs.References.{Ref, Empty, Unset, LeafAt, InnerAt, ChangeAt, RebuildAt}
-use Rattle.ist_core.specs.Elements.{Each}
+use Rattle.ist_core.specs.WordTerms.{child_count, Ref, Empty, Unset, LeafAt, InnerAt, ChangeAt, RebuildAt}
+use Rattle.ist_core.specs.TreeTerms.{pairs_between}
+use Rattle.ist_core.specs.LogTerms.{Each}
 use Rattle.ist_rest.specs.declared.slots.SlotLeft.{SlotLeft}
 use Rattle.ist_rest.specs.WordRows.{Span, row_keys, row_slots, row_degree, reads_in}
 use Rattle.ist_rest.specs.Walks.{Way, Visit, LeadsBy, IsGood, pairs_read, visits_from, visits_below, Walks, ends, goes_on}
 use Rattle.ist_rest.specs.Steps.{slot_of, GiveBetween, no_slot, one_slot, slots_between, pairs_at, IsGoodSlot}
 use Rattle.ist_rest.proofs.WalkLemmas.{IsSplit, split, all_lie}
-use Rattle.ist_rest.proofs.IntervalLemmas.{none_low, none_high, between-append}
+use Rattle.ist_rest.proofs.PublishedLemmas.{none_low, none_high, between-append}
 
 module _ (words : List ℕ) (first last : ℕ) where
   -- no slot gives no pair
@@ -52,16 +51,14 @@ module _ (words : List ℕ) (first last : ℕ) where
       (take (to - (i + 1) - (from - (i + 1))) (drop k (word ∷ ws)))) m
 
   part_past : (base i from to : ℕ) (ws : List ℕ) → to ≤ i → part base i from to ws ≡ []
-  part_past base i from to ws h =
-      let n : to - i - (from - i) ≡ 0 = omega arith in
+  part_past base i from to ws h = let n : to - i - (from - i) ≡ 0 = omega arith in
       ap (λ k. map (λ w. record { word = w; node = base }) (take k (drop (from - i) ws))) n
 
   -- one of those
   part_take : (base i from to word : ℕ) (ws : List ℕ) → from ≤ i → i < to
       → part base i from to (word ∷ ws) ≡ record { word = word; node = base } ∷ part base (i + 1)
       from to ws
-  part_take base i from to word ws h l =
-      let m : from - i ≡ 0 = omega arith in
+  part_take base i from to word ws h l = let m : from - i ≡ 0 = omega arith in
       let also : from - (i + 1) ≡ 0 = omega arith in
       let n : to - i - (from - i) ≡ suc (to - (i + 1) - (from - (i + 1))) = omega arith in
       ap (λ k. map (λ w. record { word = w; node = base }) (take k (drop (from - i) (word ∷ ws)))) n
@@ -77,8 +74,7 @@ module _ (words : List ℕ) (first last : ℕ) where
         place = place;
         word = word;
         node = base;
-        ways =
-            record { keys = keys; index = i } ∷ ways;
+        ways = record { keys = keys; index = i } ∷ ways;
       } ∷ []) (visits_from base ways keys (i + 1)
       (place + 1) ws) rows pairs)
       → GiveBetween words first last (part base (i + 1) (child_count keys first)
@@ -93,8 +89,7 @@ module _ (words : List ℕ) (first last : ℕ) where
         place = place;
         word = word;
         node = base;
-        ways =
-            record { keys = keys; index = i } ∷ ways;
+        ways = record { keys = keys; index = i } ∷ ways;
       }
 
       lie : Each (λ pair. LeadsBy pair.key record { keys = keys; index = i }) it.here
@@ -125,8 +120,7 @@ module _ (words : List ℕ) (first last : ℕ) where
           (child_count keys last + 1) (word ∷ ws)) (pairs_between first last pairs)
       at (inr low) high = skip (none_low keys first last i it.here low.1 lie)
           (part_skip base i (child_count keys first) (child_count keys last + 1) word ws low.1)
-      at (inl low) (inl high) =
-          let k = high.1 in
+      at (inl low) (inl high) = let k = high.1 in
           skip (none_high keys first last i it.here (omega arith) lie)
           (part_past base i (child_count keys first) (child_count keys last + 1) (word ∷ ws) high.1
           ∙ sym (part_past base (i + 1) (child_count keys first) (child_count keys last + 1) ws
@@ -156,8 +150,7 @@ module _ (words : List ℕ) (first last : ℕ) where
         place = place;
         word = word;
         node = base;
-        ways =
-            record { keys = keys; index = i } ∷ ways;
+        ways = record { keys = keys; index = i } ∷ ways;
       } ∷ []) (visits_from base ways keys (i + 1)
       (place + 1) ws) refl in
       between_more base ways keys i place word ws rows pairs it
@@ -183,12 +176,10 @@ module _ (words : List ℕ) (first last : ℕ) where
     pairs_are : pairs ≡ pairs_read words good.ref ++ more
 
   opened : (zs : List Visit) (rows : List Span) (pairs : List Pair) → Walks words zs rows pairs
-      → (visit : Visit) → zs ≡ visit ∷ []
-      → IsWalkedFrom visit pairs
+      → (visit : Visit) → zs ≡ visit ∷ [] → IsWalkedFrom visit pairs
   opened _ _ _ ends visit e = absurd (cc)
   opened _ _ _ (goes_on {visit = x} {visits = xs} {rows = rows} {pairs = pairs} at w) visit e =
-      let same : x ≡ visit = cc in
-      let none : xs ≡ [] = cc in
+      let same : x ≡ visit = cc in let none : xs ≡ [] = cc in
       subst (λ v. IsWalkedFrom v (pairs_read words at.ref ++ pairs)) same
       record {
         good = at;
@@ -205,8 +196,7 @@ module _ (words : List ℕ) (first last : ℕ) where
       → Walks words (visits_below words visit ref) rows pairs
       → GiveBetween words first last (slots_between words first last (Some ref))
       (pairs_between first last pairs)
-  below_gives visit (InnerAt base) rows pairs w =
-      let keys = row_keys words base in
+  below_gives visit (InnerAt base) rows pairs w = let keys = row_keys words base in
       let m : child_count keys first - 0 ≡ child_count keys first = omega arith in
       let n : child_count keys last + 1 - 0 - (child_count keys first - 0) ≡ child_count keys last
       + 1 - child_count keys first = omega arith in
@@ -246,13 +236,11 @@ module _ (words : List ℕ) (first last : ℕ) where
 
   -- the pairs that some slots give are those of the first slot, and then those of the others
   pub visited : (zs : List SlotLeft) (pairs : List Pair) → GiveBetween words first last zs pairs
-      → (slot : SlotLeft) (slots : List SlotLeft) → zs ≡ slot ∷ slots
-      → IsVisited slot slots pairs
+      → (slot : SlotLeft) (slots : List SlotLeft) → zs ≡ slot ∷ slots → IsVisited slot slots pairs
   visited _ _ no_slot slot slots e = absurd (cc)
   visited _ _ (one_slot {slots = xs} {rows = rows} {pairs = pairs} {rest = rest} visit w more)
       slot slots e =
-      let same : slot_of visit ≡ slot = cc in
-      let others : xs ≡ slots = cc in
+      let same : slot_of visit ≡ slot = cc in let others : xs ≡ slots = cc in
       let it = opened (visit ∷ []) rows pairs w visit refl in
       let reads : Some it.good.ref ≡ reads_in words visit.word = sym it.good.reads.is in
       let gives = gives_append (slots_between words first last (Some it.good.ref))

@@ -1,40 +1,27 @@
 -- The rows of a table at rest, as its words say them. Serves the law on standing words.
 -- `laws.standing_words_hold_the_map`.
-use Rattle.std.proofs.Common.{◌≡◌, ℕ, ◌+◌, ◌≤◌, List, length, is_some, Option, Some, None, refl, sym, ap, ◌∙◌, subst, arith, length-append}
+use Rattle.std.proofs.Common.{◌≡◌, ℕ, ◌+◌, ◌≤◌, List, length, is_some, Option, Some, None, refl, sym, ap, ◌∙◌, subst, arith, length-append, ◌<◌, ◌&&◌, nat_le, if◌then◌else◌, Bool, true, false, [], ◌∷◌, ◌++◌}
 use Rattle.std.proofs.lemmas.Option.{get_or_from_slice_get}
 use Rattle.std.specs.List.Sorted.{IsStrictlyIncreasing}
 use Rattle.ist_core.specs.declared.pairs.Pair.{Pair}
 use Rattle.ist_core.specs.declared.states.LeafRow.{LeafRow}
 use Rattle.ist_core.specs.declared.states.InnerRow.{InnerRow}
-use Rattle.ist_core.specs.RowLayout.{next_place, anchor, anchor_status_place, inner_words, leaf_words, rebuild_words}
-use Rattle.ist_core.specs.References.{Ref, Empty, Unset, LeafAt, InnerAt, ChangeAt, RebuildAt, ref_of}
-use Rattle.ist_core.specs.Statuses.{open_word, status_of}
-use Rattle.ist_core.specs.Elements.{Each}
-use Rattle.ist_core.specs.Pieces.{Piece, Leaf, Inner, Rebuild, size_of}
-use Rattle.ist_core.specs.Snapshots.{Snapshot}
-use Rattle.ist_core.specs.Images.{IsImage, StandsAt}
-use Rattle.ist_core.specs.Slots.{SlotHolds, past_change, rebuild_reads, past_rebuild, logical}
+use Rattle.ist_core.specs.WordTerms.{next_place, anchor, anchor_status_place, inner_words, leaf_words, rebuild_words, Ref, Empty, Unset, LeafAt, InnerAt, ChangeAt, RebuildAt, ref_of, open_word, status_of, Piece, Leaf, Inner, Rebuild, size_of, IsImage, StandsAt, SlotHolds, past_change, rebuild_reads, past_rebuild, logical, child_count}
+use Rattle.ist_core.specs.LogTerms.{Each, Snapshot, Log, Lawful, state_of}
 use Rattle.ist_core.specs.Naming.{HasDegree}
-use Rattle.ist_core.specs.Logs.{Log}
-use Rattle.ist_core.specs.Rows.{IsWithin}
-use Rattle.ist_core.specs.Deciding.{AllResolved}
-use Rattle.ist_core.specs.Lawful.{Lawful, state_of}
-use Rattle.ist_core.proofs.ReferenceLemmas.{word_of-ref_of}
-use Rattle.ist_core.proofs.PlaceLemmas.{next_after_fixed, claimed_within, placed, anchor_free}
-use Rattle.ist_core.proofs.RoomLemmas.{next_within}
-use Rattle.ist_core.proofs.NamingLemmas.{WordsName, SlotNames, slot_names}
-use Rattle.ist_core.proofs.OrderLemmas.{names, child_above}
-use Rattle.ist_core.proofs.ShapedLemmas.{shaped}
-use Rattle.ist_core.proofs.LeadingLemmas.{LiesIn}
-use Rattle.ist_core.proofs.UnderLemmas.{slot_reads_as}
-use Rattle.ist_core.proofs.LeafOrderLemmas.{leaves_lie, next_from_rising}
-use Rattle.ist_core.proofs.KeyLemmas.{keys_rising}
+use Rattle.ist_core.specs.TreeTerms.{IsWithin, AllResolved, pairs_between}
+use Rattle.ist_core.proofs.AllWordLemmas.{word_of-ref_of}
+use Rattle.ist_core.proofs.AllPlaceLemmas.{next_after_fixed, claimed_within, placed, anchor_free, WordsName, SlotNames, slot_names, names, child_above, shaped, LiesIn, slot_reads_as, leaves_lie, next_from_rising, keys_rising, child_count_tells, each_mapped, low_key, high_key}
+use Rattle.ist_core.proofs.AllLogLemmas.{next_within}
 use Rattle.laws_links.proofs.ResolvedLemmas.{resolved_gone}
 use Rattle.ist_rest.specs.WordRows.{word_at, leaf_key, row_degree, row_keys, row_slots, past_change_in, past_rebuild_in, rows_on, IsWithinUsed}
 use Rattle.ist_rest.specs.Walks.{Visit, LeadsBy, HasDecision, IsGoodLeaf, IsGoodRow, Reads}
 use Rattle.ist_rest.specs.RestingWords.{HasGoodBounds}
-use Rattle.laws_calls.proofs.SizedLemmas.{row_sized}
+use Rattle.laws_calls.proofs.UpLemmas.{row_sized}
 use Rattle.ist_rest.proofs.RowLemmas.{first_word, degree_is, size_word, keys_are, slots_are}
+use Rattle.std.proofs.lemmas.Bool.Decides.{nat_tests}
+use Rattle.std.proofs.lemmas.List.Elements.{filter-append}
+use Rattle.std.specs.List.{filter}
 
 -- the words are the image of the state after a lawful log, in which each installed change is
 -- resolved
@@ -66,10 +53,8 @@ module _ {pairs : List Pair} {words : List ℕ} {log : Log} (s : IsStood pairs w
 
   -- the words are in bounds
   pub good_bounds : HasGoodBounds words
-  good_bounds =
-      let n = next_is in
-      let low = next_after_fixed pairs (length words) log s.lawful.enabled in
-      let h = high in
+  good_bounds = let n = next_is in
+      let low = next_after_fixed pairs (length words) log s.lawful.enabled in let h = high in
       record {
         least = omega arith;
         most = s.lawful.opens.within;
@@ -89,11 +74,8 @@ module _ {pairs : List Pair} {words : List ℕ} {log : Log} (s : IsStood pairs w
 
   within : (base size : ℕ) (p : Piece) → t.pieces base ≡ Some p → size ≡ size_of p
       → IsWithinUsed words record { base = base; size = size }
-  within base size p e same =
-      let it = in_table base p e in
-      let a = it.after_fixed in
-      let b = it.below_next in
-      let n = next_is in
+  within base size p e same = let it = in_table base p e in let a = it.after_fixed in
+      let b = it.below_next in let n = next_is in
       record { after_fixed = omega arith; below_next = omega arith }
 
   -- each published row lies within the words
@@ -194,13 +176,10 @@ module _ {pairs : List Pair} {words : List ℕ} {log : Log} (s : IsStood pairs w
       let size = row_sized pairs (length words) s.lawful.opens log s.lawful.enabled base r p in
       let d = degree_there base r p in
       let z = size_word words base r (stands base r p) (shape base r p) (room base (Inner r) p) in
-      let two = size.degree in
-      let big = size.size in
+      let two = size.degree in let big = size.size in
       let word = first_word words base (Inner r) (stands base r p) (omega arith) in
-      let ks = (shape base r p).keys in
-      let ss = (shape base r p).slots in
-      let long = length-append r.keys r.slots in
-      record {
+      let ks = (shape base r p).keys in let ss = (shape base r p).slots in
+      let long = length-append r.keys r.slots in record {
         within = within base (inner_words (row_degree words base)) (Inner r) p (omega arith);
         status = ap (λ w. is_some (status_of w)) word ∙ ap is_some size.status_is;
         degree = omega arith;
@@ -210,8 +189,59 @@ module _ {pairs : List Pair} {words : List ℕ} {log : Log} (s : IsStood pairs w
             s.lawful.enabled base (Inner r) p));
         above = child_above t visit.node i base all_names record {
           word = visit.word;
-          holds =
-              at.slot;
+          holds = at.slot;
           reads = e;
         };
       }
+
+-- ---- which pairs lie between two keys. Serves `listing`.
+
+-- ---- the interval
+
+-- pairs whose keys are below the interval, or above it, are none of it
+none_test : (p : Pair → Bool) (pairs : List Pair) → Each (λ pair. p pair ≡ false) pairs
+    → filter p pairs ≡ []
+none_test p [] h = refl
+none_test p (x ∷ xs) h = at (none_test p xs h.1) (p x) refl
+  where
+    at : filter p xs ≡ [] → (b : Bool) → p x ≡ b → filter p (x ∷ xs) ≡ []
+    at none true e = absurd (let f = h.0 in cc)
+    at none false e = subst (λ b. (if b then x ∷ filter p xs else filter p xs) ≡ []) (sym e) none
+
+-- a slot before the interval's slots has no pair of the interval
+pub none_low : (keys : List ℕ) (first last i : ℕ) (pairs : List Pair) → i < child_count keys first
+    → Each (λ pair. LeadsBy pair.key record { keys = keys; index = i }) pairs
+    → pairs_between first last pairs ≡ []
+none_low keys first last i pairs h lie =
+    none_test (λ p. nat_le first p.key && nat_le p.key last) pairs
+    (each_mapped (λ pair. LeadsBy pair.key record { keys = keys; index = i })
+    (λ p. (nat_le first p.key && nat_le p.key last) ≡ false) pairs
+    (λ p e. low_key first last p.key (child_count_tells keys p.key first (omega arith))) lie)
+
+-- a slot after the interval's slots has no pair of the interval
+pub none_high : (keys : List ℕ) (first last i : ℕ) (pairs : List Pair) → child_count keys last < i
+    → Each (λ pair. LeadsBy pair.key record { keys = keys; index = i }) pairs
+    → pairs_between first last pairs ≡ []
+none_high keys first last i pairs h lie =
+    none_test (λ p. nat_le first p.key && nat_le p.key last) pairs
+    (each_mapped (λ pair. LeadsBy pair.key record { keys = keys; index = i })
+    (λ p. (nat_le first p.key && nat_le p.key last) ≡ false) pairs
+    (λ p e. high_key first last p.key (child_count_tells keys last p.key (omega arith))) lie)
+
+-- the interval of two lists
+pub between-append : (first last : ℕ) (xs ys : List Pair) → pairs_between first last
+    (xs ++ ys) ≡ pairs_between first last xs ++ pairs_between first last ys
+between-append first last xs ys = filter-append (λ p. nat_le first p.key && nat_le p.key last) xs ys
+
+-- an interval that ends before it begins has no pair
+pub no_pair : (first last : ℕ) (pairs : List Pair) → last < first → pairs_between first last
+    pairs ≡ []
+no_pair first last pairs less = none_test (λ p. nat_le first p.key && nat_le p.key last) pairs
+    (all pairs)
+  where
+    all : (ps : List Pair) → Each (λ p. (nat_le first p.key && nat_le p.key last) ≡ false) ps
+    all [] = tt
+    all (p ∷ ps) = (out_of p.key, all ps)
+      where
+        out_of : (k : ℕ) → (nat_le first k && nat_le k last) ≡ false
+        out_of k = grind (arith, nat_tests)

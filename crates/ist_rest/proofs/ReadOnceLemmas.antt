@@ -3,20 +3,10 @@
 use Rattle.std.proofs.Common.{◌≡◌, ℕ, ◌≤◌, ◌⊎◌, List, [], ◌∷◌, ◌++◌, length, slice_get, Option, Some, None, refl, sym, ap, subst, inl, inr, ⊎_elim, arith}
 use Rattle.ist_core.specs.declared.pairs.Pair.{Pair}
 use Rattle.ist_core.specs.declared.states.InnerRow.{InnerRow}
-use Rattle.ist_core.specs.RowLayout.{rebuild_words}
-use Rattle.ist_core.specs.References.{Ref, Empty, Unset, LeafAt, InnerAt, ChangeAt, RebuildAt, ref_of}
-use Rattle.ist_core.specs.Elements.{Among}
-use Rattle.ist_core.specs.Pieces.{Inner, Rebuild}
-use Rattle.ist_core.specs.Snapshots.{Snapshot}
-use Rattle.ist_core.specs.Slots.{SlotHolds, in_row, logical}
-use Rattle.ist_core.specs.Logs.{Log}
-use Rattle.ist_core.specs.Lawful.{state_of}
-use Rattle.ist_core.proofs.ReferenceLemmas.{word_of-ref_of}
-use Rattle.ist_core.proofs.NamingLemmas.{IsRebuildFor, SlotNames, slot_names}
-use Rattle.ist_core.proofs.HomeLemmas.{HasOneHome}
-use Rattle.ist_core.proofs.ParentLemmas.{one_home}
-use Rattle.ist_core.proofs.LeadingLemmas.{LiesIn, lies_above, child_is}
-use Rattle.ist_core.proofs.UnderLemmas.{slot_reads_as}
+use Rattle.ist_core.specs.WordTerms.{rebuild_words, Ref, Empty, Unset, LeafAt, InnerAt, ChangeAt, RebuildAt, ref_of, Inner, Rebuild, SlotHolds, in_row, logical}
+use Rattle.ist_core.specs.LogTerms.{Among, Snapshot, Log, state_of}
+use Rattle.ist_core.proofs.AllWordLemmas.{word_of-ref_of}
+use Rattle.ist_core.proofs.AllPlaceLemmas.{IsRebuildFor, SlotNames, slot_names, HasOneHome, one_home, LiesIn, lies_above, child_is, slot_reads_as}
 use Rattle.laws_links.proofs.ResolvedLemmas.{resolved_gone}
 use Rattle.ist_rest.specs.WordRows.{rows_on, Span}
 use Rattle.ist_rest.specs.Walks.{Visit, Walks}
@@ -66,17 +56,15 @@ module _ {pairs : List Pair} {words : List ℕ} {log : Log} (s : IsStood pairs w
         place = place;
         word = word;
         node = base;
-        ways =
-            record { keys = r.keys; index = j } ∷ visit.ways;
+        ways = record { keys = r.keys; index = j } ∷ visit.ways;
       } j
-  at_slot visit i base r at e p j place word g =
-      record {
-        slot = in_row r p g;
-        led = λ key lies. (
-          sym (child_is t base key j r (free s) p lies.child_for),
-          at.led key (lifted visit i base at e j key lies),
-        );
-      }
+  at_slot visit i base r at e p j place word g = record {
+    slot = in_row r p g;
+    led = λ key lies. (
+      sym (child_is t base key j r (free s) p lies.child_for),
+      at.led key (lifted visit i base at e j key lies),
+    );
+  }
     where
       lifted : (visit : Visit) (i base : ℕ) → IsVisitOfSlot s visit i → logical t.pieces visit.word ≡ Some
           (InnerAt base) → (j key : ℕ) → LiesIn t key base j → LiesIn t key visit.node i

@@ -1,8 +1,7 @@
 -- How a slot word reads, in two steps. Serves `reading.reads`.
 use Rattle.std.proofs.Common.{◌≡◌, ℕ, ◌≤◌, List, [], ◌∷◌, ◌++◌, length, Option, Some, None, refl, sym, ◌∙◌, subst, arith}
-use Rattle.ist_core.specs.RowLayout.{next_place, place_limit}
-use Rattle.ist_core.specs.References.{Ref, Empty, Unset, LeafAt, InnerAt, ChangeAt, RebuildAt, ref_of}
-use Rattle.ist_core.specs.Elements.{Each}
+use Rattle.ist_core.specs.WordTerms.{next_place, place_limit, Ref, Empty, Unset, LeafAt, InnerAt, ChangeAt, RebuildAt, ref_of}
+use Rattle.ist_core.specs.LogTerms.{Each}
 use Rattle.ist_rest.specs.WordRows.{word_at, IsWithinUsed, change_on, rebuild_on, rows_on, past_change_in, past_rebuild_in}
 use Rattle.ist_rest.specs.Walks.{HasDecision, Reads, Visit, IsGood, IsGoodAs}
 use Rattle.ist_rest.specs.Readings.{IsTreeRef, IsInUse, LeavesSide, LeadsPast}
@@ -28,8 +27,7 @@ good_plain words visit (RebuildAt base) h = absurd h
 
 -- what a slot in good shape reads as has its base in the table
 pub good_in_use : (words : List ℕ) (visit : Visit) (ref : Ref) → word_at words next_place ≤ length
-    words → length words ≤ place_limit
-    → IsGoodAs words visit ref → IsInUse words ref
+    words → length words ≤ place_limit → IsGoodAs words visit ref → IsInUse words ref
 good_in_use words visit Empty k l h = tt
 good_in_use words visit Unset k l h = absurd h
 good_in_use words visit (LeafAt base) k l h = tt

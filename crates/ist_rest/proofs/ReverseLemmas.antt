@@ -17,11 +17,8 @@ turned_back ys zs xs e = ap reverse e ∙ reverse-append ys (reverse zs)
 -- a sum over a list in reverse
 pub sum_reverse : {A : Type 0} (f : A → ℕ) (xs : List A) → sum_by f (reverse xs) ≡ sum_by f xs
 sum_reverse f [] = refl
-sum_reverse f (x ∷ xs) =
-    let a = sum_by-append f (reverse xs) (x ∷ []) in
-    let b = sum_by-cons f x xs in
-    let c = sum_by-cons f x [] in
-    let d = sum_reverse f xs in
+sum_reverse f (x ∷ xs) = let a = sum_by-append f (reverse xs) (x ∷ []) in
+    let b = sum_by-cons f x xs in let c = sum_by-cons f x [] in let d = sum_reverse f xs in
     let e : reverse (x ∷ xs) ≡ reverse xs ++ x ∷ [] = reverse-append (x ∷ []) xs in
     let g : sum_by f (reverse xs ++ x ∷ []) ≡ sum_by f (x ∷ xs) = let n : sum_by f [] ≡ 0 =
     refl in omega arith in

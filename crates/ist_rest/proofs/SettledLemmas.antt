@@ -3,23 +3,12 @@ use Rattle.std.proofs.Common.{◌≡◌, ℕ, zero, suc, ◌+◌, ◌<◌, ◌�
 use Rattle.std.proofs.lemmas.Option.{get_or_from_slice_get}
 use Rattle.ist_core.specs.declared.pairs.Pair.{Pair}
 use Rattle.ist_core.specs.declared.states.InnerRow.{InnerRow}
-use Rattle.ist_core.specs.Arithmetic.{limit}
-use Rattle.ist_core.specs.RowLayout.{anchor, anchor_slot_place}
-use Rattle.ist_core.specs.References.{InnerAt, ref_of}
-use Rattle.ist_core.specs.Elements.{Among}
-use Rattle.ist_core.specs.Pieces.{Inner}
-use Rattle.ist_core.specs.Snapshots.{Snapshot}
-use Rattle.ist_core.specs.Links.{IsChild, Linked, at_anchor, below}
-use Rattle.ist_core.specs.Resting.{IsSettled}
+use Rattle.ist_core.specs.WordTerms.{limit, anchor, anchor_slot_place, InnerAt, ref_of, Inner, SlotHolds, in_anchor, in_row, logical}
+use Rattle.ist_core.specs.LogTerms.{Among, Snapshot, Log, state_of}
+use Rattle.ist_core.specs.TreeTerms.{IsChild, Linked, at_anchor, below, IsSettled}
 use Rattle.ist_rest.specs.Settling.{ReachedFrom, itself, through, IsSettledRow, AreSettled}
 use Rattle.ist_rest.proofs.SettleLemmas.{reached_on}
-use Rattle.ist_core.proofs.MentionLemmas.{child_mentioned}
-use Rattle.ist_core.proofs.SlotLemmas.{no_row}
-use Rattle.ist_core.specs.Slots.{SlotHolds, in_anchor, in_row, logical}
-use Rattle.ist_core.specs.Logs.{Log}
-use Rattle.ist_core.specs.Lawful.{state_of}
-use Rattle.ist_core.proofs.NamingLemmas.{InnerHere, slot_names}
-use Rattle.ist_core.proofs.HomeLemmas.{mentioned_here}
+use Rattle.ist_core.proofs.AllPlaceLemmas.{child_mentioned, no_row, InnerHere, slot_names, mentioned_here}
 use Rattle.ist_rest.specs.WordRows.{word_at, row_size, reads_in}
 use Rattle.ist_rest.proofs.RowLemmas.{word_is, first_word, size_word}
 use Rattle.ist_rest.proofs.PublishedLemmas.{IsStood, all_names, free, room, told, stands, shape, slots_there}
@@ -86,21 +75,18 @@ module _ {pairs : List Pair} {words : List ℕ} {log : Log} (s : IsStood pairs w
       let c : IsChild t base it.0 child = record {
         word = word;
         holds = holds;
-        reads =
-            sym (same_reading base it.0 word holds) ∙ e;
+        reads = sym (same_reading base it.0 word holds) ∙ e;
       } in
       reached_linked child node r (below it.0 l c) (mentioned_here t base it.0 child (all_names s)
       (child_mentioned t base it.0 child (all_names s) c))
 
   first_linked : (base : ℕ) → reads_in words (word_at words anchor_slot_place) ≡ Some
       (InnerAt base) → Linked t base × InnerHere t.pieces base
-  first_linked base e =
-      let first : SlotHolds t anchor 0 t.anchor = in_anchor refl refl refl in
+  first_linked base e = let first : SlotHolds t anchor 0 t.anchor = in_anchor refl refl refl in
       let c : IsChild t anchor 0 base = record {
         word = t.anchor;
         holds = first;
-        reads =
-            sym (same_reading anchor 0 t.anchor first) ∙ ap (reads_in words) (sym anchor_word)
+        reads = sym (same_reading anchor 0 t.anchor first) ∙ ap (reads_in words) (sym anchor_word)
             ∙ e;
       } in (
         below 0 at_anchor c,
@@ -131,22 +117,17 @@ module _ {pairs : List Pair} {words : List ℕ} {log : Log} (s : IsStood pairs w
           (λ up. all up.0 up.1 node up.2) (linked_reached node l)
 
       there : AreSettled words → IsSettled t
-      there all =
-          record {
-            all_open = λ node row l e. sym (status_there node row e)
-                ∙ (row_of all node row l e).is_open;
-            none_due = λ node row l e.
-                subst (λ n. n < limit row.size) (count_there node row e)
-                (subst (λ z. word_at words (node + 1) < limit z) (size_there node row e)
-                (row_of all node row l e).not_due);
-          }
+      there all = record {
+        all_open = λ node row l e. sym (status_there node row e)
+            ∙ (row_of all node row l e).is_open;
+        none_due = λ node row l e. subst (λ n. n < limit row.size) (count_there node row e)
+            (subst (λ z. word_at words (node + 1) < limit z) (size_there node row e)
+            (row_of all node row l e).not_due);
+      }
 
       back : IsSettled t → AreSettled words
-      back s base e node r =
-          let at = first_linked base e in
-          let it = reached_linked base node r at.0 at.1 in
-          let row = it.1.0 in
-          let there = it.1.1 in
+      back s base e node r = let at = first_linked base e in
+          let it = reached_linked base node r at.0 at.1 in let row = it.1.0 in let there = it.1.1 in
           record {
             is_open = status_there node row there ∙ s.all_open node row it.0 there;
             not_due = subst (λ n. n < limit (row_size words node))

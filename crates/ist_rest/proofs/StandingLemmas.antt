@@ -5,22 +5,10 @@ use Rattle.std.proofs.lemmas.Option.{get_or_from_slice_get}
 use Rattle.std.proofs.lemmas.List.{append_assoc, append-nil, map-append}
 use Rattle.ist_core.specs.declared.pairs.Pair.{Pair}
 use Rattle.ist_core.specs.declared.states.InnerRow.{InnerRow}
-use Rattle.ist_core.specs.RowLayout.{anchor_slot_place, inner_words, leaf_words}
-use Rattle.ist_core.specs.References.{Ref, Empty, LeafAt, InnerAt}
-use Rattle.ist_core.specs.Elements.{Among, Each}
-use Rattle.ist_core.specs.Pieces.{Piece, Leaf, Inner, Rebuild, size_of}
-use Rattle.ist_core.specs.Snapshots.{Snapshot}
-use Rattle.ist_core.specs.Links.{IsChild}
-use Rattle.ist_core.specs.Slots.{in_anchor, logical}
-use Rattle.ist_core.specs.Leaves.{PlacedLeaf, pair_of, HasLeaves, SlotsHaveLeaves, none_here, leaf_here, row_here, no_slot, one_slot, HasContents}
-use Rattle.ist_core.specs.Logs.{Log}
-use Rattle.ist_core.specs.Rows.{Apart}
-use Rattle.ist_core.specs.Lawful.{state_of}
-use Rattle.ist_core.proofs.PlaceLemmas.{claimed_apart, placed}
-use Rattle.ist_core.proofs.OrderLemmas.{child_above}
-use Rattle.ist_core.proofs.LeadingLemmas.{lies_above}
-use Rattle.ist_core.proofs.UnderLemmas.{slot_reads_as}
-use Rattle.ist_core.proofs.LeafOrderLemmas.{leaves_lie}
+use Rattle.ist_core.specs.WordTerms.{anchor_slot_place, inner_words, leaf_words, Ref, Empty, LeafAt, InnerAt, Piece, Leaf, Inner, Rebuild, size_of, in_anchor, logical}
+use Rattle.ist_core.specs.LogTerms.{Among, Each, Snapshot, Log, state_of}
+use Rattle.ist_core.specs.TreeTerms.{IsChild, PlacedLeaf, pair_of, HasLeaves, SlotsHaveLeaves, none_here, leaf_here, row_here, no_slot, one_slot, HasContents, Apart}
+use Rattle.ist_core.proofs.AllPlaceLemmas.{claimed_apart, placed, child_above, lies_above, slot_reads_as, leaves_lie}
 use Rattle.ist_rest.specs.WordRows.{word_at, row_degree, row_slots, Span}
 use Rattle.ist_rest.specs.Walks.{Visit, IsGood, rows_read, pairs_read, visits_from, visits_below, Walks, ends, goes_on, first_visit, IsApartFrom, AreApart}
 use Rattle.ist_rest.specs.RestingWords.{HoldPairs, AreLawful}
@@ -37,8 +25,7 @@ module _ {pairs : List Pair} {words : List ℕ} {log : Log} (s : IsStood pairs w
     walk_ref : (ref : Option Ref) (leaves : List PlacedLeaf) → HasLeaves t.pieces ref leaves
         → (visit : Visit) (i : ℕ) → IsVisitOfSlot s visit i
         → logical t.pieces visit.word ≡ ref → (visits : List Visit) (more : List Pair)
-        (w : WalkFinds s visits more)
-        → AreElsewhere s w.rows visit.node i
+        (w : WalkFinds s visits more) → AreElsewhere s w.rows visit.node i
         → Longer s (visit ∷ visits) (map pair_of leaves ++ more) w.rows visit.node i
     walk_ref _ _ none_here visit i at e visits more w apart =
         let good : IsGood words visit = record {
@@ -51,8 +38,7 @@ module _ {pairs : List Pair} {words : List ℕ} {log : Log} (s : IsStood pairs w
         record {
           finds = record {
             rows = rows_read words visit Empty ++ w.rows;
-            walk =
-                goes_on good w.walk;
+            walk = goes_on good w.walk;
             are = it.are;
           };
           from = it.from;
@@ -63,8 +49,7 @@ module _ {pairs : List Pair} {words : List ℕ} {log : Log} (s : IsStood pairs w
         let value = word_is words base 1 (Leaf r) stand (omega arith) in
         let good : IsGood words visit = record {
           ref = LeafAt base;
-          reads =
-              reading s visit i (LeafAt base) at e;
+          reads = reading s visit i (LeafAt base) at e;
           good = good_leaf s visit i base r at e p key;
         } in
         let same : pairs_read words (LeafAt base) ≡ pair_of record { base = base; row = r } ∷ [] =
@@ -95,8 +80,7 @@ module _ {pairs : List Pair} {words : List ℕ} {log : Log} (s : IsStood pairs w
     walk_ref _ leaves (row_here {base = base} r p slots) visit i at e visits more w apart =
         let good : IsGood words visit = record {
           ref = InnerAt base;
-          reads =
-              reading s visit i (InnerAt base) at e;
+          reads = reading s visit i (InnerAt base) at e;
           good = good_row s visit i base r at e p;
         } in
         let child : IsChild t visit.node i base = record {
@@ -115,8 +99,7 @@ module _ {pairs : List Pair} {words : List ℕ} {log : Log} (s : IsStood pairs w
         let it = walk_slots r.slots leaves slots visit i base r at e p 0
         (base + 3 + row_degree words base)
         (λ k word g. let same : 0 + k ≡ k = omega arith in ap (slice_get r.slots) same ∙ g) visits
-        more w
-        (λ b m a l u. apart b a (lift b m u)) in
+        more w (λ b m a l u. apart b a (lift b m u)) in
         let f = it.finds in
         let all : Walks words (visits_below words visit (InnerAt base) ++ visits) f.rows
         (map pair_of leaves ++ more) =
@@ -132,10 +115,8 @@ module _ {pairs : List Pair} {words : List ℕ} {log : Log} (s : IsStood pairs w
         λ b h a. ⊎_elim (λ old. apart b old (row_under h up_here))
         (λ x. not_below t (all_names s) (homes s) (free s) visit.node i b base x.0 h higher x.2)
         (it.from b a) in
-        let d = degree_there s base r p in
-        let ks = (shape s base r p).keys in
-        let ss = (shape s base r p).slots in
-        let long = length-append r.keys r.slots in
+        let d = degree_there s base r p in let ks = (shape s base r p).keys in
+        let ss = (shape s base r p).slots in let long = length-append r.keys r.slots in
         let are = add_row t base (inner_words (row_degree words base)) (Inner r) f.rows p
         (omega arith) (gone base (as_child child)) f.are in
         let on = led_through s visit i at
@@ -146,8 +127,7 @@ module _ {pairs : List Pair} {words : List ℕ} {log : Log} (s : IsStood pairs w
         record {
           finds = record {
             rows = rows_read words visit (InnerAt base) ++ f.rows;
-            walk =
-                goes_on good all;
+            walk = goes_on good all;
             are = on.are;
           };
           from = λ b a. ⊎_elim
@@ -181,8 +161,7 @@ module _ {pairs : List Pair} {words : List ℕ} {log : Log} (s : IsStood pairs w
           place = place;
           word = word;
           node = base;
-          ways =
-              record { keys = r.keys; index = j } ∷ visit.ways;
+          ways = record { keys = r.keys; index = j } ∷ visit.ways;
         } j now refl
         (visits_from base visit.ways r.keys (j + 1) (place + 1) ws ++ visits)
         (map pair_of rest ++ more) it.finds
@@ -229,15 +208,13 @@ module _ {pairs : List Pair} {words : List ℕ} {log : Log} (s : IsStood pairs w
   )
 
   rows_apart : (seen rows : List Span) → Each IsPlacedRow seen → AreRows t rows
-      → ((b : ℕ) → Among b (bases seen) → Among b (bases rows) → ⊥)
-      → AreApart seen rows
+      → ((b : ℕ) → Among b (bases seen) → Among b (bases rows) → ⊥) → AreApart seen rows
   rows_apart seen [] all are new = tt
   rows_apart seen (span ∷ rows) all are new = (
     apart_from seen span all are.placed.0 (λ a. new span.base a (inl refl)),
     rows_apart (span ∷ seen) rows (are.placed.0, all) record {
       distinct = are.distinct.1;
-      placed =
-          are.placed.1;
+      placed = are.placed.1;
     }
         (λ b a c. ⊎_elim (λ is. are.distinct.0 (subst (λ x. Among x (bases rows)) is c))
         (λ old. new b old (inr c)) a),
@@ -250,8 +227,7 @@ module _ {pairs : List Pair} {words : List ℕ} {log : Log} (s : IsStood pairs w
       anchor_slot_place t.anchor 0 s.image.anchor_slot in
       let at : IsVisitOfSlot s (first_visit words) 0 = record {
         slot = in_anchor refl refl (sym a);
-        led =
-            λ key lies. tt;
+        led = λ key lies. tt;
       } in
       let it = walk_ref (logical t.pieces t.anchor) h.leaves h.reached (first_visit words) 0 at
       (ap (logical t.pieces) a) [] []
@@ -263,8 +239,7 @@ module _ {pairs : List Pair} {words : List ℕ} {log : Log} (s : IsStood pairs w
         holds = record {
           bounds = (good_bounds s);
           rows = it.finds.rows;
-          walk =
-              subst (λ ps. Walks words (first_visit words ∷ []) it.finds.rows ps) same
+          walk = subst (λ ps. Walks words (first_visit words ∷ []) it.finds.rows ps) same
               it.finds.walk;
         };
         apart = rows_apart [] it.finds.rows tt it.finds.are (λ b none c. absurd none);

@@ -4,20 +4,11 @@ use Rattle.std.proofs.Common.{◌≡◌, ℕ, ◌<◌, ◌⊎◌, List, ◌∷�
 use Rattle.ist_core.specs.declared.states.LeafRow.{LeafRow}
 use Rattle.ist_core.specs.declared.states.InnerRow.{InnerRow}
 use Rattle.ist_core.specs.declared.states.RebuildRow.{RebuildRow}
-use Rattle.ist_core.specs.Arithmetic.{child_count}
-use Rattle.ist_core.specs.RowLayout.{anchor}
-use Rattle.ist_core.specs.Elements.{Among, Each, Distinct}
-use Rattle.ist_core.specs.Pieces.{Piece, Leaf, Inner, Rebuild, size_of}
-use Rattle.ist_core.specs.Snapshots.{Snapshot}
-use Rattle.ist_core.specs.Slots.{IsChildFor, of_anchor, of_row}
-use Rattle.ist_core.specs.Links.{IsChild}
-use Rattle.ist_core.proofs.NamingLemmas.{WordsName, IsRebuildFor, InnerHere}
-use Rattle.ist_core.proofs.HomeLemmas.{HasOneHome, mentioned_here}
-use Rattle.ist_core.proofs.MentionLemmas.{child_mentioned}
-use Rattle.ist_core.proofs.OrderLemmas.{child_above}
-use Rattle.ist_core.proofs.SlotLemmas.{no_row}
-use Rattle.ist_core.proofs.LeadingLemmas.{LiesIn}
-use Rattle.ist_core.proofs.OptionLemmas.{same_rebuild, same_leaf, same_inner}
+use Rattle.ist_core.specs.WordTerms.{child_count, anchor, Piece, Leaf, Inner, Rebuild, size_of, IsChildFor, of_anchor, of_row}
+use Rattle.ist_core.specs.LogTerms.{Among, Each, Distinct, Snapshot}
+use Rattle.ist_core.specs.TreeTerms.{IsChild}
+use Rattle.ist_core.proofs.AllPlaceLemmas.{WordsName, IsRebuildFor, InnerHere, HasOneHome, mentioned_here, child_mentioned, child_above, no_row, LiesIn}
+use Rattle.ist_core.proofs.AllWordLemmas.{same_rebuild, same_leaf, same_inner}
 use Rattle.ist_rest.specs.WordRows.{Span}
 
 -- the row hangs in the slot, as its child or as a rebuild for it
@@ -111,8 +102,7 @@ module _ (t : Snapshot) (o : WordsName t) (home : HasOneHome t) (free : t.pieces
     -- a row that hangs in a node isn't read below a greater one
     pub not_below : (n i b base m : ℕ) → HasHome t n i b → n < base → IsReadUnder t base m b → ⊥
     not_below n i b base m h less (row_under {m = q} {k = l} g u) =
-        let same = home_once n i q l b h g in
-        let e = same.0 in
+        let same = home_once n i q l b h g in let e = same.0 in
         ⊎_elim (λ x. omega arith) (λ x. omega arith) (up_low base m q l u)
     not_below n i b base m h less (leaf_under r e lies) = no_home n i b r e h
 
@@ -147,6 +137,5 @@ pub add_row : (t : Snapshot) (base size : ℕ) (p : Piece) (rows : List Span) �
     → AreRows t (record { base = base; size = size } ∷ rows)
 add_row t base size p rows e s new h = record {
   distinct = (new, h.distinct);
-  placed =
-      ((p, e, s), h.placed);
+  placed = ((p, e, s), h.placed);
 }

@@ -3,9 +3,9 @@
 use Rattle.std.proofs.Common.{◌≡◌, ℕ, ◌+◌, List, [], ◌∷◌, ◌++◌, Some, refl, sym, ap, ◌∙◌, subst, inr}
 use Rattle.std.proofs.lemmas.List.{append_assoc}
 use Rattle.ist_core.specs.declared.pairs.Pair.{Pair}
-use Rattle.ist_core.specs.References.{Ref, Empty, Unset, LeafAt, InnerAt, ChangeAt, RebuildAt}
-use Rattle.ist_core.specs.Elements.{Among, Each}
-use Rattle.ist_core.proofs.ElementLemmas.{each_append, each-among}
+use Rattle.ist_core.specs.WordTerms.{Ref, Empty, Unset, LeafAt, InnerAt, ChangeAt, RebuildAt}
+use Rattle.ist_core.specs.LogTerms.{Among, Each}
+use Rattle.ist_core.proofs.AllWordLemmas.{each_append, each-among}
 use Rattle.ist_rest.specs.WordRows.{Span, row_keys, row_slots, row_degree, leaf_key}
 use Rattle.ist_rest.specs.Walks.{Way, Visit, LeadsBy, IsGood, IsGoodAs, rows_read, pairs_read, visits_from, visits_below, Walks, ends, goes_on, AreApart}
 use Rattle.ist_rest.specs.RestingWords.{read_on, BreaksFirstAt, breaks, later}
@@ -28,22 +28,20 @@ pub record IsSplit (words : List ℕ) (xs ys : List Visit) (rows : List Span) (p
 pub split : (words : List ℕ) (zs : List Visit) (rows : List Span) (pairs : List Pair)
     → Walks words zs rows pairs
     → (xs ys : List Visit) → zs ≡ xs ++ ys → IsSplit words xs ys rows pairs
-split words zs rows pairs w [] ys e =
-    record {
-      rows_here = [];
-      rows_there = rows;
-      here = [];
-      there = pairs;
-      first = ends;
-      second = subst (λ vs. Walks words vs rows pairs) e w;
-      rows_are = refl;
-      pairs_are = refl;
-    }
+split words zs rows pairs w [] ys e = record {
+  rows_here = [];
+  rows_there = rows;
+  here = [];
+  there = pairs;
+  first = ends;
+  second = subst (λ vs. Walks words vs rows pairs) e w;
+  rows_are = refl;
+  pairs_are = refl;
+}
 split words _ _ _ ends (x ∷ xs) ys e = absurd (cc)
 split words _ _ _ (goes_on {visit = visit} {visits = visits} {rows = rows} {pairs = pairs} at w)
     (x ∷ xs) ys e =
-    let same : visit ≡ x = cc in
-    let more : visits ≡ xs ++ ys = cc in
+    let same : visit ≡ x = cc in let more : visits ≡ xs ++ ys = cc in
     let b = visits_below words visit at.ref in
     let it = split words (b ++ visits) rows pairs w (b ++ xs) ys (ap (λ vs. b ++ vs) more
     ∙ sym (append_assoc b xs ys)) in
@@ -71,29 +69,24 @@ same_ref words visit a b = let e : Some a.ref ≡ Some b.ref = sym a.reads.is �
 pub one_walk : (words : List ℕ) (zs : List Visit) (rows : List Span) (pairs : List Pair)
     → Walks words zs rows pairs
     → (ys : List Visit) (others : List Span) (more : List Pair) → zs ≡ ys → Walks words ys others
-    more
-    → (rows ≡ others) × (pairs ≡ more)
+    more → (rows ≡ others) × (pairs ≡ more)
 one_walk words _ _ _ ends _ _ _ e ends = (refl, refl)
 one_walk words _ _ _ ends _ _ _ e (goes_on at w) = absurd (cc)
 one_walk words _ _ _ (goes_on at w) _ _ _ e ends = absurd (cc)
 one_walk words _ _ _ (goes_on {visit = x} {visits = xs} {rows = rows} {pairs = pairs} at w) _ _ _
     e (goes_on {visit = y} {visits = ys} {rows = others} {pairs = more} also v) =
-    let first : x ≡ y = cc in
-    let rest : xs ≡ ys = cc in
+    let first : x ≡ y = cc in let rest : xs ≡ ys = cc in
     let Same : Visit → Type 0 = λ z. (good : IsGood words z) → at.ref ≡ good.ref in
     let ref : at.ref ≡ also.ref = subst Same first (λ good. same_ref words x at good) also in
     let it = one_walk words (visits_below words x at.ref ++ xs) rows pairs w
     (visits_below words y also.ref ++ ys) others more (cc) v in
-    let r = it.0 in
-    let p = it.1 in
-    (cc, cc)
+    let r = it.0 in let p = it.1 in (cc, cc)
 
 -- ---- where pairs lie
 
 -- what is found in a slot lies as each way to it says
 lies_here : (words : List ℕ) (visit : Visit) (way : Way) (ref : Ref) → IsGoodAs words visit ref
-    → Among way visit.ways
-    → Each (λ pair. LeadsBy pair.key way) (pairs_read words ref)
+    → Among way visit.ways → Each (λ pair. LeadsBy pair.key way) (pairs_read words ref)
 lies_here words visit way Empty h a = tt
 lies_here words visit way Unset h a = tt
 lies_here words visit way (LeafAt base) h a =
@@ -168,8 +161,7 @@ no_break words seen _ _ (breaks {visit = x} not) _ _ _ (goes_on {visit = visit} 
 no_break words seen _ _ (later at so more) _ _ _ ends e apart = cc
 no_break words seen _ place (later {visit = x} {visits = xs} good so more) _ _ _
     (goes_on {visit = visit} {visits = visits} {rows = rows} {pairs = pairs} at w) e apart =
-    let same : visit ≡ x = cc in
-    let rest : visits ≡ xs = cc in
+    let same : visit ≡ x = cc in let rest : visits ≡ xs = cc in
     let Same : Visit → Type 0 = λ v. (also : IsGood words v) → at.ref ≡ also.ref in
     let ref : at.ref ≡ good.ref = subst Same same (λ also. same_ref words visit at also) good in
     let read : rows_read words visit at.ref ≡ rows_read words x good.ref = cc in
@@ -199,8 +191,7 @@ one_break words seen _ place (later {visit = x} at so on) more _ _ (breaks {visi
     absurd (subst No same not at (subst (λ ss. AreApart ss (rows_read words x at.ref)) s so))
 one_break words seen _ place (later {visit = x} {visits = xs} at so on) more _ other
     (later {visit = y} {visits = ys} good also next) s e =
-    let same : x ≡ y = cc in
-    let rest : xs ≡ ys = cc in
+    let same : x ≡ y = cc in let rest : xs ≡ ys = cc in
     let Same : Visit → Type 0 = λ v. (g : IsGood words v) → at.ref ≡ g.ref in
     let ref : at.ref ≡ good.ref = subst Same same (λ g. same_ref words x at g) good in
     one_break words (read_on seen (rows_read words x at.ref)) (visits_below words x at.ref ++ xs)

@@ -6,31 +6,18 @@ use Rattle.std.proofs.lemmas.List.Sums.{sum_by-cons}
 use Rattle.ist_core.specs.declared.pairs.Pair.{Pair}
 use Rattle.ist_core.specs.declared.lists.HeldRow.{HeldRow}
 use Rattle.ist_core.specs.declared.events.Event.TheVariants.{Reserve}
-use Rattle.ist_core.specs.RowLayout.{next_place}
-use Rattle.ist_core.specs.Elements.{Among, Each}
-use Rattle.ist_core.specs.StartLayout.{start}
-use Rattle.ist_core.specs.Logs.{Log}
-use Rattle.ist_core.specs.Enabled.{Enabled}
-use Rattle.ist_core.specs.Lawful.{EachEnabled, Lawful, state_of}
-use Rattle.ist_core.specs.Authors.{Later}
-use Rattle.ist_core.specs.Shown.{shown_next}
 use Rattle.ist_core.specs.declared.events.Who.TheVariants.{Caller as CallerOf}
-use Rattle.ist_core.proofs.ElementLemmas.{among_left, among_right}
-use Rattle.ist_core.proofs.RoomLemmas.{words_same}
-use Rattle.ist_core.proofs.ShownLemmas.{next_word}
+use Rattle.ist_core.specs.WordTerms.{next_place, start}
+use Rattle.ist_core.specs.LogTerms.{Among, Each, Log, Enabled, EachEnabled, Lawful, state_of, Later, shown_next}
+use Rattle.ist_core.proofs.AllWordLemmas.{among_left, among_right}
+use Rattle.ist_core.proofs.AllLogLemmas.{words_same, next_word}
+use Rattle.ist_rule.specs.RuleTerms.{TokenFace, IsSound, now, GoesOnTo, CanMake}
 use Rattle.ist_rule.specs.declared.view.View.{View}
-use Rattle.ist_rule.specs.Faces.{TokenFace}
-use Rattle.ist_rule.specs.Rule.{IsSound}
-use Rattle.ist_rule.specs.Learning.{now, GoesOnTo}
-use Rattle.ist_rule.specs.Conditions.{CanMake}
 use Rattle.ist_rule.specs.Several.{with_events, made_after_all, ComeAt, CanExchangeAll}
 use Rattle.ist_rule.proofs.LaterLemmas.{later_more}
 use Rattle.ist_rule.proofs.ListLogLemmas.{enabled_before}
-use Rattle.ist_rule.proofs.GoingOnLemmas.{callers_later, may_come_before, goes_on_who}
-use Rattle.ist_rows.specs.declared.callers.Caller.{Caller}
-use Rattle.ist_rows.specs.Rows.{Spares, spares_of, IsCaller}
-use Rattle.ist_rows.specs.Building.{IsInBuild, HasTaken}
-use Rattle.ist_rows.specs.Block.{HoldsBlock, reservings, AreNext, ReservedAll, HasNoRoom, MayTakeAll}
+use Rattle.ist_rule.proofs.EventLemmas.{callers_later, may_come_before, goes_on_who}
+use Rattle.ist_rows.specs.RowTerms.{Caller, Spares, spares_of, IsCaller, IsInBuild, HasTaken, HoldsBlock, reservings, AreNext, ReservedAll, HasNoRoom, MayTakeAll}
 use Rattle.ist_rows.proofs.CallerLemmas.{IsCallerIn, caller_later, fair_inner}
 use Rattle.ist_rows.proofs.CallerGoingLemmas.{caller_refused}
 use Rattle.ist_rows.proofs.BuildingLemmas.{IsInBuildIn, at_later, next_fair, taken_inner, taken_at}
@@ -41,8 +28,7 @@ module _ (pairs : List Pair) (words number : ℕ) (own : Spares) (stuck rest : L
   -- rows of these sizes may be reserved at one step, if they fit
   pub come_all : (log : Log) → EachEnabled (start pairs words) log
       → number < (state_of pairs words log).callers
-      → IsCallerIn (state_of pairs words log) number own
-      → (done sizes : List ℕ)
+      → IsCallerIn (state_of pairs words log) number own → (done sizes : List ℕ)
       → IsInBuildIn (state_of pairs words log) number own stuck done (sizes ++ rest)
       → (base : ℕ) → base ≡ (state_of pairs words log).next
       → base + sum sizes ≤ (state_of pairs words log).words
@@ -135,8 +121,7 @@ none_made number base (size ∷ more) made = none_made number (base + size) more
 -- a caller may take all next rows of its build, whatever others do meanwhile
 pub may_take_all : (who : Caller) (sizes : List ℕ) → IsSound who.token.view → IsCaller who
     → AreNext who sizes → MayTakeAll who.token.view who.number sizes
-may_take_all who sizes s c n log m room =
-    let v = who.token.view in
+may_take_all who sizes s c n log m room = let v = who.token.view in
     let l = subst (λ w. Later w v.log log) c.mine m.later in
     let h = at_later v.start v.words v.log log who.number (spares_of who) n.stuck n.done
     (sizes ++ n.rest) m.lawful l
@@ -182,17 +167,16 @@ length-reservings number base (size ∷ more) =
 pub can_reserve_all : (v : View) (number old : ℕ) (sizes : List ℕ) → v.who ≡ CallerOf number
     → 1 ≤ length sizes → old + sum sizes ≤ v.words → MayTakeAll v number sizes
     → CanExchangeAll v next_place old (old + sum sizes) (reservings number old sizes)
-can_reserve_all v number old sizes who several room fair =
-    record {
-      some = let it = length-reservings number old sizes in omega arith;
-      make = make_all v.who number old sizes who;
-      known = λ log m. ((state_of v.start v.words log).next, shown_next);
-      comes = λ log m shown.
-          let is = next_word v.start v.words log m.lawful.enabled next_place old shown refl in
-          let all = words_same v.start v.words m.lawful.opens log in
-          subst (λ n. ComeAt v.start v.words log (reservings number n sizes) next_place n
-          (n + sum sizes)) (sym is) (fair log m (omega arith));
-    }
+can_reserve_all v number old sizes who several room fair = record {
+  some = let it = length-reservings number old sizes in omega arith;
+  make = make_all v.who number old sizes who;
+  known = λ log m. ((state_of v.start v.words log).next, shown_next);
+  comes = λ log m shown.
+      let is = next_word v.start v.words log m.lawful.enabled next_place old shown refl in
+      let all = words_same v.start v.words m.lawful.opens log in
+      subst (λ n. ComeAt v.start v.words log (reservings number n sizes) next_place n
+      (n + sum sizes)) (sym is) (fair log m (omega arith));
+}
 
 -- ---- a caller that reserved them
 
@@ -207,13 +191,11 @@ pub record TookAll (v : View) (number base : ℕ) (sizes : List ℕ) (w : View) 
 -- a token that reserved these rows has such a log
 pub took_all : (v : View) (number base : ℕ) (sizes : List ℕ) (w : View)
     → ReservedAll v number base sizes w → TookAll v number base sizes w
-took_all v number base sizes w r =
-    let l = r.reserved in
+took_all v number base sizes w r = let l = r.reserved in
     let log = with_events (reservings number base sizes) l.before in
     let start_is : w.start ≡ v.start = ap (λ x. x.start) l.view ∙ ap (λ x. x.start) r.seen.same in
     let words_is : w.words ≡ v.words = ap (λ x. x.words) l.view ∙ ap (λ x. x.words) r.seen.same in
-    let log_is : w.log ≡ log = ap (λ x. x.log) l.view in
-    record {
+    let log_is : w.log ≡ log = ap (λ x. x.log) l.view in record {
       before = l.before;
       lawful = subst (λ p. Lawful p v.words log) start_is
           (subst (λ n. Lawful w.start n log) words_is
@@ -259,20 +241,17 @@ module _ (who : Caller) (token : TokenFace) (base : ℕ) (sizes : List ℕ) (c :
 
   -- a caller that took the rows is a caller
   pub caller_took_all : AreNext who sizes → IsCaller (record who { token = token })
-  caller_took_all n =
-      let there = (both n.stuck n.done n.rest n.at).0 in
+  caller_took_all n = let there = (both n.stuck n.done n.rest n.at).0 in
       record { mine = it.who_is ∙ c.mine; rows = there.rows; builds = there.builds }
 
   -- the caller has taken the rows
   pub has_taken_all : HasTaken who sizes (record who { token = token })
-  has_taken_all stuck done rest h =
-      let there = (both stuck done rest h).1 in
+  has_taken_all stuck done rest h = let there = (both stuck done rest h).1 in
       record { sizes = there.sizes; all_stuck = there.all_stuck; building = there.building }
 
   -- the caller holds the rows
   pub holds_them : HoldsBlock (now token.view) who.number base sizes
-  holds_them =
-      subst (λ t. HoldsBlock t who.number base sizes) (sym it.now_is)
+  holds_them = subst (λ t. HoldsBlock t who.number base sizes) (sym it.now_is)
       (holds_all v.start v.words who.number it.before sizes base)
 
 -- ---- what a reserving of all returns
@@ -285,8 +264,7 @@ pub caller_after_all : (who : Caller) (token : TokenFace) (words asked : ℕ) (s
     → IsCaller (record who { token = token })
 caller_after_all who token words asked sizes (Some base) c n ok none =
     caller_took_all who token base sizes c ok n
-caller_after_all who token words asked sizes None c n ok none =
-    let it = none refl in
+caller_after_all who token words asked sizes None c n ok none = let it = none refl in
     caller_refused who token words asked it.0 c it.1
 
 -- if it returns a base, the caller has taken the rows

@@ -2,17 +2,13 @@
 -- and the crates above.
 use Rattle.std.proofs.Common.{◌≡◌, ℕ, List, [], ◌∷◌, ◌++◌, Result, Ok, Err, IfOk, IfErr, sym, ap, ◌∙◌, subst, arith}
 use Rattle.ist_core.specs.declared.ports.Full.{Full}
-use Rattle.ist_core.specs.Lawful.{Lawful, state_of}
-use Rattle.ist_core.proofs.RoomLemmas.{words_same}
-use Rattle.ist_rule.specs.declared.view.View.{View}
 use Rattle.ist_core.specs.declared.events.Who.TheVariants.{Caller as CallerOf}
-use Rattle.ist_core.specs.Authors.{Later}
-use Rattle.ist_rule.specs.Faces.{TokenFace}
-use Rattle.ist_rule.specs.Learning.{now, GoesOnTo, storing}
+use Rattle.ist_core.specs.LogTerms.{Lawful, state_of, Later}
+use Rattle.ist_core.proofs.AllLogLemmas.{words_same}
+use Rattle.ist_rule.specs.RuleTerms.{TokenFace, now, GoesOnTo, storing}
+use Rattle.ist_rule.specs.declared.view.View.{View}
 use Rattle.ist_rule.proofs.WentOnLemmas.{goes_on_now}
-use Rattle.ist_rows.specs.declared.callers.Caller.{Caller}
-use Rattle.ist_rows.specs.Rows.{spares_of, IsCaller, Reserved, IsFull}
-use Rattle.ist_rows.specs.Building.{AreStuck, IsInBuild, IsNext, HasTaken, HasRefused}
+use Rattle.ist_rows.specs.RowTerms.{Caller, spares_of, IsCaller, Reserved, IsFull, AreStuck, IsInBuild, IsNext, HasTaken, HasRefused}
 use Rattle.ist_rows.proofs.CallerLemmas.{IsCallerIn, caller_later}
 use Rattle.ist_rows.proofs.CallerGoingLemmas.{caller_refused}
 use Rattle.ist_rows.proofs.ReserveLemmas.{Took, looked_next, took}
@@ -74,8 +70,7 @@ module _ (who : Caller) (token : TokenFace) (base size : ℕ) (c : IsCaller who)
 pub at_goes_on : (who : Caller) (token : TokenFace) (stuck done rest : List ℕ) → IsCaller who
     → GoesOnTo who.token.view token.view → IsInBuild who stuck done rest
     → IsInBuild (record who { token = token }) stuck done rest
-at_goes_on who token stuck done rest c g h =
-    let v = who.token.view in
+at_goes_on who token stuck done rest c g h = let v = who.token.view in
     let lawful : Lawful v.start v.words token.view.log =
     subst (λ p. Lawful p v.words token.view.log) (ap (λ x. x.start) g.same)
     (subst (λ n. Lawful token.view.start n token.view.log) (ap (λ x. x.words) g.same)
@@ -100,17 +95,13 @@ pub refused : (who : Caller) (token : TokenFace) (words size : ℕ) (full : Full
     → words ≡ who.token.view.words
     → IsNext who size → IsFull who.token.view words size full token.view
     → HasRefused (record who { token = token })
-refused who token words size full c words_is n f =
-    let v = who.token.view in
-    let w = token.view in
+refused who token words size full c words_is n f = let v = who.token.view in let w = token.view in
     let g = short_goes_on v words full w f in
     let h = at_goes_on who token n.stuck n.done (size ∷ n.rest) c g n.at in
     let next = looked_next f.before full.next w f.looked in
     let all = words_same w.start w.words g.sound.lawful.opens w.log in
-    let same = ap (λ (x : View). x.words) g.same in
-    let small = f.few.small in
-    let asked = f.few.asked in
-    subst (AreStuck (now w)) (sym h.sizes)
+    let same = ap (λ (x : View). x.words) g.same in let small = f.few.small in
+    let asked = f.few.asked in subst (AreStuck (now w)) (sym h.sizes)
     (stuck_last (now w) n.stuck n.done h.all_stuck record {
       next_size = size;
       rest = n.rest;

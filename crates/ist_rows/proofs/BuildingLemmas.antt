@@ -6,27 +6,18 @@ use Rattle.std.proofs.lemmas.List.Elements.{filter-append}
 use Rattle.ist_core.specs.declared.pairs.Pair.{Pair}
 use Rattle.ist_core.specs.declared.lists.HeldRow.{HeldRow}
 use Rattle.ist_core.specs.declared.events.Event.TheVariants.{Reserve}
-use Rattle.ist_core.specs.Snapshots.{Snapshot}
-use Rattle.ist_core.specs.StartLayout.{start}
-use Rattle.ist_core.specs.Fairness.{IsBuilding, IsStuck, AreBuilds, last_build, stuck_build}
-use Rattle.ist_core.specs.Logs.{Log}
-use Rattle.ist_core.specs.Lawful.{EachEnabled, Lawful, state_of}
-use Rattle.ist_core.proofs.ElementLemmas.{among_left}
-use Rattle.ist_core.proofs.GrowingLemmas.{all_grow_same}
-use Rattle.ist_core.proofs.SoundLemmas.{sound}
-use Rattle.ist_core.proofs.StartLemmas.{sound_start}
 use Rattle.ist_core.specs.declared.events.Who.TheVariants.{Caller as CallerOf}
-use Rattle.ist_core.specs.Authors.{Later}
-use Rattle.ist_rule.specs.Rule.{IsSound}
-use Rattle.ist_rows.specs.declared.callers.Caller.{Caller}
-use Rattle.ist_rows.specs.Kinds.{kind_words}
-use Rattle.ist_rows.specs.Rows.{Spares, spares_of, is_spare, held_by, build_sizes, IsCaller}
-use Rattle.ist_rows.specs.Building.{AreStuck, none_stuck, stuck_more, IsNext}
-use Rattle.ist_rows.specs.Fairly.{MayTake}
-use Rattle.ist_rows.proofs.BuildLemmas.{ComesAfter, building_on, stuck_on, builds_on}
+use Rattle.ist_core.specs.LogTerms.{Snapshot, IsBuilding, IsStuck, AreBuilds, last_build, stuck_build, Log, EachEnabled, Lawful, state_of, Later}
+use Rattle.ist_core.specs.WordTerms.{start}
+use Rattle.ist_core.proofs.AllWordLemmas.{among_left}
+use Rattle.ist_core.proofs.AllLogLemmas.{all_grow_same}
+use Rattle.ist_core.proofs.AllEventLemmas.{sound, sound_start}
+use Rattle.ist_rule.specs.RuleTerms.{IsSound}
+use Rattle.ist_rows.specs.RowTerms.{Caller, kind_words, Spares, spares_of, is_spare, held_by, build_sizes, IsCaller, AreStuck, none_stuck, stuck_more, IsNext, MayTake}
+use Rattle.ist_rows.proofs.ReserveLemmas.{ComesAfter, building_on, stuck_on, builds_on}
 use Rattle.ist_rows.proofs.CallerLemmas.{IsCallerIn, caller_later, comes_after, spare_kind, fair_inner}
 use Rattle.ist_rows.proofs.CallerGoingLemmas.{base_same}
-use Rattle.ist_rows.proofs.HeldListLemmas.{held_by_later}
+use Rattle.ist_rows.proofs.ShortLemmas.{held_by_later}
 
 -- ---- stuck builds
 
@@ -68,10 +59,8 @@ pub at_later : (pairs : List Pair) (words : ℕ) (old log : Log) (number : ℕ) 
     → IsInBuildIn (state_of pairs words old) number own stuck done rest
     → IsInBuildIn (state_of pairs words log) number own stuck done rest
 at_later pairs words old log number own stuck done rest lawful l h =
-    let b = comes_after pairs words number old log lawful l in
-    let t = state_of pairs words old in
-    let u = state_of pairs words log in
-    record {
+    let b = comes_after pairs words number old log lawful l in let t = state_of pairs words old in
+    let u = state_of pairs words log in record {
       sizes = ap (λ held. map (λ (h : HeldRow). h.size)
           (filter (λ h. not (is_spare own h.base)) held))
           (held_by_later pairs words number old log lawful.enabled l) ∙ h.sizes;
@@ -98,8 +87,7 @@ next_fair pairs words log enabled number own stuck done rest size c h =
 -- a caller may take the next row of its build, whatever others do meanwhile
 pub may_take_inner : (who : Caller) (size : ℕ) → IsSound who.token.view → IsCaller who
     → IsNext who size → MayTake who.token.view who.number size
-may_take_inner who size s c n log m =
-    let v = who.token.view in
+may_take_inner who size s c n log m = let v = who.token.view in
     let l = subst (λ w. Later w v.log log) c.mine m.later in
     let h = at_later v.start v.words v.log log who.number (spares_of who) n.stuck n.done
     (size ∷ n.rest) m.lawful l
@@ -132,8 +120,7 @@ module _ (pairs : List Pair) (words : ℕ) (log : Log) (number : ℕ) (own : Spa
   }
 
   held_now : held_by u number ≡ held_by t number ++ new_row ∷ []
-  held_now =
-      filter-append (λ (h : HeldRow). h.caller == number) t.held (new_row ∷ [])
+  held_now = filter-append (λ (h : HeldRow). h.caller == number) t.held (new_row ∷ [])
       ∙ ap (λ b. held_by t number ++ (if b then new_row ∷ [] else [])) (base_same number)
 
   -- the new row is no spare one: it lies above all that is held
@@ -142,12 +129,10 @@ module _ (pairs : List Pair) (words : ℕ) (log : Log) (number : ℕ) (own : Spa
     where
       at : (b : Bool) → is_spare own base ≡ b → is_spare own base ≡ false
       at false e = e
-      at true e =
-          let k = spare_kind own base e in
+      at true e = let k = spare_kind own base e in
           let low = (sound (start pairs words) log (sound_start pairs words) enabled.0).held_below
           record { caller = number; base = base; size = kind_words k.0 } (c.rows k.0 base k.1) in
-          let at_next = enabled.1.base_is in
-          absurd (omega arith)
+          let at_next = enabled.1.base_is in absurd (omega arith)
 
   sizes_now : build_sizes u number own ≡ build_sizes t number own ++ size ∷ []
   sizes_now =
@@ -162,22 +147,19 @@ module _ (pairs : List Pair) (words : ℕ) (log : Log) (number : ℕ) (own : Spa
 
   -- the caller is still a caller, if what it holds then are builds
   pub taken_inner : AreBuilds t (build_sizes t number own ++ size ∷ []) → IsCallerIn u number own
-  taken_inner builds =
-      record {
-        rows = λ kind b e. among_left record { caller = number; base = b; size = kind_words kind }
-            t.held (new_row ∷ []) (c.rows kind b e);
-        builds = builds_on t u following (build_sizes u number own)
-            (subst (AreBuilds t) (sym sizes_now) builds);
-      }
+  taken_inner builds = record {
+    rows = λ kind b e. among_left record { caller = number; base = b; size = kind_words kind }
+        t.held (new_row ∷ []) (c.rows kind b e);
+    builds = builds_on t u following (build_sizes u number own)
+        (subst (AreBuilds t) (sym sizes_now) builds);
+  }
 
   -- the caller is at the row after that one
   pub taken_at : (stuck done rest : List ℕ) → IsInBuildIn t number own stuck done (size ∷ rest)
       → IsInBuildIn u number own stuck (done ++ size ∷ []) rest
-  taken_at stuck done rest h =
-      record {
-        sizes = sizes_now ∙ ap (λ xs. xs ++ size ∷ []) h.sizes
-            ∙ append_assoc stuck done (size ∷ []);
-        all_stuck = all_stuck_on t u following stuck h.all_stuck;
-        building = building_on t u following ((done ++ size ∷ []) ++ rest)
-            (subst (IsBuilding t) (sym (append_assoc done (size ∷ []) rest)) h.building);
-      }
+  taken_at stuck done rest h = record {
+    sizes = sizes_now ∙ ap (λ xs. xs ++ size ∷ []) h.sizes ∙ append_assoc stuck done (size ∷ []);
+    all_stuck = all_stuck_on t u following stuck h.all_stuck;
+    building = building_on t u following ((done ++ size ∷ []) ++ rest)
+        (subst (IsBuilding t) (sym (append_assoc done (size ∷ []) rest)) h.building);
+  }

@@ -8,36 +8,20 @@ use Rattle.ist_core.specs.declared.pairs.Pair.{Pair}
 use Rattle.ist_core.specs.declared.lists.HeldRow.{HeldRow}
 use Rattle.ist_core.specs.declared.ports.Full.{Full}
 use Rattle.ist_core.specs.declared.events.Event.TheVariants.{Reserve}
-use Rattle.ist_core.specs.RowLayout.{place_limit}
-use Rattle.ist_core.specs.Elements.{Among}
-use Rattle.ist_core.specs.Snapshots.{Snapshot, HoldsRow}
-use Rattle.ist_core.specs.StartLayout.{start}
-use Rattle.ist_core.specs.Fairness.{AreBuilds}
-use Rattle.ist_core.specs.Logs.{Log}
-use Rattle.ist_core.specs.Lawful.{EachEnabled, Lawful, state_of}
-use Rattle.ist_core.proofs.ElementLemmas.{among-filter, among_left, among_right}
-use Rattle.ist_core.proofs.SoundLemmas.{sound}
-use Rattle.ist_core.proofs.StartLemmas.{sound_start}
-use Rattle.ist_core.proofs.RoomLemmas.{next_within, words_same}
-use Rattle.ist_core.proofs.GrowingLemmas.{all_grow_same}
-use Rattle.ist_rule.specs.declared.view.View.{View}
 use Rattle.ist_core.specs.declared.events.Who.TheVariants.{Caller as CallerOf}
-use Rattle.ist_core.specs.Authors.{Later}
-use Rattle.ist_rule.specs.Rule.{IsSound}
-use Rattle.ist_rule.specs.Faces.{TokenFace}
-use Rattle.ist_rule.specs.Learning.{now, GoesOnTo}
-use Rattle.ist_rule.specs.Conditions.{IsOwn}
+use Rattle.ist_core.specs.WordTerms.{place_limit, start}
+use Rattle.ist_core.specs.LogTerms.{Among, Snapshot, HoldsRow, AreBuilds, Log, EachEnabled, Lawful, state_of, Later}
+use Rattle.ist_core.proofs.AllWordLemmas.{among-filter, among_left, among_right}
+use Rattle.ist_core.proofs.AllEventLemmas.{sound, sound_start}
+use Rattle.ist_core.proofs.AllLogLemmas.{next_within, words_same, all_grow_same}
+use Rattle.ist_rule.specs.RuleTerms.{IsSound, TokenFace, now, GoesOnTo, IsOwn}
+use Rattle.ist_rule.specs.declared.view.View.{View}
 use Rattle.ist_rule.proofs.ShownLemmas.{held_loose}
-use Rattle.ist_rule.proofs.GoingOnLemmas.{goes_on_who}
+use Rattle.ist_rule.proofs.EventLemmas.{goes_on_who}
 use Rattle.ist_rule.proofs.WentOnLemmas.{goes_on_now}
-use Rattle.ist_rows.specs.declared.callers.Caller.{Caller}
-use Rattle.ist_rows.specs.declared.kinds.Kind.{Kind}
-use Rattle.ist_rows.specs.declared.kinds.Kind.TheVariants.{Leaf, Pair as PairKind, Change, Rebuild}
-use Rattle.ist_rows.specs.Kinds.{kind_words}
-use Rattle.ist_rows.specs.Rows.{Spares, spares_of, row_of, with_spare, is_base, is_spare, held_by, build_sizes, IsCaller, Reserved, IsFull, HoldsPlace}
-use Rattle.ist_rows.proofs.BuildLemmas.{ComesAfter, builds_on}
+use Rattle.ist_rows.specs.RowTerms.{Caller, Kind, Leaf, Pair as PairKind, Change, Rebuild, kind_words, Spares, spares_of, row_of, with_spare, is_base, is_spare, held_by, build_sizes, IsCaller, Reserved, IsFull, HoldsPlace}
+use Rattle.ist_rows.proofs.ReserveLemmas.{ComesAfter, builds_on, took}
 use Rattle.ist_rows.proofs.CallerLemmas.{IsCallerIn, caller_later}
-use Rattle.ist_rows.proofs.ReserveLemmas.{took}
 use Rattle.ist_rows.proofs.ShortLemmas.{short_goes_on}
 
 -- ---- a caller's token goes on
@@ -45,16 +29,14 @@ use Rattle.ist_rows.proofs.ShortLemmas.{short_goes_on}
 -- a caller whose token made loads is a caller
 pub caller_goes_on : (who : Caller) (token : TokenFace) → IsCaller who
     → GoesOnTo who.token.view token.view → IsCaller (record who { token = token })
-caller_goes_on who token c g =
-    let v = who.token.view in
+caller_goes_on who token c g = let v = who.token.view in
     let lawful : Lawful v.start v.words token.view.log =
     subst (λ p. Lawful p v.words token.view.log) (ap (λ x. x.start) g.same)
     (subst (λ n. Lawful token.view.start n token.view.log) (ap (λ x. x.words) g.same)
     g.sound.lawful) in
     let it = caller_later v.start v.words v.log token.view.log who.number (spares_of who) lawful
     (subst (λ w. Later w v.log token.view.log) c.mine g.later) record {
-      rows =
-          c.rows;
+      rows = c.rows;
       builds = c.builds;
     } in
     let there = subst (λ t. IsCallerIn t who.number (spares_of who)) (sym (goes_on_now v token.view g))
@@ -101,8 +83,7 @@ spare_here own Change base =
     (is_base own.leaf base)
 spare_here own Rebuild base =
     ap (λ a. is_base own.leaf base || (is_base own.pair base || (is_base own.change base || a)))
-    (base_same base)
-    ∙ ap (λ a. is_base own.leaf base || (is_base own.pair base || a))
+    (base_same base) ∙ ap (λ a. is_base own.leaf base || (is_base own.pair base || a))
     (or_any (is_base own.change base))
     ∙ ap (λ a. is_base own.leaf base || a) (or_any (is_base own.pair base)) ∙ or_any
     (is_base own.leaf base)
@@ -111,8 +92,7 @@ spare_here own Rebuild base =
 pub filter_same : {A : Type 0} (p q : A → Bool) (xs : List A) → ((x : A) → Among x xs → p x ≡ q x)
     → filter p xs ≡ filter q xs
 filter_same p q [] h = refl
-filter_same p q (x ∷ xs) h =
-    ap₂ (λ b ys. if b then x ∷ ys else ys) (h x (inl refl))
+filter_same p q (x ∷ xs) h = ap₂ (λ b ys. if b then x ∷ ys else ys) (h x (inl refl))
     (filter_same p q xs (λ y i. h y (inr i)))
 
 -- the row of a kind, if one of a kind is taken
@@ -140,17 +120,14 @@ module _ (pairs : List Pair) (words : ℕ) (log : Log) (number : ℕ) (own : Spa
   new_row = record { caller = number; base = base; size = kind_words kind }
 
   held_now : held_by u number ≡ held_by t number ++ new_row ∷ []
-  held_now =
-      filter-append (λ (h : HeldRow). h.caller == number) t.held (new_row ∷ [])
+  held_now = filter-append (λ (h : HeldRow). h.caller == number) t.held (new_row ∷ [])
       ∙ ap (λ b. held_by t number ++ (if b then new_row ∷ [] else [])) (base_same number)
 
   old_base : (h : HeldRow) → Among h (held_by t number) → base ≢ h.base
-  old_base h i same =
-      let it = among-filter (λ (x : HeldRow). x.caller == number) h t.held i in
+  old_base h i same = let it = among-filter (λ (x : HeldRow). x.caller == number) h t.held i in
       let low = (sound (start pairs words) log (sound_start pairs words) enabled.0).held_below h
       it.0 in
-      let at_next = enabled.1.base_is in
-      omega arith
+      let at_next = enabled.1.base_is in omega arith
 
   -- the row is a spare, so the sizes of its builds are as they were
   pub sizes_taken : build_sizes u number (with_spare kind base own) ≡ build_sizes t number own
@@ -171,39 +148,33 @@ module _ (pairs : List Pair) (words : ℕ) (log : Log) (number : ℕ) (own : Spa
   following = let at_next = enabled.1.base_is in record {
     words = refl;
     next = omega arith;
-    grow =
-        all_grow_same t.pieces;
+    grow = all_grow_same t.pieces;
   }
 
   -- a caller that reserved a row is a caller with that row
   pub taken_caller : IsCallerIn t number own → IsCallerIn u number (with_spare kind base own)
-  taken_caller c =
-      record {
-        rows = λ other b e.
-            ⊎_elim
-            (λ k. subst (λ x. HoldsRow u number x (kind_words other)) k.1
-            (subst (λ x. HoldsRow u number base (kind_words x)) k.0
-            (among_right new_row t.held (new_row ∷ []) (inl refl))))
-            (λ k. among_left record {
-              caller = number;
-              base = b;
-              size =
-                  kind_words other;
-            } t.held (new_row ∷ []) (c.rows other b k))
-            (row_taken own kind other base b e);
-        builds = builds_on t u following (build_sizes u number (with_spare kind base own))
-            (subst (AreBuilds t) (sym sizes_taken) c.builds);
-      }
+  taken_caller c = record {
+    rows = λ other b e. ⊎_elim
+        (λ k. subst (λ x. HoldsRow u number x (kind_words other)) k.1
+        (subst (λ x. HoldsRow u number base (kind_words x)) k.0
+        (among_right new_row t.held (new_row ∷ []) (inl refl))))
+        (λ k. among_left record {
+          caller = number;
+          base = b;
+          size = kind_words other;
+        } t.held (new_row ∷ []) (c.rows other b k))
+        (row_taken own kind other base b e);
+    builds = builds_on t u following (build_sizes u number (with_spare kind base own))
+        (subst (AreBuilds t) (sym sizes_taken) c.builds);
+  }
 
 -- a caller that reserved a row is a caller with that row
 pub caller_reserved : (old new : Caller) (kind : Kind) (base : ℕ) → IsCaller old
     → row_of kind (spares_of old) ≡ None
     → Reserved old.token.view old.number base (kind_words kind) new.token.view
     → new.number ≡ old.number → spares_of new ≡ with_spare kind base (spares_of old) → IsCaller new
-caller_reserved old new kind base c none r number rows =
-    let v = old.token.view in
-    let w = new.token.view in
-    let it = took v old.number base (kind_words kind) w r in
+caller_reserved old new kind base c none r number rows = let v = old.token.view in
+    let w = new.token.view in let it = took v old.number base (kind_words kind) w r in
     let before = caller_later v.start v.words v.log it.before old.number (spares_of old)
     record { opens = it.lawful.opens; enabled = it.lawful.enabled.0 }
     (subst (λ x. Later x v.log it.before) c.mine it.later)
@@ -223,11 +194,9 @@ caller_reserved old new kind base c none r number rows =
 -- a word of an own row lies within the table
 pub place_low : (who : Caller) (base at : ℕ) → IsSound who.token.view → IsCaller who
     → HoldsPlace who base at → IsOwn who.token.view (base + at) × (base + at < who.token.view.words)
-place_low who base at s c h =
-    let v = who.token.view in
+place_low who base at s c h = let v = who.token.view in
     let loose = held_loose v.start v.words v.log s.lawful.enabled record {
-      caller =
-          who.number;
+      caller = who.number;
       base = base;
       size = h.size;
     } h.held at h.within in
@@ -236,8 +205,7 @@ place_low who base at s c h =
     let all = words_same v.start v.words s.lawful.opens v.log in (
       record {
         row = record { caller = who.number; base = base; size = h.size };
-        held =
-            h.held;
+        held = h.held;
         mine = c.mine;
         offset = at;
         within = h.within;

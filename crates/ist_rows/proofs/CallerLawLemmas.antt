@@ -1,36 +1,28 @@
 -- A caller whose token went on by its own events, in terms of its views. Serves `laws`.
-use Rattle.std.proofs.Common.{◌≡◌, ℕ, not, List, ◌∷◌, map, filter, sym, ap, ◌∙◌, subst, inl, inr}
+use Rattle.std.proofs.Common.{◌≡◌, ℕ, not, List, ◌∷◌, map, filter, sym, ap, ◌∙◌, subst, inl, inr, None}
 use Rattle.ist_core.specs.declared.events.Event.{Event}
 use Rattle.ist_core.specs.declared.lists.HeldRow.{HeldRow}
 use Rattle.ist_core.specs.declared.pairs.Pair.{Pair}
-use Rattle.ist_core.specs.Authors.{no_more, one_more, whose, Later, LaterBy}
-use Rattle.ist_core.specs.Deciding.{AllResolvedOf}
-use Rattle.ist_core.specs.Lawful.{EachEnabled, Lawful, state_of}
-use Rattle.ist_core.specs.Logs.{Log, same_log, one_event}
-use Rattle.ist_core.specs.StartLayout.{start}
-use Rattle.ist_rule.specs.declared.view.View.{View}
 use Rattle.ist_core.specs.declared.events.Who.TheVariants.{Caller as CallerOf}
-use Rattle.ist_rule.specs.Conditions.{IsResolved}
-use Rattle.ist_rule.specs.Faces.{TokenFace}
-use Rattle.ist_rule.specs.Going.{WentOn}
-use Rattle.ist_rule.specs.Learning.{now, Logged, LoggedLoad, Turned, searching}
-use Rattle.ist_rule.specs.Rule.{IsSound}
+use Rattle.ist_core.specs.declared.events.Event.TheVariants.{Reserve}
+use Rattle.ist_core.specs.LogTerms.{no_more, one_more, whose, Later, LaterBy, EachEnabled, Lawful, state_of, Log, same_log, one_event, Snapshot}
+use Rattle.ist_core.specs.TreeTerms.{AllResolvedOf}
+use Rattle.ist_core.specs.WordTerms.{start}
+use Rattle.ist_rule.specs.RuleTerms.{IsResolved, TokenFace, WentOn, now, Logged, LoggedLoad, Turned, searching, IsSound}
+use Rattle.ist_rule.specs.declared.view.View.{View}
 use Rattle.ist_rule.proofs.CallLemmas.{installs_not}
 use Rattle.ist_rule.proofs.LaterLemmas.{later-goes_on}
 use Rattle.ist_rule.proofs.UndecidedLemmas.{resolved_on}
 use Rattle.ist_rule.proofs.WentOnLemmas.{later_by-goes_on, went_who, went_now, went_lawful}
 use Rattle.ist_rule.proofs.SearchedOnLemmas.{searching_on}
-use Rattle.ist_rows.specs.declared.callers.Caller.{Caller}
-use Rattle.ist_rows.specs.declared.kinds.Kind.{Kind}
-use Rattle.ist_rows.specs.Rows.{spares_of, is_spare, held_by, build_sizes, IsCaller}
-use Rattle.ist_rows.specs.Building.{AreStuck, HasRefused}
-use Rattle.ist_rows.specs.CallerLaws.{KeepsRows, InstallsNone, held_after, GivesUp, AreBasesOf, without_rows, IsWithout}
-use Rattle.ist_rows.proofs.BuildLemmas.{ComesAfter}
+use Rattle.ist_rows.specs.RowTerms.{Caller, Kind, spares_of, is_spare, held_by, build_sizes, IsCaller, AreStuck, HasRefused, KeepsRows, InstallsNone, held_after, GivesUp, AreBasesOf, without_rows, IsWithout, sizes_built, kind_words, Spares, row_of, with_spare, Reserved}
+use Rattle.ist_rows.proofs.ReserveLemmas.{ComesAfter, Took, took}
 use Rattle.ist_rows.proofs.BuildingLemmas.{all_stuck_on}
 use Rattle.ist_rows.proofs.CallerLemmas.{IsCallerIn, caller_later}
 use Rattle.ist_rows.proofs.GivenRowsLemmas.{sizes_given, caller_given}
 use Rattle.ist_rows.proofs.HeldAfterLemmas.{held_by_own, held_by_went, after_between, caller_between}
-use Rattle.ist_rows.proofs.HeldListLemmas.{held_by_later}
+use Rattle.ist_rows.proofs.ShortLemmas.{held_by_later}
+use Rattle.ist_rows.proofs.CallerGoingLemmas.{sizes_taken}
 
 -- ---- many events
 
@@ -38,8 +30,7 @@ use Rattle.ist_rows.proofs.HeldListLemmas.{held_by_later}
 same_held : (who : Caller) (token : TokenFace) → IsCaller who
     → WentOn KeepsRows who.token.view token.view
     → held_by (now token.view) who.number ≡ held_by (now who.token.view) who.number
-same_held who token c g =
-    let v = who.token.view in
+same_held who token c g = let v = who.token.view in
     ap (λ t. held_by t who.number) (went_now KeepsRows v token.view g)
     ∙ held_by_went v.start v.words who.number v.log token.view.log
     (went_lawful KeepsRows v token.view g).enabled
@@ -48,16 +39,13 @@ same_held who token c g =
 -- a caller whose token went on by events that keep rows is still a caller
 pub caller_went : (who : Caller) (token : TokenFace) → IsCaller who
     → WentOn KeepsRows who.token.view token.view → IsCaller (record who { token = token })
-caller_went who token c g =
-    let v = who.token.view in
+caller_went who token c g = let v = who.token.view in
     let lawful = went_lawful KeepsRows v token.view g in
     let is = went_now KeepsRows v token.view g in
     let it = caller_between v.start v.words v.log token.view.log who.number (spares_of who) lawful
-    (later_by-goes_on g.later)
-    (ap (λ t. held_by t who.number) (sym is) ∙ same_held who token c g)
+    (later_by-goes_on g.later) (ap (λ t. held_by t who.number) (sym is) ∙ same_held who token c g)
     record { rows = c.rows; builds = c.builds } in
-    let there = subst (λ t. IsCallerIn t who.number (spares_of who)) (sym is) it in
-    record {
+    let there = subst (λ t. IsCallerIn t who.number (spares_of who)) (sym is) it in record {
       mine = went_who KeepsRows v token.view g ∙ c.mine;
       rows = there.rows;
       builds = there.builds;
@@ -66,8 +54,7 @@ caller_went who token c g =
 -- the refused builds of such a caller are still refused
 pub refused_went : (who : Caller) (token : TokenFace) → IsCaller who → HasRefused who
     → WentOn KeepsRows who.token.view token.view → HasRefused (record who { token = token })
-refused_went who token c r g =
-    let v = who.token.view in
+refused_went who token c r g = let v = who.token.view in
     let lawful = went_lawful KeepsRows v token.view g in
     let following = subst (ComesAfter (now v)) (sym (went_now KeepsRows v token.view g))
     (after_between v.start v.words v.log token.view.log lawful (later_by-goes_on g.later)) in
@@ -108,33 +95,28 @@ pub record HasLogged (v : View) (event : Event) (before : Log) (w : View) : Type
 -- a token that logged an event has made it
 pub logged_made : (v : View) (event : Event) (w : View) (l : Logged v event w)
     → HasLogged v event l.before w
-logged_made v event w l =
-    let s = subst IsSound l.view l.sound in
-    record {
-      later = l.later;
-      lawful = s.lawful;
-      now_is = ap now l.view;
-      who_is = ap (λ x. x.who) l.view;
-    }
+logged_made v event w l = let s = subst IsSound l.view l.sound in record {
+  later = l.later;
+  lawful = s.lawful;
+  now_is = ap now l.view;
+  who_is = ap (λ x. x.who) l.view;
+}
 
 -- a token that logged an event at a load has made it
 pub loaded_made : (v : View) (event : Event) (place word : ℕ) (w : View)
     → (l : LoggedLoad v event place word w) → HasLogged v event l.before w
-loaded_made v event place word w l =
-    let s = subst IsSound l.view l.sound in
-    record {
-      later = l.later;
-      lawful = s.lawful;
-      now_is = ap now l.view;
-      who_is = ap (λ x. x.who) l.view;
-    }
+loaded_made v event place word w l = let s = subst IsSound l.view l.sound in record {
+  later = l.later;
+  lawful = s.lawful;
+  now_is = ap now l.view;
+  who_is = ap (λ x. x.who) l.view;
+}
 
 -- the event changes what its caller holds in exactly this way
 pub held_made : (v w : View) (number : ℕ) (event : Event) (before : Log) → v.who ≡ CallerOf number
     → whose event ≡ CallerOf number → HasLogged v event before w
     → held_by (now w) number ≡ held_after event (held_by (now v) number)
-held_made v w number event before mine its m =
-    ap (λ t. held_by t number) m.now_is
+held_made v w number event before mine its m = ap (λ t. held_by t number) m.now_is
     ∙ held_by_own v.start v.words before number event its
     ∙ ap (held_after event) (held_by_later v.start v.words number v.log before
     m.lawful.enabled.0 (subst (λ who. Later who v.log before) mine m.later))
@@ -174,8 +156,7 @@ module _ (old new : Caller) (kinds : List Kind) (event : Event) (bases : List �
 
   -- the refused builds of such a caller are still refused
   pub refused_made : HasRefused old → HasRefused new
-  refused_made r =
-      let t = state_of v.start v.words before in
+  refused_made r = let t = state_of v.start v.words before in
       let u = state_of v.start v.words (event ∷ before) in
       let on = after_between v.start v.words before (event ∷ before) m.lawful
       (one_event event same_log) in
@@ -200,8 +181,58 @@ module _ (old new : Caller) (kinds : List Kind) (event : Event) (bases : List �
 -- a caller that began a search is still a caller
 pub caller_begun : (who : Caller) (token : TokenFace) → IsCaller who
     → Turned who.token.view (searching who.token.view) token.view → IsCaller (record who { token = token })
-caller_begun who token c t =
-    let n = token.view.searches in
+caller_begun who token c t = let n = token.view.searches in
     caller_went (record who { token = record who.token { view = record who.token.view { searches = n } } })
     token record { mine = c.mine; rows = c.rows; builds = c.builds }
     (searching_on KeepsRows who.token.view token.view t).went
+
+-- ---- a caller that reserved a spare row: what was refused to its builds stays refused. Serves the crates
+-- above.
+
+-- refused builds depend only on the state, the number and the spare rows
+pub refused_as : (new : Caller) (t : Snapshot) (number : ℕ) (own : Spares)
+    → now new.token.view ≡ t → new.number ≡ number → spares_of new ≡ own
+    → AreStuck t (build_sizes t number own) → HasRefused new
+refused_as new t number own now_is number_is rows_are r =
+    subst (λ o. AreStuck (now new.token.view) (build_sizes (now new.token.view) new.number o))
+    (sym rows_are)
+    (subst (λ n. AreStuck (now new.token.view) (build_sizes (now new.token.view) n own))
+    (sym number_is)
+    (subst (λ x. AreStuck x (build_sizes x number own)) (sym now_is) r))
+
+-- refused builds stay refused if a spare row is reserved
+pub refused_beside : (old new : Caller) (kind : Kind) (base : ℕ) → IsCaller old
+    → row_of kind (spares_of old) ≡ None
+    → Reserved old.token.view old.number base (kind_words kind) new.token.view
+    → new.number ≡ old.number → spares_of new ≡ with_spare kind base (spares_of old)
+    → HasRefused old → HasRefused new
+refused_beside old new kind base c none r number_is rows_are refused =
+    refused_as new t old.number (with_spare kind base (spares_of old)) it.now_is number_is rows_are
+    (subst (AreStuck t) (sym sizes) (all_stuck_on (now v) t comes (sizes_built old) refused))
+  where
+    v : View
+    v = old.token.view
+
+    event : Event
+    event = Reserve old.number base (kind_words kind)
+
+    it : Took v old.number base (kind_words kind) new.token.view
+    it = took v old.number base (kind_words kind) new.token.view r
+
+    t : Snapshot
+    t = state_of v.start v.words (event ∷ it.before)
+
+    later : Later (CallerOf old.number) v.log it.before
+    later = subst (λ who. Later who v.log it.before) c.mine it.later
+
+    comes : ComesAfter (now v) t
+    comes = after_between v.start v.words v.log (event ∷ it.before) it.lawful
+        (one_event event (later-goes_on later))
+
+    sizes : build_sizes t old.number (with_spare kind base (spares_of old)) ≡ sizes_built old
+    sizes =
+        sizes_taken v.start v.words it.before old.number (spares_of old) kind base it.lawful.enabled
+        none
+        ∙ ap (λ held. map (λ (h : HeldRow). h.size)
+        (filter (λ h. not (is_spare (spares_of old) h.base)) held))
+        (held_by_later v.start v.words old.number v.log it.before it.lawful.enabled.0 later)

@@ -4,31 +4,18 @@ use Rattle.std.proofs.lemmas.Bool.Decides.{eqb_tells}
 use Rattle.std.proofs.lemmas.Option.{same_Some}
 use Rattle.ist_core.specs.declared.pairs.Pair.{Pair}
 use Rattle.ist_core.specs.declared.lists.HeldRow.{HeldRow}
-use Rattle.ist_core.specs.Elements.{Among, Each, Distinct}
-use Rattle.ist_core.specs.Snapshots.{Snapshot, sizes_held, HoldsRow}
-use Rattle.ist_core.specs.StartLayout.{start}
-use Rattle.ist_core.specs.Fairness.{AreBuilds, IsFair, spare_sizes}
-use Rattle.ist_core.specs.Logs.{Log}
-use Rattle.ist_core.specs.Lawful.{EachEnabled, Lawful, state_of}
-use Rattle.ist_core.proofs.ElementLemmas.{among-filter, each_append}
-use Rattle.ist_core.proofs.SoundLemmas.{sound}
-use Rattle.ist_core.proofs.StartLemmas.{sound_start}
-use Rattle.ist_core.proofs.RoomLemmas.{words_same}
-use Rattle.ist_core.proofs.SpendingLemmas.{next-state}
-use Rattle.ist_core.proofs.FateLemmas.{grow_between}
 use Rattle.ist_core.specs.declared.events.Who.TheVariants.{Caller as CallerOf}
-use Rattle.ist_core.specs.Authors.{no_more, one_more, Later}
-use Rattle.ist_rule.specs.Rule.{IsSound}
+use Rattle.ist_core.specs.LogTerms.{Among, Each, Distinct, Snapshot, sizes_held, HoldsRow, AreBuilds, IsFair, spare_sizes, Log, EachEnabled, Lawful, state_of, no_more, one_more, Later}
+use Rattle.ist_core.specs.WordTerms.{start}
+use Rattle.ist_core.proofs.AllWordLemmas.{among-filter, each_append}
+use Rattle.ist_core.proofs.AllEventLemmas.{sound, sound_start}
+use Rattle.ist_core.proofs.AllLogLemmas.{words_same, next-state, grow_between}
+use Rattle.ist_rule.specs.RuleTerms.{IsSound}
 use Rattle.ist_rule.proofs.LaterLemmas.{later-goes_on}
-use Rattle.ist_rule.proofs.HeldLemmas.{held_later}
-use Rattle.ist_rows.specs.declared.callers.Caller.{Caller}
-use Rattle.ist_rows.specs.declared.kinds.Kind.{Kind}
-use Rattle.ist_rows.specs.declared.kinds.Kind.TheVariants.{Leaf, Pair as PairKind, Change, Rebuild}
-use Rattle.ist_rows.specs.Kinds.{kind_words}
-use Rattle.ist_rows.specs.Rows.{Spares, spares_of, row_of, is_base, is_spare, held_by, build_sizes, IsCaller}
-use Rattle.ist_rows.specs.Fairly.{MayTake}
-use Rattle.ist_rows.proofs.HeldListLemmas.{distinct_filter, distinct_more, held_distinct, held_by_later}
-use Rattle.ist_rows.proofs.BuildLemmas.{ComesAfter, builds_on, merge_filter, merge_more, merge_first}
+use Rattle.ist_rule.proofs.WatchLemmas.{held_later}
+use Rattle.ist_rows.specs.RowTerms.{Caller, Kind, Leaf, Pair as PairKind, Change, Rebuild, kind_words, Spares, spares_of, row_of, is_base, is_spare, held_by, build_sizes, IsCaller, MayTake}
+use Rattle.ist_rows.proofs.ShortLemmas.{distinct_filter, distinct_more, held_distinct, held_by_later}
+use Rattle.ist_rows.proofs.ReserveLemmas.{ComesAfter, builds_on, merge_filter, merge_more, merge_first}
 
 -- the next word never falls along a longer log
 next_later : (pairs : List Pair) (words : ℕ) (number : ℕ) (old log : Log)
@@ -37,20 +24,17 @@ next_later : (pairs : List Pair) (words : ℕ) (number : ℕ) (old log : Log)
 next_later pairs words number old _ enabled no_more = le_refl (state_of pairs words old).next
 next_later pairs words number old _ enabled (one_more {log = log} event l other) =
     let before = next_later pairs words number old log enabled.0 l in
-    let more = next-state (start pairs words) log event enabled.1 in
-    omega arith
+    let more = next-state (start pairs words) log event enabled.1 in omega arith
 
 -- a later state comes after an earlier one
 pub comes_after : (pairs : List Pair) (words : ℕ) (number : ℕ) (old log : Log)
     → Lawful pairs words log → Later (CallerOf number) old log
     → ComesAfter (state_of pairs words old) (state_of pairs words log)
-comes_after pairs words number old log lawful l =
-    record {
-      words = words_same pairs words lawful.opens log ∙ sym
-          (words_same pairs words lawful.opens old);
-      next = next_later pairs words number old log lawful.enabled l;
-      grow = grow_between pairs words old log lawful.enabled (later-goes_on l);
-    }
+comes_after pairs words number old log lawful l = record {
+  words = words_same pairs words lawful.opens log ∙ sym (words_same pairs words lawful.opens old);
+  next = next_later pairs words number old log lawful.enabled l;
+  grow = grow_between pairs words old log lawful.enabled (later-goes_on l);
+}
 
 -- ---- a caller's rows after a longer log
 
@@ -66,21 +50,19 @@ pub caller_later : (pairs : List Pair) (words : ℕ) (old log : Log) (number : �
     → Lawful pairs words log → Later (CallerOf number) old log
     → IsCallerIn (state_of pairs words old) number own
     → IsCallerIn (state_of pairs words log) number own
-caller_later pairs words old log number own lawful l c =
-    record {
-      rows = λ kind base e. held_later pairs words record {
-        caller = number;
-        base = base;
-        size =
-            kind_words kind;
-      } old log lawful.enabled l (c.rows kind base e);
-      builds = builds_on (state_of pairs words old) (state_of pairs words log)
-          (comes_after pairs words number old log lawful l)
-          (build_sizes (state_of pairs words log) number own)
-          (subst (λ held. AreBuilds (state_of pairs words old)
-          (map (λ h. h.size) (filter (λ h. not (is_spare own h.base)) held)))
-          (sym (held_by_later pairs words number old log lawful.enabled l)) c.builds);
-    }
+caller_later pairs words old log number own lawful l c = record {
+  rows = λ kind base e. held_later pairs words record {
+    caller = number;
+    base = base;
+    size = kind_words kind;
+  } old log lawful.enabled l (c.rows kind base e);
+  builds = builds_on (state_of pairs words old) (state_of pairs words log)
+      (comes_after pairs words number old log lawful l)
+      (build_sizes (state_of pairs words log) number own)
+      (subst (λ held. AreBuilds (state_of pairs words old)
+      (map (λ h. h.size) (filter (λ h. not (is_spare own h.base)) held)))
+      (sym (held_by_later pairs words number old log lawful.enabled l)) c.builds);
+}
 
 -- ---- spare rows
 
@@ -98,8 +80,7 @@ or_true false b e = inr e
 -- a spare row is of some kind
 pub spare_kind : (own : Spares) (base : ℕ) → is_spare own base ≡ true → (kind : Kind)
     × (row_of kind own ≡ Some base)
-spare_kind own base e =
-    ⊎_elim (λ a. (Leaf, is_base_some own.leaf base a))
+spare_kind own base e = ⊎_elim (λ a. (Leaf, is_base_some own.leaf base a))
     (λ b. ⊎_elim (λ a. (PairKind, is_base_some own.pair base a))
     (λ c. ⊎_elim (λ a. (Change, is_base_some own.change base a))
     (λ a. (Rebuild, is_base_some own.rebuild base a))
@@ -143,8 +124,7 @@ module _ (pairs : List Pair) (words : ℕ) (log : Log) (enabled : EachEnabled (s
             enabled).once h record {
               caller = number;
               base = h.base;
-              size =
-                  kind_words k.0;
+              size = kind_words k.0;
             } held.0 (c.rows k.0 h.base k.1) refl),
       )
 
@@ -155,15 +135,12 @@ module _ (pairs : List Pair) (words : ℕ) (log : Log) (enabled : EachEnabled (s
   few_sizes (h ∷ xs) sub =
       let it = spare_words h (sub h (inl refl)) in (
         subst (λ n. Among n spare_sizes) (sym it.2) (kind_spare it.0),
-        few_sizes xs
-            (λ g i. sub g (inr i)),
+        few_sizes xs (λ g i. sub g (inr i)),
       )
 
   -- spare rows of one size are one
   one_size : (g h : HeldRow) → Among g spares → Among h spares → g.size ≡ h.size → g.base ≡ h.base
-  one_size g h i j same =
-      let a = spare_words g i in
-      let b = spare_words h j in
+  one_size g h i j same = let a = spare_words g i in let b = spare_words h j in
       let kinds = kind_of_words a.0 b.0 (sym a.2 ∙ same ∙ b.2) in
       same_Some g.base h.base (sym a.1 ∙ ap (λ k. row_of k own) kinds ∙ b.1)
 
@@ -175,8 +152,7 @@ module _ (pairs : List Pair) (words : ℕ) (log : Log) (enabled : EachEnabled (s
     (λ i. let it =
         with_size xs i in d.0 (at_base xs it.0 it.1
         (one_size h it.0 (sub h (inl refl)) (sub it.0 (inr it.1)) it.2))),
-    once_each xs
-        (λ g i. sub g (inr i)) d.1,
+    once_each xs (λ g i. sub g (inr i)) d.1,
   )
     where
       with_size : (ys : List HeldRow) → Among h.size (map (λ x. x.size) ys) → (g : HeldRow)
@@ -192,11 +168,9 @@ module _ (pairs : List Pair) (words : ℕ) (log : Log) (enabled : EachEnabled (s
       at_base (y ∷ ys) g (inr i) e = inr (at_base ys g i e)
 
   -- a row of another kind is fair together with what the caller holds
-  pub fair_with : (kind : Kind) → row_of kind own ≡ None
-      → IsFair (state_of pairs words log)
+  pub fair_with : (kind : Kind) → row_of kind own ≡ None → IsFair (state_of pairs words log)
       (sizes_held (state_of pairs words log) number ++ kind_words kind ∷ [])
-  fair_with kind none =
-      let sizes = map (λ (h : HeldRow). h.size) spares in
+  fair_with kind none = let sizes = map (λ (h : HeldRow). h.size) spares in
       let bases = distinct_filter (λ (h : HeldRow). h.base) (λ h. is_spare own h.base)
       (held_by (state_of pairs words log) number)
       (distinct_filter (λ (h : HeldRow). h.base) (λ h. h.caller == number)
@@ -221,20 +195,17 @@ module _ (pairs : List Pair) (words : ℕ) (log : Log) (enabled : EachEnabled (s
       out : (xs : List HeldRow) → ((h : HeldRow) → Among h xs → Among h spares)
           → ¬ (Among (kind_words kind) (map (λ h. h.size) xs))
       out [] sub i = i
-      out (h ∷ xs) sub (inl e) =
-          let it = spare_words h (sub h (inl refl)) in
+      out (h ∷ xs) sub (inl e) = let it = spare_words h (sub h (inl refl)) in
           none_some h.base (sym none ∙ ap (λ k. row_of k own) (kind_of_words kind it.0 (e ∙ it.2)) ∙
           it.1)
       out (h ∷ xs) sub (inr i) = out xs (λ g j. sub g (inr j)) i
 
   -- a row of a build is fair together with what the caller holds
-  pub fair_inner : (size : ℕ)
-      → AreBuilds (state_of pairs words log)
+  pub fair_inner : (size : ℕ) → AreBuilds (state_of pairs words log)
       (build_sizes (state_of pairs words log) number own ++ size ∷ [])
       → IsFair (state_of pairs words log)
       (sizes_held (state_of pairs words log) number ++ size ∷ [])
-  fair_inner size builds =
-      let sizes = map (λ (h : HeldRow). h.size) spares in
+  fair_inner size builds = let sizes = map (λ (h : HeldRow). h.size) spares in
       let bases = distinct_filter (λ (h : HeldRow). h.base) (λ h. is_spare own h.base)
       (held_by (state_of pairs words log) number)
       (distinct_filter (λ (h : HeldRow). h.base) (λ h. h.caller == number)
@@ -253,10 +224,8 @@ module _ (pairs : List Pair) (words : ℕ) (log : Log) (enabled : EachEnabled (s
 
 -- a caller without a row of the kind may take one, whatever others do meanwhile
 pub may_take : (who : Caller) (kind : Kind) → IsSound who.token.view → IsCaller who
-    → row_of kind (spares_of who) ≡ None
-    → MayTake who.token.view who.number (kind_words kind)
-may_take who kind s c none log m =
-    let v = who.token.view in
+    → row_of kind (spares_of who) ≡ None → MayTake who.token.view who.number (kind_words kind)
+may_take who kind s c none log m = let v = who.token.view in
     fair_with v.start v.words log m.lawful.enabled who.number (spares_of who)
     (caller_later v.start v.words v.log log who.number (spares_of who) m.lawful
     (subst (λ w. Later w v.log log) c.mine m.later) record { rows = c.rows; builds = c.builds })

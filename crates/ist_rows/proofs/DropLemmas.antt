@@ -2,31 +2,24 @@
 use Rattle.std.proofs.Common.{◌≡◌, ℕ, ◌+◌, ◌<◌, [], ◌∷◌, Some, None, refl, sym, ap, ◌∙◌, subst}
 use Rattle.ist_core.specs.declared.events.Event.{Event}
 use Rattle.ist_core.specs.declared.events.Event.TheVariants.{Lose}
-use Rattle.ist_core.specs.RowLayout.{inner_status_offset}
-use Rattle.ist_rule.specs.declared.view.View.{View}
 use Rattle.ist_core.specs.declared.events.Who.TheVariants.{Caller as CallerOf}
-use Rattle.ist_rule.specs.Faces.{TokenFace}
-use Rattle.ist_rule.specs.Learning.{LoggedLoad, LoadedAs, as_event, as_load}
-use Rattle.ist_rule.specs.Watching.{number_of, past_of, CanLoadPast}
-use Rattle.ist_rows.specs.declared.callers.Caller.{Caller}
-use Rattle.ist_rows.specs.declared.kinds.Kind.TheVariants.{Pair}
-use Rattle.ist_rows.specs.Rows.{IsCaller}
-use Rattle.ist_rows.specs.Dropping.{HasPairBelow, HasLost}
+use Rattle.ist_core.specs.WordTerms.{inner_status_offset}
+use Rattle.ist_rule.specs.RuleTerms.{TokenFace, LoggedLoad, LoadedAs, as_event, as_load, number_of, past_of, CanLoadPast}
+use Rattle.ist_rule.specs.declared.view.View.{View}
+use Rattle.ist_rows.specs.RowTerms.{Caller, Pair, IsCaller, HasPairBelow, HasLost}
 use Rattle.ist_rows.proofs.CallerLawLemmas.{loaded_made, caller_made}
 
 -- the caller may load the node's status, and so lose the row
 pub may_drop : (who : Caller) (pair node : ℕ) → IsCaller who → HasPairBelow who node
     → who.pair ≡ Some pair → CanLoadPast who.token.view pair node
-may_drop who pair node c h is =
-    let same : h.pair ≡ pair = cc (sym h.held ∙ is) in
-    record {
-      number = who.number;
-      mine = c.mine;
-      held = c.rows Pair pair is;
-      row = h.row;
-      published = h.published;
-      above = subst (λ n. n < node) same h.below;
-    }
+may_drop who pair node c h is = let same : h.pair ≡ pair = cc (sym h.held ∙ is) in record {
+  number = who.number;
+  mine = c.mine;
+  held = c.rows Pair pair is;
+  row = h.row;
+  published = h.published;
+  above = subst (λ n. n < node) same h.below;
+}
 
 -- the load is the loss
 pub has_lost : (v : View) (number pair node place word : ℕ) (w : View) → v.who ≡ CallerOf number

@@ -3,11 +3,8 @@ use Rattle.std.proofs.Common.{◌≡◌, ℕ, zero, suc, ◌<◌, ◌≤◌, Lis
 use Rattle.std.proofs.lemmas.List.{length-replicate}
 use Rattle.std.proofs.lemmas.Option.{none-some}
 use Rattle.ist_core.specs.declared.pairs.Pair.{Pair}
-use Rattle.ist_core.specs.Shapes.{ideal_words, ideal_words_within}
-use Rattle.ist_core.specs.RowLayout.{first_row, place_limit}
-use Rattle.ist_core.specs.StartLayout.{start, rows_within}
-use Rattle.ist_core.specs.Images.{IsImage}
-use Rattle.ist_core.specs.Lawful.{CanOpen}
+use Rattle.ist_core.specs.WordTerms.{ideal_words, ideal_words_within, first_row, place_limit, start, rows_within, IsImage}
+use Rattle.ist_core.specs.LogTerms.{CanOpen}
 
 -- a table without pairs may be opened
 pub empty_opens : (words : ℕ) → first_row ≤ words → words ≤ place_limit → CanOpen [] words
@@ -24,16 +21,15 @@ zero_lies (suc n) (suc i) low = zero_lies n i (omega arith)
 -- the words of such a table are a 4 and zeros
 pub empty_image : (zeros : ℕ) → 3 ≤ zeros → IsImage (start [] (suc zeros)) (4 ∷ replicate zeros 0)
 unfolding ideal_words ideal_words_within rows_within
-empty_image zeros enough =
-    record {
-      size = ap suc (length-replicate zeros 0);
-      next = refl;
-      callers = zero_lies zeros 0 (omega arith);
-      anchor_status = zero_lies zeros 1 (omega arith);
-      anchor_slot = zero_lies zeros 2 (omega arith);
-      rows = λ base p e. absurd (none-some p e);
-      free = free;
-    }
+empty_image zeros enough = record {
+  size = ap suc (length-replicate zeros 0);
+  next = refl;
+  callers = zero_lies zeros 0 (omega arith);
+  anchor_status = zero_lies zeros 1 (omega arith);
+  anchor_slot = zero_lies zeros 2 (omega arith);
+  rows = λ base p e. absurd (none-some p e);
+  free = free;
+}
   where
     free : (place : ℕ) → 4 ≤ place → place < suc zeros
         → slice_get {X = ℕ} (4 ∷ replicate zeros 0) place ≡ Some 0
@@ -53,8 +49,7 @@ zeros_image pairs none (suc n) words same enough =
 
 -- such a table opens
 pub zeros_open : (pairs : List Pair) → pairs ≡ [] → (n : ℕ) (words : List ℕ) → words ≡ replicate n 0
-    → 4 ≤ n
-    → n ≤ place_limit → CanOpen pairs (length (slice_set words 0 4))
+    → 4 ≤ n → n ≤ place_limit → CanOpen pairs (length (slice_set words 0 4))
 zeros_open pairs none zero words same enough within = absurd (omega arith)
 zeros_open pairs none (suc n) words same enough within =
     subst (λ ps. CanOpen ps (length (slice_set words 0 4))) (sym none)

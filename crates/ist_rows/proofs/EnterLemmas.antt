@@ -3,28 +3,15 @@ use Rattle.std.proofs.Common.{◌≡◌, ◌≢◌, ℕ, ◌+◌, ◌<◌, ◌�
 use Rattle.std.proofs.lemmas.Bool.Decides.{eqb_tells, nat_tests}
 use Rattle.ist_core.specs.declared.lists.HeldRow.{HeldRow}
 use Rattle.ist_core.specs.declared.events.Event.TheVariants.{Enter}
-use Rattle.ist_core.specs.RowLayout.{callers_place}
-use Rattle.ist_core.specs.Elements.{Among}
-use Rattle.ist_core.specs.Fairness.{AreBuilds, no_build}
-use Rattle.ist_core.specs.Logs.{Log}
-use Rattle.ist_core.specs.Enabled.{CanEnter, caller_limit}
-use Rattle.ist_core.specs.Lawful.{state_of}
-use Rattle.ist_rule.specs.declared.view.View.{View}
 use Rattle.ist_core.specs.declared.events.Who.TheVariants.{Maker, Caller as CallerOf, Note}
-use Rattle.ist_core.specs.Authors.{Later, IsIdleIn}
-use Rattle.ist_core.specs.Shown.{shown_callers}
-use Rattle.ist_core.proofs.ShownLemmas.{callers_word}
-use Rattle.ist_rule.specs.Rule.{IsSound}
-use Rattle.ist_rule.specs.Learning.{now, logging, Logged}
-use Rattle.ist_rule.specs.Conditions.{MayCome, CanAdd}
-use Rattle.ist_rule.specs.Seating.{awaits_seat, is_maker, noted_by, plain, split_left, split_right}
-use Rattle.ist_rule.proofs.HeldLemmas.{idle_holds}
-use Rattle.ist_rule.proofs.GoingOnLemmas.{callers_by_others}
-use Rattle.ist_rows.specs.declared.callers.Caller.{Caller}
-use Rattle.ist_rows.specs.declared.kinds.Kind.{Kind}
-use Rattle.ist_rows.specs.declared.kinds.Kind.TheVariants.{Leaf, Pair, Change, Rebuild}
-use Rattle.ist_rows.specs.Rows.{held_by, spares_of, row_of, is_spare, IsCaller}
-use Rattle.ist_rows.specs.Entering.{HasEntered}
+use Rattle.ist_core.specs.WordTerms.{callers_place}
+use Rattle.ist_core.specs.LogTerms.{Among, AreBuilds, no_build, Log, CanEnter, caller_limit, state_of, Later, IsIdleIn, shown_callers}
+use Rattle.ist_rule.specs.RuleTerms.{IsSound, now, logging, Logged, MayCome, CanAdd, awaits_seat, is_maker, noted_by, plain, split_left, split_right}
+use Rattle.ist_rule.specs.declared.view.View.{View}
+use Rattle.ist_core.proofs.AllLogLemmas.{callers_word}
+use Rattle.ist_rule.proofs.WatchLemmas.{idle_holds}
+use Rattle.ist_rule.proofs.EventLemmas.{callers_by_others}
+use Rattle.ist_rows.specs.RowTerms.{Caller, Kind, Leaf, Pair, Change, Rebuild, held_by, spares_of, row_of, is_spare, IsCaller, HasEntered}
 
 -- ---- what is shown at the fixed places
 
@@ -40,25 +27,21 @@ made_there v s who log m =
 -- the maker may enter a caller, whatever others do meanwhile
 pub can_enter : (v : View) → IsSound v → v.who ≡ Maker → v.given ≡ v.made → v.made < caller_limit
     → CanAdd v callers_place (λ found. Enter found)
-can_enter v s who given few =
-    record {
-      make = λ found. record { mine = sym who; stored = tt; allowed = given };
-      known = λ log m. ((state_of v.start v.words log).callers, shown_callers);
-      comes = λ log m found shown.
-          let is = callers_word v.start v.words log m.lawful.enabled callers_place found shown
-          refl in
-          let made = made_there v s who log m in
-          record {
-            enabled = record { number = is; below_limit = omega arith };
-            touches = ap (λ n. Some record { place = callers_place; found = n; left = n + 1 })
-                (sym is);
-          };
-      fits = λ log m found shown.
-          let is = callers_word v.start v.words log m.lawful.enabled callers_place found shown
-          refl in
-          let made = made_there v s who log m in
-          omega arith;
-    }
+can_enter v s who given few = record {
+  make = λ found. record { mine = sym who; stored = tt; allowed = given };
+  known = λ log m. ((state_of v.start v.words log).callers, shown_callers);
+  comes = λ log m found shown.
+      let is = callers_word v.start v.words log m.lawful.enabled callers_place found shown
+      refl in
+      let made = made_there v s who log m in record {
+        enabled = record { number = is; below_limit = omega arith };
+        touches = ap (λ n. Some record { place = callers_place; found = n; left = n + 1 }) (sym is);
+      };
+  fits = λ log m found shown.
+      let is = callers_word v.start v.words log m.lawful.enabled callers_place found shown
+      refl in
+      let made = made_there v s who log m in omega arith;
+}
 
 -- what the maker knows once it entered a caller
 pub record Entered (v w : View) (found : ℕ) : Type 0 where
@@ -76,8 +59,7 @@ entered v w found s who l =
     let can : CanEnter (state_of v.start v.words l.before) found = sound.lawful.enabled.1 in
     let made = made_there v s who l.before record {
       later = l.later;
-      lawful =
-          record { opens = sound.lawful.opens; enabled = sound.lawful.enabled.0 };
+      lawful = record { opens = sound.lawful.opens; enabled = sound.lawful.enabled.0 };
     } in
     record {
       number = can.number ∙ made;
@@ -91,8 +73,7 @@ entered v w found s who l =
 pub gives_seat : (w : View) → w.who ≡ Maker → w.given < w.made
     → (split_left w ≡ record w { given = w.given + 1 })
     × (split_right w ≡ plain w (CallerOf w.given) [])
-gives_seat w who less =
-    let t : nat_lt w.given w.made ≡ true = grind (arith, nat_tests) in
+gives_seat w who less = let t : nat_lt w.given w.made ≡ true = grind (arith, nat_tests) in
     let is : awaits_seat w ≡ true = ap (λ x. is_maker x && nat_lt w.given w.made) who ∙ t in (
       ap (λ b. if b then record w { given = w.given + 1 } else w) is,
       ap (λ b. if b then plain w (CallerOf w.given) [] else plain w (Note (noted_by w.who)) w.calls)
@@ -141,28 +122,20 @@ module _ (v w : View) (number : ℕ) (s : IsSound v) (who : v.who ≡ Maker) (al
 
   -- the token that the maker gives next is the caller's
   given : w.given ≡ number
-  given =
-      let e = entered v w number s who l in
-      omega arith
+  given = let e = entered v w number s who l in omega arith
 
   gives : (split_left w ≡ record w { given = w.given + 1 }) × (split_right w ≡ plain w (CallerOf number) [])
-  gives =
-      let e = entered v w number s who l in
-      let g = gives_seat w maker (omega arith) in
+  gives = let e = entered v w number s who l in let g = gives_seat w maker (omega arith) in
       (g.0, g.1 ∙ ap (λ n. plain w (CallerOf n) []) given)
 
   none_held_yet : held_by (now w) number ≡ []
-  none_held_yet =
-      let same = given in
-      new_holds_none w number sound maker (omega arith)
+  none_held_yet = let same = given in new_holds_none w number sound maker (omega arith)
 
   -- the two parts of a maker that has entered a caller
   pub parts : (left right : View) → left ≡ split_left w → right ≡ split_right w
       → Parts v number left right
-  parts left right left_is right_is =
-      let same = given in
-      let right : right ≡ plain w (CallerOf number) [] = right_is ∙ gives.1 in
-      record {
+  parts left right left_is right_is = let same = given in
+      let right : right ≡ plain w (CallerOf number) [] = right_is ∙ gives.1 in record {
         entered = record {
           before = l.before;
           later = l.later;

@@ -4,12 +4,11 @@ use Rattle.std.proofs.Math.Nat.{le_trans}
 use Rattle.ist_core.specs.declared.events.Event.{Event}
 use Rattle.ist_core.specs.declared.pairs.Pair.{Pair}
 use Rattle.ist_core.specs.declared.ports.Full.{Full}
-use Rattle.ist_core.specs.Logs.{GoesOn, Log, same_log}
-use Rattle.ist_core.proofs.PrefixLemmas.{goes_on_by, goes_on_more}
+use Rattle.ist_core.specs.LogTerms.{GoesOn, Log, same_log}
+use Rattle.ist_core.proofs.AllLogLemmas.{goes_on_by, goes_on_more}
+use Rattle.ist_rule.specs.RuleTerms.{WentOn}
 use Rattle.ist_rule.specs.declared.view.View.{View}
-use Rattle.ist_rule.specs.Going.{WentOn}
-use Rattle.ist_rows.specs.declared.callers.Caller.{Caller}
-use Rattle.ist_rows.specs.Taken.{HasRunOut, HasTakenFew, HasTakenFewIn, IsLaterCaller, RanOut, TakesFew, ran_out, taken_by, took_few}
+use Rattle.ist_rows.specs.RowTerms.{Caller, HasRunOut, HasTakenFew, HasTakenFewIn, IsLaterCaller, RanOut, TakesFew, ran_out, taken_by, took_few}
 use Rattle.ist_rows.proofs.ShortLemmas.{left_between}
 
 -- ---- how a caller goes on
@@ -17,23 +16,21 @@ use Rattle.ist_rows.proofs.ShortLemmas.{left_between}
 -- a caller whose token went on is a later state
 pub later_went : (P : Event → Type 0) (old new : Caller) → new.number ≡ old.number
     → WentOn P old.token.view new.token.view → IsLaterCaller old new
-later_went P old new number went =
-    record {
-      number = number;
-      start = ap (λ x. x.start) went.same;
-      words = ap (λ x. x.words) went.same;
-      on = goes_on_by went.later;
-    }
+later_went P old new number went = record {
+  number = number;
+  start = ap (λ x. x.start) went.same;
+  words = ap (λ x. x.words) went.same;
+  on = goes_on_by went.later;
+}
 
 -- a state after a later one is a later one
 pub later_twice : (old mid new : Caller) → IsLaterCaller old mid → IsLaterCaller mid new → IsLaterCaller old new
-later_twice old mid new a b =
-    record {
-      number = b.number ∙ a.number;
-      start = b.start ∙ a.start;
-      words = b.words ∙ a.words;
-      on = goes_on_more a.on b.on;
-    }
+later_twice old mid new a b = record {
+  number = b.number ∙ a.number;
+  start = b.start ∙ a.start;
+  words = b.words ∙ a.words;
+  on = goes_on_more a.on b.on;
+}
 
 -- ---- one log after another
 
@@ -84,8 +81,7 @@ module _ (old mid new : Caller) (a : IsLaterCaller old mid) (b : IsLaterCaller m
       a.words f))
 
   -- few words, and then few
-  pub few_more : HasTakenFew n m old mid → HasTakenFew m left mid new
-      → HasTakenFew n left old new
+  pub few_more : HasTakenFew n m old mid → HasTakenFew m left mid new → HasTakenFew n left old new
   few_more f g = few_both old.number v.words v.start a.on b.on n m left f (few_here g)
 
   -- few words, and then the words ran out

@@ -1,33 +1,83 @@
 -- Steps that take few words, or none, or for which too few are left. Serves the crates above.
-use Rattle.std.proofs.Common.{◌≡◌, ℕ, ◌+◌, ◌<◌, List, [], ◌∷◌, Result, refl, sym, ap, ◌∙◌, subst, arith}
-use Rattle.std.specs.List.{sum}
-use Rattle.std.proofs.lemmas.List.Sums.{sum_by-cons}
+use Rattle.std.proofs.lemmas.Bool.{ne_eqb}
+use Rattle.std.proofs.Common.{◌≡◌, ◌≢◌, ℕ, ◌+◌, ◌≤◌, Bool, if◌then◌else◌, ◌∷◌, refl, ap, ◌∙◌, subst, inl, inr, arith, ◌<◌, List, [], Result, sym}
 use Rattle.ist_core.specs.declared.events.Event.{Event}
 use Rattle.ist_core.specs.declared.events.Event.TheVariants.{Reserve}
 use Rattle.ist_core.specs.declared.events.Who.TheVariants.{Caller as CallerOf}
 use Rattle.ist_core.specs.declared.ports.Full.{Full}
-use Rattle.ist_core.specs.Authors.{Later, LaterBy}
-use Rattle.ist_core.specs.Logs.{GoesOn, Log, one_event, same_log}
-use Rattle.ist_core.specs.RowLayout.{next_place}
-use Rattle.ist_core.specs.Spending.{spent}
-use Rattle.ist_core.proofs.PrefixLemmas.{goes_on_by}
-use Rattle.ist_core.proofs.SpendingLemmas.{words_are_spent}
+use Rattle.ist_core.specs.LogTerms.{Later, LaterBy, no_more, one_more, whose, GoesOn, Log, one_event, same_log, spent}
+use Rattle.ist_rule.specs.RuleTerms.{WentOn, TokenFace, GoesOnTo, Logged, LoggedLoad, Looked}
 use Rattle.ist_rule.specs.declared.view.View.{View}
-use Rattle.ist_rule.specs.Going.{WentOn}
-use Rattle.ist_rule.specs.Faces.{TokenFace}
-use Rattle.ist_rule.specs.Learning.{GoesOnTo, Logged, LoggedLoad, Looked}
-use Rattle.ist_rule.specs.Several.{with_events}
-use Rattle.ist_rule.proofs.GoingOnLemmas.{goes_on_who, looked_goes_on}
+use Rattle.ist_rule.proofs.EventLemmas.{goes_on_who, looked_goes_on}
 use Rattle.ist_rule.proofs.LaterLemmas.{later_more}
+use Rattle.ist_rows.specs.RowTerms.{KeepsRows, Reserved, taken_at, taken_by, Caller, HasNoRoom, ReservedAll, reservings, IsCaller, IsFull, HasRunOut, HasTakenFew, HasTakenFewIn, TakesNoWords, IsLaterCaller, RanOut, took_few}
+use Rattle.ist_rows.proofs.CallerGoingLemmas.{base_same}
+use Rattle.std.specs.List.{sum}
+use Rattle.std.proofs.lemmas.List.Sums.{sum_by-cons}
+use Rattle.ist_core.specs.WordTerms.{next_place}
+use Rattle.ist_core.proofs.AllLogLemmas.{goes_on_by, words_are_spent}
+use Rattle.ist_rule.specs.Several.{with_events}
 use Rattle.ist_rule.proofs.WentOnLemmas.{goes_on_went}
-use Rattle.ist_rows.specs.declared.callers.Caller.{Caller}
-use Rattle.ist_rows.specs.Block.{HasNoRoom, ReservedAll, reservings}
-use Rattle.ist_rows.specs.CallerLaws.{KeepsRows}
-use Rattle.ist_rows.specs.Rows.{IsCaller, IsFull, Reserved}
-use Rattle.ist_rows.specs.Taken.{HasRunOut, HasTakenFew, HasTakenFewIn, TakesNoWords, IsLaterCaller, RanOut, taken_at, taken_by, took_few}
 use Rattle.ist_rows.proofs.ReserveLemmas.{looked_next}
-use Rattle.ist_rows.proofs.TakenLemmas.{own_takes, taken_keeps, taken_later, taken_reserved}
 use Rattle.ist_rows.proofs.FewLemmas.{later_went, later_twice, few_more, few_then}
+
+-- ---- what a caller has taken as its log goes on. Serves the crates above.
+
+-- ---- one event
+
+-- an event of another takes no word for the caller
+pub other_takes : (number : ℕ) (event : Event) → whose event ≢ CallerOf number
+    → taken_at number event ≡ 0
+other_takes number (Reserve caller base size) other = ap (λ (b : Bool). if b then size else 0)
+    (ne_eqb caller number (λ same. other (ap CallerOf same)))
+other_takes number _ other = refl
+
+-- nor does one that reserves nothing
+pub keeps_takes : (number : ℕ) (event : Event) → KeepsRows event → taken_at number event ≡ 0
+keeps_takes number (Reserve caller base size) keeps = absurd keeps
+keeps_takes number _ keeps = refl
+
+-- a reserving of the caller takes its words
+pub own_takes : (number base size : ℕ) → taken_at number (Reserve number base size) ≡ size
+own_takes number base size = ap (λ (b : Bool). if b then size else 0) (base_same number)
+
+-- ---- logs
+
+-- what the caller took only grows
+pub taken_grows : (number : ℕ) {a b : Log} → GoesOn a b → taken_by number a ≤ taken_by number b
+taken_grows number same_log = omega arith
+taken_grows number (one_event event g) = let before = taken_grows number g in omega arith
+
+-- by events of others it took none
+pub taken_later : (number : ℕ) {a b : Log} → Later (CallerOf number) a b
+    → taken_by number b ≡ taken_by number a
+taken_later number no_more = refl
+taken_later number (one_more event l other) = let before = taken_later number l in
+    let none = other_takes number event other in omega arith
+
+-- nor by events that reserve nothing
+pub taken_keeps : {P : Event → Type 0} (number : ℕ)
+    → ((event : Event) → P event → KeepsRows event) → {a b : Log} → LaterBy (CallerOf number) P a b
+    → taken_by number b ≡ taken_by number a
+taken_keeps number all no_more = refl
+taken_keeps number all (one_more event l (inl other)) = let before = taken_keeps number all l in
+    let none = other_takes number event other in omega arith
+taken_keeps number all (one_more event l (inr is)) = let before = taken_keeps number all l in
+    let none = keeps_takes number event (all event is) in omega arith
+
+-- by the reserving of a row it took the row's words
+pub taken_reserved : (v : View) (number base size : ℕ) (w : View) → v.who ≡ CallerOf number
+    → Reserved v number base size w → taken_by number w.log ≡ taken_by number v.log + size
+taken_reserved v number base size w mine r =
+    let log_is : w.log ≡ Reserve number base size ∷ r.reserved.before
+    = ap (λ (y : View). y.log) r.reserved.view in
+    let later = later_more r.seen.later (subst (λ x. Later x r.before.log r.reserved.before)
+    (goes_on_who r.seen) r.reserved.later) in
+    let others : taken_by number r.reserved.before ≡ taken_by number v.log
+    = taken_later number (subst (λ who. Later who v.log r.reserved.before) mine later) in
+    ap (taken_by number) log_is
+    ∙ (ap (λ n. n + taken_at number (Reserve number base size)) others
+    ∙ ap (λ n. taken_by number v.log + n) (own_takes number base size))
 
 -- ---- steps that take none
 
@@ -59,28 +109,24 @@ few_call r n left old mid new h b f =
 -- twice
 pub none_more : (old mid new : Caller) → TakesNoWords old mid → TakesNoWords mid new
     → TakesNoWords old new
-none_more old mid new a b =
-    record {
-      later = later_twice old mid new a.later b.later;
-      none = subst (λ k. taken_by k new.token.view.log ≡ taken_by k mid.token.view.log) a.later.number
-          b.none ∙ a.none;
-    }
+none_more old mid new a b = record {
+  later = later_twice old mid new a.later b.later;
+  none = subst (λ k. taken_by k new.token.view.log ≡ taken_by k mid.token.view.log) a.later.number
+      b.none ∙ a.none;
+}
 
 -- nothing was done
 pub none_same : (who : Caller) → TakesNoWords who who
-none_same who =
-    record {
-      later = record { number = refl; start = refl; words = refl; on = same_log };
-      none = refl;
-    }
+none_same who = record {
+  later = record { number = refl; start = refl; words = refl; on = same_log };
+  none = refl;
+}
 
 -- by events that reserve nothing
 pub none_kept : (P : Event → Type 0) → ((event : Event) → P event → KeepsRows event)
     → (old new : Caller) → new.number ≡ old.number → old.token.view.who ≡ CallerOf old.number
     → WentOn P old.token.view new.token.view → TakesNoWords old new
-none_kept P keeps old new number mine went =
-    let v = old.token.view in
-    let w = new.token.view in
+none_kept P keeps old new number mine went = let v = old.token.view in let w = new.token.view in
     record {
       later = later_went P old new number went;
       none = taken_keeps old.number keeps (subst (λ x. LaterBy x P v.log w.log) mine went.later);
@@ -90,8 +136,7 @@ none_kept P keeps old new number mine went =
 pub none_seen : (old new : Caller) → new.number ≡ old.number
     → old.token.view.who ≡ CallerOf old.number → GoesOnTo old.token.view new.token.view
     → TakesNoWords old new
-none_seen old new number mine g =
-    none_kept (λ event. ⊥) (λ event is. absurd is) old new number mine
+none_seen old new number mine g = none_kept (λ event. ⊥) (λ event is. absurd is) old new number mine
     (goes_on_went (λ event. ⊥) old.token.view new.token.view g)
 
 -- by loads of its token
@@ -108,8 +153,7 @@ module _ (who : Caller) (token : TokenFace) (mine : who.token.view.who ≡ Calle
   by_event nothing before later log_is start_is words_is =
       let others = taken_later who.number
       (subst (λ x. Later x who.token.view.log before) mine later) in
-      let all = ap (taken_by who.number) log_is in
-      record {
+      let all = ap (taken_by who.number) log_is in record {
         later = record {
           number = refl;
           start = start_is;
@@ -150,15 +194,12 @@ taken_all number base [] log = let h : taken_by number log ≡ taken_by number l
 taken_all number base (size ∷ more) log =
     let rest = taken_all number (base + size) more (Reserve number base size ∷ log) in
     let here = own_takes number base size in
-    let all : sum (size ∷ more) ≡ size + sum more = sum_by-cons (λ x. x) size more in
-    omega arith
+    let all : sum (size ∷ more) ≡ size + sum more = sum_by-cons (λ x. x) size more in omega arith
 
 pub few_reserved_all : (old new : Caller) → IsCaller old → (base : ℕ) (sizes : List ℕ)
     → ReservedAll old.token.view old.number base sizes new.token.view
     → HasTakenFew (sum sizes) 0 old new
-few_reserved_all old new c base sizes r =
-    let v = old.token.view in
-    let l = r.reserved in
+few_reserved_all old new c base sizes r = let v = old.token.view in let l = r.reserved in
     let log = with_events (reservings old.number base sizes) l.before in
     let later = later_more r.seen.later (subst (λ x. Later x r.before.log l.before)
     (goes_on_who r.seen) l.later) in
@@ -172,11 +213,9 @@ few_reserved_all old new c base sizes r =
 
 -- a load of the first free word that left too few words
 looked_out : (who : Caller) → IsCaller who → (u : View) (next asked : ℕ) (w : View)
-    → GoesOnTo who.token.view u → Looked u next_place next w
-    → who.token.view.words < next + asked
+    → GoesOnTo who.token.view u → Looked u next_place next w → who.token.view.words < next + asked
     → RanOut who.number asked who.token.view.words who.token.view.start who.token.view.log w.log
-looked_out who c u next asked w g looked small =
-    let v = who.token.view in
+looked_out who c u next asked w g looked small = let v = who.token.view in
     let to = looked_goes_on u next_place next w looked in
     let later = later_more g.later (subst (λ x. Later x u.log w.log) (goes_on_who g) to.later) in
     let none = taken_later who.number (subst (λ x. Later x v.log w.log) c.mine later) in
@@ -200,8 +239,7 @@ looked_out who c u next asked w g looked small =
 pub full_out : (old new : Caller) → IsCaller old → (words size : ℕ) (full : Full)
     → words ≡ old.token.view.words → IsFull old.token.view words size full new.token.view
     → HasRunOut size old new
-full_out old new c words size full words_is f =
-    let small = f.few.small in
+full_out old new c words size full words_is f = let small = f.few.small in
     let asked = f.few.asked in
     looked_out old c f.before full.next size new.token.view f.seen f.looked (omega arith)
 
@@ -209,5 +247,4 @@ full_out old new c words size full words_is f =
 pub no_room_out : (old new : Caller) → IsCaller old → (words asked : ℕ)
     → words ≡ old.token.view.words → HasNoRoom old.token.view words asked new.token.view
     → HasRunOut asked old new
-no_room_out old new c words asked words_is h =
-    full_out old new c words asked h.0 words_is h.1
+no_room_out old new c words asked words_is h = full_out old new c words asked h.0 words_is h.1

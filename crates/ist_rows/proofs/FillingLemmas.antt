@@ -1,13 +1,11 @@
 -- Words that a caller stores one after another into a row. Serves `fill_row` and its callers.
 use Rattle.std.proofs.Common.{◌≡◌, ◌≢◌, ℕ, zero, suc, ◌+◌, ◌<◌, List, [], ◌∷◌, ◌++◌, length, take, get_or, Some, refl, sym, ap, ◌∙◌, ⊎_elim, arith}
 use Rattle.std.proofs.lemmas.List.{take_more, length-take-le}
-use Rattle.ist_core.specs.Rows.{Apart}
+use Rattle.ist_core.specs.TreeTerms.{Apart}
+use Rattle.ist_rule.specs.RuleTerms.{storing, own_at}
 use Rattle.ist_rule.specs.declared.view.OwnWord.{OwnWord}
-use Rattle.ist_rule.specs.Learning.{storing}
-use Rattle.ist_rule.specs.Rule.{own_at}
 use Rattle.ist_rule.proofs.StoreLemmas.{own_here, own_else}
-use Rattle.ist_rows.specs.declared.callers.Caller.{Caller}
-use Rattle.ist_rows.specs.Filling.{storing_all, with_own, filled_with, StandAt}
+use Rattle.ist_rows.specs.RowTerms.{Caller, storing_all, with_own, filled_with, StandAt}
 
 -- storing one word more, after the others
 storing_all-more : (own : List OwnWord) (place : ℕ) (words : List ℕ) (word : ℕ)
@@ -58,8 +56,7 @@ pub stored_step : (old who new : Caller) (base at i : ℕ) (words : List ℕ) �
       token = record who.token { view = storing who.token.view (base + at) (get_or words i 0) };
     }
     → new ≡ filled_with old base (take (i + 1) words)
-stored_step old who new base at i words less at_is was is =
-    let x : ℕ = get_or words i 0 in
+stored_step old who new base at i words less at_is was is = let x : ℕ = get_or words i 0 in
     let before : List OwnWord = storing_all old.token.view.own base (take i words) in
     let place : base + at ≡ base + length (take i words) =
     let all : length (take i words) ≡ i = length-take-le i words (omega arith) in omega arith in
@@ -78,8 +75,7 @@ stored_step old who new base at i words less at_is was is =
 pub stored_first : (own : List OwnWord) (place : ℕ) (words : List ℕ) (far : ℕ) (more : List ℕ)
     → Apart place (length words) far (length more)
     → StandAt (storing_all (storing_all own place words) far more) place words
-stored_first own place words far more apart k less =
-    stored_at own place words k less
+stored_first own place words far more apart k less = stored_at own place words k less
     ∙ ap Some (sym (stored_else (storing_all own place words) far more (place + k)
     (λ j low e. ⊎_elim (λ a. let out : far + j ≢ place + k = omega arith in out e)
     (λ a. let out : far + j ≢ place + k = omega arith in out e) apart)))

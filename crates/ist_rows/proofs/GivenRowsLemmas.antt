@@ -6,28 +6,17 @@ use Rattle.std.proofs.lemmas.Option.{none-some}
 use Rattle.ist_core.specs.declared.events.Event.{Event}
 use Rattle.ist_core.specs.declared.lists.HeldRow.{HeldRow}
 use Rattle.ist_core.specs.declared.pairs.Pair.{Pair}
-use Rattle.ist_core.specs.Elements.{Among}
-use Rattle.ist_core.specs.Fairness.{AreBuilds}
-use Rattle.ist_core.specs.Lawful.{Lawful, state_of}
-use Rattle.ist_core.specs.Logs.{Log, same_log, one_event}
-use Rattle.ist_core.specs.Snapshots.{without, HoldsRow}
-use Rattle.ist_core.specs.StartLayout.{start}
-use Rattle.ist_core.proofs.ElementLemmas.{among-filter, among_filter}
-use Rattle.ist_core.proofs.PublishingLemmas.{among_bases}
-use Rattle.ist_core.proofs.SoundLemmas.{sound}
-use Rattle.ist_core.proofs.StartLemmas.{sound_start}
 use Rattle.ist_core.specs.declared.events.Who.TheVariants.{Caller as CallerOf}
-use Rattle.ist_core.specs.Authors.{whose}
-use Rattle.ist_rows.specs.declared.kinds.Kind.{Kind}
-use Rattle.ist_rows.specs.declared.kinds.Kind.TheVariants.{Leaf, Pair as PairKind, Change, Rebuild}
-use Rattle.ist_rows.specs.Kinds.{kind_words}
-use Rattle.ist_rows.specs.Rows.{Spares, row_of, is_base, is_spare, held_by, build_sizes}
-use Rattle.ist_rows.specs.CallerLaws.{GivesUp, AreBasesOf, without_row, without_rows}
-use Rattle.ist_rows.proofs.BuildLemmas.{builds_on}
+use Rattle.ist_core.specs.LogTerms.{Among, AreBuilds, Lawful, state_of, Log, same_log, one_event, without, HoldsRow, whose}
+use Rattle.ist_core.specs.WordTerms.{start}
+use Rattle.ist_core.proofs.AllWordLemmas.{among-filter, among_filter}
+use Rattle.ist_core.proofs.AllEventLemmas.{among_bases, sound, sound_start}
+use Rattle.ist_rows.specs.RowTerms.{Kind, Leaf, Pair as PairKind, Change, Rebuild, kind_words, Spares, row_of, is_base, is_spare, held_by, build_sizes, GivesUp, AreBasesOf, without_row, without_rows}
+use Rattle.ist_rows.proofs.ReserveLemmas.{builds_on}
 use Rattle.ist_rows.proofs.CallerLemmas.{IsCallerIn, kind_of_words}
 use Rattle.ist_rows.proofs.CallerGoingLemmas.{base_same, or_any}
 use Rattle.ist_rows.proofs.HeldAfterLemmas.{held_by_own, held_after-given, after_between}
-use Rattle.ist_rows.proofs.HeldListLemmas.{filter_here}
+use Rattle.ist_rows.proofs.ShortLemmas.{filter_here}
 
 -- ---- rows of kinds
 
@@ -52,8 +41,7 @@ row_left : (kinds : List Kind) (own : Spares) (other : Kind)
     → (row_of other (without_rows kinds own) ≡ None)
     ⊎ (row_of other (without_rows kinds own) ≡ row_of other own)
 row_left [] own other = inr refl
-row_left (kind ∷ kinds) own other =
-    ⊎_elim (λ k. inl k.1)
+row_left (kind ∷ kinds) own other = ⊎_elim (λ k. inl k.1)
     (λ same. ⊎_elim (λ e. inl (same ∙ e)) (λ e. inr (same ∙ e)) (row_left kinds own other))
     (row_without kind other (without_rows kinds own))
 
@@ -75,8 +63,7 @@ kind_given : (kinds : List Kind) (own : Spares) (bases : List ℕ) → AreBasesO
 kind_given [] own [] a base i = absurd i
 kind_given [] own (b ∷ bases) a base i = absurd a
 kind_given (kind ∷ kinds) own [] a base i = absurd i
-kind_given (kind ∷ kinds) own (b ∷ bases) a base (inl e) =
-    (kind, inl refl, a.0 ∙ ap Some (sym e))
+kind_given (kind ∷ kinds) own (b ∷ bases) a base (inl e) = (kind, inl refl, a.0 ∙ ap Some (sym e))
 kind_given (kind ∷ kinds) own (b ∷ bases) a base (inr i) =
     let it = kind_given kinds own bases a.1 base i in (it.0, inr it.1, it.2)
 
@@ -130,8 +117,7 @@ spare_left : (kinds : List Kind) (own : Spares) (bases : List ℕ) → AreBasesO
     → is_spare (without_rows kinds own) base ≡ is_spare own base
 spare_left [] own bases a base out = refl
 spare_left (kind ∷ kinds) own [] a base out = absurd a
-spare_left (kind ∷ kinds) own (b ∷ bases) a base out =
-    spare_less kind (without_rows kinds own) base
+spare_left (kind ∷ kinds) own (b ∷ bases) a base out = spare_less kind (without_rows kinds own) base
     (⊎_elim (λ e. ap (λ o. is_base o base) e)
     (λ e. ap (λ o. is_base o base) (e ∙ a.0) ∙ first (b == base) _ out)
     (row_left kinds own kind))
@@ -159,20 +145,17 @@ builds_left kinds own bases a (h ∷ held) =
         → (b : Bool) → list_any (λ x. x == h.base) bases ≡ b
         → filter (λ g. not (is_spare (without_rows kinds own) g.base)) (without bases (h ∷ held))
         ≡ filter (λ g. not (is_spare own g.base)) (h ∷ held)
-    at rest true e =
-        let k = kind_given kinds own bases a h.base (among_bases h.base bases e) in
+    at rest true e = let k = kind_given kinds own bases a h.base (among_bases h.base bases e) in
         ap (filter (λ g. not (is_spare (without_rows kinds own) g.base)))
         (filter_here (λ (g : HeldRow). not (list_any (λ x. x == g.base) bases)) h held false
         (ap not e))
         ∙ rest
         ∙ sym (filter_here (λ (g : HeldRow). not (is_spare own g.base)) h held false
         (ap not (spare_of k.0 own h.base k.2)))
-    at rest false e =
-        ap (filter (λ g. not (is_spare (without_rows kinds own) g.base)))
+    at rest false e = ap (filter (λ g. not (is_spare (without_rows kinds own) g.base)))
         (filter_here (λ (g : HeldRow). not (list_any (λ x. x == g.base) bases)) h held true
         (ap not e))
-        ∙ ap₂ (λ v ys. if not v then h ∷ ys else ys)
-        (spare_left kinds own bases a h.base e) rest
+        ∙ ap₂ (λ v ys. if not v then h ∷ ys else ys) (spare_left kinds own bases a h.base e) rest
 
 -- ---- a caller that has given rows up
 
@@ -182,8 +165,7 @@ module _ (pairs : List Pair) (words : ℕ) (log : Log) (event : Event)
     (a : AreBasesOf kinds own bases) (c : IsCallerIn (state_of pairs words log) number own) where
   held_now : held_by (state_of pairs words (event ∷ log)) number
       ≡ without bases (held_by (state_of pairs words log) number)
-  held_now =
-      held_by_own pairs words log number event mine
+  held_now = held_by_own pairs words log number event mine
       ∙ held_after-given event bases (held_by (state_of pairs words log) number) gives
 
   -- the sizes of its builds are the same
@@ -225,14 +207,11 @@ module _ (pairs : List Pair) (words : ℕ) (log : Log) (event : Event)
       (ap not (out kind base e was _ refl))))).0
 
   -- after the event it is a caller without the rows of these kinds
-  pub caller_given : IsCallerIn (state_of pairs words (event ∷ log)) number
-      (without_rows kinds own)
-  caller_given =
-      record {
-        rows = λ kind base e.
-            ⊎_elim (λ n. absurd (none-some base (sym n ∙ e)))
-            (λ same. row_held kind base e (sym same ∙ e)) (row_left kinds own kind);
-        builds = builds_on (state_of pairs words log) (state_of pairs words (event ∷ log))
-            (after_between pairs words log (event ∷ log) lawful (one_event event same_log)) _
-            (subst (AreBuilds (state_of pairs words log)) (sym sizes_given) c.builds);
-      }
+  pub caller_given : IsCallerIn (state_of pairs words (event ∷ log)) number (without_rows kinds own)
+  caller_given = record {
+    rows = λ kind base e. ⊎_elim (λ n. absurd (none-some base (sym n ∙ e)))
+        (λ same. row_held kind base e (sym same ∙ e)) (row_left kinds own kind);
+    builds = builds_on (state_of pairs words log) (state_of pairs words (event ∷ log))
+        (after_between pairs words log (event ∷ log) lawful (one_event event same_log)) _
+        (subst (AreBuilds (state_of pairs words log)) (sym sizes_given) c.builds);
+  }

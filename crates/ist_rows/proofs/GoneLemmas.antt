@@ -2,20 +2,12 @@
 use Rattle.std.proofs.Common.{◌≡◌, ◌≤◌, List, refl, sym, ap, ◌∙◌, subst, le_refl}
 use Rattle.ist_core.specs.declared.events.Event.{Event}
 use Rattle.ist_core.specs.declared.events.Event.TheVariants.{Install}
-use Rattle.ist_core.specs.Authors.{no_more, LaterBy}
+use Rattle.ist_core.specs.LogTerms.{no_more, LaterBy}
+use Rattle.ist_rule.specs.RuleTerms.{TokenFace, WentOn, GoesOnTo, IsSound}
 use Rattle.ist_rule.specs.declared.view.OwnWord.{OwnWord}
 use Rattle.ist_rule.specs.declared.view.View.{View}
-use Rattle.ist_rule.specs.Faces.{TokenFace}
-use Rattle.ist_rule.specs.Going.{WentOn}
-use Rattle.ist_rule.specs.Learning.{GoesOnTo}
-use Rattle.ist_rule.specs.Rule.{IsSound}
 use Rattle.ist_rule.proofs.WentOnLemmas.{went_all, went_more, went_same, goes_on_went}
-use Rattle.ist_rows.specs.declared.callers.Caller.{Caller}
-use Rattle.ist_rows.specs.Building.{HasRefused}
-use Rattle.ist_rows.specs.CallerLaws.{KeepsRows, InstallsNone}
-use Rattle.ist_rows.specs.Filling.{with_own}
-use Rattle.ist_rows.specs.Going.{IsReady, HasGone, StaysReady}
-use Rattle.ist_rows.specs.Rows.{IsCaller}
+use Rattle.ist_rows.specs.RowTerms.{Caller, HasRefused, KeepsRows, InstallsNone, with_own, IsReady, HasGone, StaysReady, IsCaller}
 use Rattle.ist_rows.proofs.CallerLawLemmas.{caller_went, refused_went, resolved_went}
 
 -- ---- going on
@@ -23,26 +15,24 @@ use Rattle.ist_rows.proofs.CallerLawLemmas.{caller_went, refused_went, resolved_
 -- a token that stored words of its own went on
 pub own_went : (P : Event → Type 0) (v w : View) → IsSound w → w ≡ record v { own = w.own }
     → WentOn P v w
-own_went P v w s e =
-    record {
-      later = subst (λ l. LaterBy v.who P v.log l) (sym (ap (λ x. x.log) e)) no_more;
-      sound = s;
-      same = e ∙ sym (ap {B = View} (λ (x : View). record v {
-        log = x.log;
-        own = w.own;
-        loads = x.loads;
-        loaded = x.loaded;
-      }) e);
-      loaded = subst (λ n. v.loaded ≤ n) (sym (ap (λ x. x.loaded) e)) (le_refl v.loaded);
-    }
+own_went P v w s e = record {
+  later = subst (λ l. LaterBy v.who P v.log l) (sym (ap (λ x. x.log) e)) no_more;
+  sound = s;
+  same = e ∙ sym (ap {B = View} (λ (x : View). record v {
+    log = x.log;
+    own = w.own;
+    loads = x.loads;
+    loaded = x.loaded;
+  }) e);
+  loaded = subst (λ n. v.loaded ≤ n) (sym (ap (λ x. x.loaded) e)) (le_refl v.loaded);
+}
 
 -- a caller whose token went on by events that change nothing of what it holds has gone so
 pub caller_gone : (P : Event → Type 0) → ((event : Event) → P event → KeepsRows event)
     → (who : Caller) (token : TokenFace) → IsCaller who → HasRefused who
     → WentOn P who.token.view token.view → HasGone P who (record who { token = token })
 caller_gone P all who token c r g =
-    let kept = went_all P KeepsRows all who.token.view token.view g in
-    record {
+    let kept = went_all P KeepsRows all who.token.view token.view g in record {
       caller = caller_went who token c kept;
       number = refl;
       refused = refused_went who token c r kept;
@@ -65,24 +55,22 @@ loads_gone P who token c r g =
 -- having gone twice
 pub gone_more : (P : Event → Type 0) (old mid new : Caller) → HasGone P old mid → HasGone P mid new
     → HasGone P old new
-gone_more P old mid new a b =
-    record {
-      caller = b.caller;
-      number = b.number ∙ a.number;
-      refused = b.refused;
-      went = went_more P old.token.view mid.token.view new.token.view a.went b.went;
-    }
+gone_more P old mid new a b = record {
+  caller = b.caller;
+  number = b.number ∙ a.number;
+  refused = b.refused;
+  went = went_more P old.token.view mid.token.view new.token.view a.went b.went;
+}
 
 -- having gone by events of which more may be said
 pub gone_all : (P Q : Event → Type 0) → ((event : Event) → P event → Q event) → (old new : Caller)
     → HasGone P old new → HasGone Q old new
-gone_all P Q all old new a =
-    record {
-      caller = a.caller;
-      number = a.number;
-      refused = a.refused;
-      went = went_all P Q all old.token.view new.token.view a.went;
-    }
+gone_all P Q all old new a = record {
+  caller = a.caller;
+  number = a.number;
+  refused = a.refused;
+  went = went_all P Q all old.token.view new.token.view a.went;
+}
 
 -- ---- staying ready
 
@@ -93,16 +81,15 @@ still_ready on = record { caller = on.gone.caller; refused = on.gone.refused; qu
 -- a ready caller that does nothing stays ready
 pub ready_same : (P : Event → Type 0) (who : Caller) → IsSound who.token.view → IsReady who
     → StaysReady P who who
-ready_same P who s ready =
-    record {
-      gone = record {
-        caller = ready.caller;
-        number = refl;
-        refused = ready.refused;
-        went = went_same P who.token.view s;
-      };
-      quiet = ready.quiet;
-    }
+ready_same P who s ready = record {
+  gone = record {
+    caller = ready.caller;
+    number = refl;
+    refused = ready.refused;
+    went = went_same P who.token.view s;
+  };
+  quiet = ready.quiet;
+}
 
 -- staying ready twice
 pub ready_more : (P : Event → Type 0) (old mid new : Caller) → StaysReady P old mid
@@ -125,8 +112,7 @@ pub kept_ready : (P : Event → Type 0) → ((event : Event) → P event → Kee
     → (who : Caller) (token : TokenFace) → IsReady who → WentOn P who.token.view token.view
     → StaysReady P who (record who { token = token })
 kept_ready P all who token ready g =
-    let kept = went_all P KeepsRows all who.token.view token.view g in
-    record {
+    let kept = went_all P KeepsRows all who.token.view token.view g in record {
       gone = caller_gone P all who token ready.caller ready.refused g;
       quiet = record {
         pending = ready.quiet.pending;
@@ -148,21 +134,20 @@ loads_ready P who token ready g =
 -- so does one that stored words
 pub own_ready : (P : Event → Type 0) (who : Caller) (own : List OwnWord) → IsReady who
     → IsSound (with_own who own).token.view → StaysReady P who (with_own who own)
-own_ready P who own ready s =
-    record {
-      gone = record {
-        caller = record {
-          mine = ready.caller.mine;
-          rows = ready.caller.rows;
-          builds = ready.caller.builds;
-        };
-        number = refl;
-        refused = ready.refused;
-        went = own_went P who.token.view (with_own who own).token.view s refl;
-      };
-      quiet = record {
-        pending = ready.quiet.pending;
-        in_call = ready.quiet.in_call;
-        resolved = ready.quiet.resolved;
-      };
-    }
+own_ready P who own ready s = record {
+  gone = record {
+    caller = record {
+      mine = ready.caller.mine;
+      rows = ready.caller.rows;
+      builds = ready.caller.builds;
+    };
+    number = refl;
+    refused = ready.refused;
+    went = own_went P who.token.view (with_own who own).token.view s refl;
+  };
+  quiet = record {
+    pending = ready.quiet.pending;
+    in_call = ready.quiet.in_call;
+    resolved = ready.quiet.resolved;
+  };
+}

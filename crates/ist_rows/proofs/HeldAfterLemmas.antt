@@ -8,27 +8,16 @@ use Rattle.ist_core.specs.declared.events.Event.{Event}
 use Rattle.ist_core.specs.declared.events.Event.TheVariants.{Reserve, Install, Resolve, Root, Place, Lose}
 use Rattle.ist_core.specs.declared.lists.HeldRow.{HeldRow}
 use Rattle.ist_core.specs.declared.pairs.Pair.{Pair}
-use Rattle.ist_core.specs.After.{after}
-use Rattle.ist_core.specs.Authors.{no_more, one_more, whose, LaterBy}
-use Rattle.ist_core.specs.Elements.{Among}
-use Rattle.ist_core.specs.Fairness.{AreBuilds}
-use Rattle.ist_core.specs.Lawful.{EachEnabled, Lawful, state_of}
-use Rattle.ist_core.specs.Logs.{Log, GoesOn}
-use Rattle.ist_core.specs.Pieces.{as_change}
-use Rattle.ist_core.specs.Snapshots.{Snapshot, bases_of, without}
-use Rattle.ist_core.specs.StartLayout.{start}
-use Rattle.ist_core.proofs.ElementLemmas.{among-filter, among_filter}
-use Rattle.ist_core.proofs.FateLemmas.{grow_between}
-use Rattle.ist_core.proofs.RoomLemmas.{words_same}
 use Rattle.ist_core.specs.declared.events.Who.TheVariants.{Caller as CallerOf}
-use Rattle.ist_core.proofs.HoldingLemmas.{held-resolved}
-use Rattle.ist_rule.proofs.HeldBetweenLemmas.{next_between}
-use Rattle.ist_rows.specs.Kinds.{kind_words}
-use Rattle.ist_rows.specs.Rows.{Spares, is_spare, held_by}
-use Rattle.ist_rows.specs.CallerLaws.{KeepsRows, held_after, GivesUp}
-use Rattle.ist_rows.proofs.BuildLemmas.{ComesAfter, builds_on}
+use Rattle.ist_core.specs.LogTerms.{after, no_more, one_more, whose, LaterBy, Among, AreBuilds, EachEnabled, Lawful, state_of, Log, GoesOn, Snapshot, bases_of, without}
+use Rattle.ist_core.specs.WordTerms.{as_change, start}
+use Rattle.ist_core.proofs.AllWordLemmas.{among-filter, among_filter}
+use Rattle.ist_core.proofs.AllLogLemmas.{grow_between, words_same, held-resolved}
+use Rattle.ist_rule.proofs.EventLemmas.{next_between}
+use Rattle.ist_rows.specs.RowTerms.{kind_words, Spares, is_spare, held_by, KeepsRows, held_after, GivesUp}
+use Rattle.ist_rows.proofs.ReserveLemmas.{ComesAfter, builds_on}
 use Rattle.ist_rows.proofs.CallerLemmas.{IsCallerIn}
-use Rattle.ist_rows.proofs.HeldListLemmas.{held_by_step, filter_here}
+use Rattle.ist_rows.proofs.ShortLemmas.{held_by_step, filter_here}
 use Rattle.ist_rows.proofs.CallerGoingLemmas.{base_same}
 
 -- ---- lists
@@ -51,8 +40,7 @@ filter_swap p q (x ∷ xs) = at (filter_swap p q xs) (p x) refl (q x) refl
     at rest false e true f =
         ap (filter p) (filter_here q x xs true f) ∙ filter_here p x (filter q xs) false e ∙ rest
         ∙ ap (filter q) (sym (filter_here p x xs false e))
-    at rest false e false f =
-        ap (filter p) (filter_here q x xs false f) ∙ rest
+    at rest false e false f = ap (filter p) (filter_here q x xs false f) ∙ rest
         ∙ ap (filter q) (sym (filter_here p x xs false e))
 
 -- ---- one event
@@ -69,8 +57,7 @@ held_kept t _ is = refl
 
 -- an event of a caller changes what it holds just so
 pub held_by_own : (pairs : List Pair) (words : ℕ) (log : Log) (number : ℕ) (event : Event)
-    → whose event ≡ CallerOf number
-    → held_by (state_of pairs words (event ∷ log)) number
+    → whose event ≡ CallerOf number → held_by (state_of pairs words (event ∷ log)) number
     ≡ held_after event (held_by (state_of pairs words log) number)
 held_by_own pairs words log number event mine = at event mine
   where
@@ -82,11 +69,9 @@ held_by_own pairs words log number event mine = at event mine
         (state_of pairs words log).held
 
     same_number : (caller : ℕ) → CallerOf caller ≡ CallerOf number → (caller == number) ≡ true
-    same_number caller e = ⊎_elim (λ k. k.0) (λ k. absurd (k.1 (cc)))
-        (eqb_tells caller number)
+    same_number caller e = ⊎_elim (λ k. k.0) (λ k. absurd (k.1 (cc))) (eqb_tells caller number)
 
-    at : (e : Event) → whose e ≡ CallerOf number
-        → held_by (state_of pairs words (e ∷ log)) number
+    at : (e : Event) → whose e ≡ CallerOf number → held_by (state_of pairs words (e ∷ log)) number
         ≡ held_after e (held_by (state_of pairs words log) number)
     at (Reserve caller base size) is =
         let row : HeldRow = record { caller = caller; base = base; size = size } in
@@ -98,8 +83,7 @@ held_by_own pairs words log number event mine = at event mine
     at (Root caller rebuild word rows) is = given (bases_of rows)
     at (Place caller rebuild i word rows) is = given (bases_of rows)
     at (Lose caller bases) is = given bases
-    at (Resolve caller change) is =
-        ap (filter (λ (h : HeldRow). h.caller == number))
+    at (Resolve caller change) is = ap (filter (λ (h : HeldRow). h.caller == number))
         (held-resolved (state_of pairs words log)
         (as_change ((state_of pairs words log).pieces change)))
     at _ is = refl
@@ -131,13 +115,11 @@ held_by_went pairs words number old _ enabled (one_more {log = log} event l (inr
 -- a later state comes after an earlier one
 pub after_between : (pairs : List Pair) (words : ℕ) (old log : Log) → Lawful pairs words log
     → GoesOn old log → ComesAfter (state_of pairs words old) (state_of pairs words log)
-after_between pairs words old log lawful g =
-    record {
-      words = words_same pairs words lawful.opens log ∙ sym
-          (words_same pairs words lawful.opens old);
-      next = next_between pairs words old log lawful.enabled g;
-      grow = grow_between pairs words old log lawful.enabled g;
-    }
+after_between pairs words old log lawful g = record {
+  words = words_same pairs words lawful.opens log ∙ sym (words_same pairs words lawful.opens old);
+  next = next_between pairs words old log lawful.enabled g;
+  grow = grow_between pairs words old log lawful.enabled g;
+}
 
 -- if a caller holds the same rows, its rows are what they were
 pub caller_between : (pairs : List Pair) (words : ℕ) (old log : Log) (number : ℕ) (own : Spares)
@@ -145,16 +127,15 @@ pub caller_between : (pairs : List Pair) (words : ℕ) (old log : Log) (number :
     → held_by (state_of pairs words log) number ≡ held_by (state_of pairs words old) number
     → IsCallerIn (state_of pairs words old) number own
     → IsCallerIn (state_of pairs words log) number own
-caller_between pairs words old log number own lawful g same c =
-    record {
-      rows = λ kind base e.
-          let row : HeldRow = record { caller = number; base = base; size = kind_words kind } in
-          (among-filter (λ (h : HeldRow). h.caller == number) row (state_of pairs words log).held
-          (subst (Among row) (sym same)
-          (among_filter (λ (h : HeldRow). h.caller == number) row (state_of pairs words old).held
-          (c.rows kind base e) (base_same number)))).0;
-      builds = builds_on (state_of pairs words old) (state_of pairs words log)
-          (after_between pairs words old log lawful g) _
-          (subst (λ held. AreBuilds (state_of pairs words old)
-          (map (λ h. h.size) (filter (λ h. not (is_spare own h.base)) held))) (sym same) c.builds);
-    }
+caller_between pairs words old log number own lawful g same c = record {
+  rows = λ kind base e.
+      let row : HeldRow = record { caller = number; base = base; size = kind_words kind } in
+      (among-filter (λ (h : HeldRow). h.caller == number) row (state_of pairs words log).held
+      (subst (Among row) (sym same)
+      (among_filter (λ (h : HeldRow). h.caller == number) row (state_of pairs words old).held
+      (c.rows kind base e) (base_same number)))).0;
+  builds = builds_on (state_of pairs words old) (state_of pairs words log)
+      (after_between pairs words old log lawful g) _
+      (subst (λ held. AreBuilds (state_of pairs words old)
+      (map (λ h. h.size) (filter (λ h. not (is_spare own h.base)) held))) (sym same) c.builds);
+}

@@ -1,5 +1,3 @@
-pub mod HeldListLemmas
-pub mod BuildLemmas
 pub mod EnterLemmas
 pub mod ReserveLemmas
 pub mod CallerLemmas
@@ -10,10 +8,8 @@ pub mod BlockLemmas
 pub mod TakingLemmas
 pub mod BuildingCallLemmas
 pub mod HeldAfterLemmas
-pub mod SpareTakenLemmas
 pub mod GivenRowsLemmas
 pub mod CallerLawLemmas
-pub mod TakenLemmas
 pub mod FewLemmas
 pub mod FewStepLemmas
 pub mod DropLemmas

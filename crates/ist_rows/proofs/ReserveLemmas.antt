@@ -1,29 +1,18 @@
 -- Reserving: when it may be made, and what it leaves. Serves `reserving`.
-use Rattle.std.proofs.Common.{◌≡◌, ◌≢◌, ℕ, ◌+◌, ◌-◌, ◌<◌, ◌≤◌, [], ◌∷◌, ◌++◌, refl, sym, ap, ap₂, ◌∙◌, subst, arith}
+use Rattle.std.proofs.Common.{◌≡◌, ◌≢◌, ℕ, ◌+◌, ◌-◌, ◌<◌, ◌≤◌, [], ◌∷◌, ◌++◌, refl, sym, ap, ap₂, ◌∙◌, subst, arith, not, Bool, true, false, if◌then◌else◌, List, map, filter}
 use Rattle.ist_core.specs.declared.events.Event.{Event}
 use Rattle.ist_core.specs.declared.events.Event.TheVariants.{Reserve}
-use Rattle.ist_core.specs.RowLayout.{next_place, place_limit}
-use Rattle.ist_core.specs.Snapshots.{Snapshot, sizes_held}
-use Rattle.ist_core.specs.Fairness.{IsFair}
-use Rattle.ist_core.specs.Authors.{Later}
-use Rattle.ist_core.specs.Lawful.{Lawful, state_of}
-use Rattle.ist_core.specs.Logs.{Log}
-use Rattle.ist_core.proofs.RoomLemmas.{next_within, words_same}
-use Rattle.ist_rule.specs.declared.view.View.{View}
 use Rattle.ist_core.specs.declared.events.Who.TheVariants.{Caller}
-use Rattle.ist_core.specs.Shown.{shown_next}
-use Rattle.ist_core.proofs.ShownLemmas.{next_word}
-use Rattle.ist_rule.specs.Rule.{IsSound}
-use Rattle.ist_rule.specs.Learning.{now, GoesOnTo, Looked}
-use Rattle.ist_rule.specs.Conditions.{CanExchange}
-use Rattle.ist_rule.specs.Going.{WentOn}
-use Rattle.ist_rule.proofs.GoingOnLemmas.{callers_later, goes_on_more, goes_on_same, goes_on_who, looked_goes_on, may_come_before}
-use Rattle.ist_rule.proofs.HeldBetweenLemmas.{next_between}
+use Rattle.ist_core.specs.WordTerms.{next_place, place_limit, ref_of, finished_word}
+use Rattle.ist_core.specs.LogTerms.{Snapshot, sizes_held, IsFair, Later, Lawful, state_of, Log, shown_next, IsBuilding, IsStuck, AreBuilds, no_build, last_build, stuck_build, IsMerge, at_end, from_left, from_right}
+use Rattle.ist_core.proofs.AllLogLemmas.{next_within, words_same, next_word, inner_there, change_there, rebuild_there}
+use Rattle.ist_rule.specs.RuleTerms.{IsSound, now, GoesOnTo, Looked, CanExchange, WentOn, number_of}
+use Rattle.ist_rule.specs.declared.view.View.{View}
+use Rattle.ist_rule.proofs.EventLemmas.{callers_later, goes_on_more, goes_on_same, goes_on_who, looked_goes_on, may_come_before, next_between}
 use Rattle.ist_rule.proofs.LaterLemmas.{later-goes_on, later_more}
 use Rattle.ist_rule.proofs.WentOnLemmas.{goes_on_lawful, goes_on_now, goes_on_went, logged_went, went_more}
-use Rattle.ist_rule.specs.Watching.{number_of}
-use Rattle.ist_rows.specs.Fairly.{MayTake, reserving}
-use Rattle.ist_rows.specs.Rows.{HasReadNext, Reserved}
+use Rattle.ist_rows.specs.RowTerms.{MayTake, reserving, HasReadNext, Reserved}
+use Rattle.ist_core.specs.TreeTerms.{AllGrow, StatusGoesOn, status_stays, is_marked, is_finished, is_closed, IsStarted, IsFinishedWith}
 
 -- ---- what a reserving leaves
 
@@ -38,13 +27,10 @@ pub record Took (v : View) (number base size : ℕ) (w : View) : Type 0 where
 -- a token that reserved a row has such a log
 pub took : (v : View) (number base size : ℕ) (w : View) → Reserved v number base size w
     → Took v number base size w
-took v number base size w r =
-    let l = r.reserved in
-    let event = Reserve number base size in
+took v number base size w r = let l = r.reserved in let event = Reserve number base size in
     let start_is : w.start ≡ v.start = ap (λ x. x.start) l.view ∙ ap (λ x. x.start) r.seen.same in
     let words_is : w.words ≡ v.words = ap (λ x. x.words) l.view ∙ ap (λ x. x.words) r.seen.same in
-    let log_is : w.log ≡ event ∷ l.before = ap (λ x. x.log) l.view in
-    record {
+    let log_is : w.log ≡ event ∷ l.before = ap (λ x. x.log) l.view in record {
       before = l.before;
       lawful = subst (λ p. Lawful p v.words (event ∷ l.before)) start_is
           (subst (λ n. Lawful w.start n (event ∷ l.before)) words_is
@@ -69,26 +55,23 @@ reserved_went P v number base size w r is =
 pub can_reserve : (v : View) (number old size : ℕ) → IsSound v → v.who ≡ Caller number
     → old + size ≤ v.words → MayTake v number size
     → CanExchange v next_place old (old + size) (Reserve number old size)
-can_reserve v number old size s who room fair =
-    record {
-      make = record { mine = sym who; stored = tt; allowed = tt };
-      known = λ log m. ((state_of v.start v.words log).next, shown_next);
-      comes = λ log m shown.
-          let is = next_word v.start v.words log m.lawful.enabled next_place old shown refl in
-          let all = words_same v.start v.words m.lawful.opens log in
-          let low = s.is_true.low number who in
-          let more = callers_later v.start v.words v.log log m.later in
-          record {
-            enabled = record {
-              known = omega arith;
-              base_is = is;
-              room = omega arith;
-              fair =
-                  fair log m;
-            };
-            touches = refl;
-          };
-    }
+can_reserve v number old size s who room fair = record {
+  make = record { mine = sym who; stored = tt; allowed = tt };
+  known = λ log m. ((state_of v.start v.words log).next, shown_next);
+  comes = λ log m shown.
+      let is = next_word v.start v.words log m.lawful.enabled next_place old shown refl in
+      let all = words_same v.start v.words m.lawful.opens log in
+      let low = s.is_true.low number who in
+      let more = callers_later v.start v.words v.log log m.later in record {
+        enabled = record {
+          known = omega arith;
+          base_is = is;
+          room = omega arith;
+          fair = fair log m;
+        };
+        touches = refl;
+      };
+}
 
 -- what a caller may take it may take later
 pub may_take_on : (v w : View) (number size : ℕ) → GoesOnTo v w → MayTake v number size
@@ -102,8 +85,7 @@ may_take_on v w number size g fair log m =
 
 -- the first free word lies within the table, which is small
 pub next_low : (v : View) → IsSound v → ((now v).next ≤ v.words) × (v.words ≤ place_limit)
-next_low v s =
-    let low = next_within v.start v.words s.lawful.opens v.log s.lawful.enabled in
+next_low v s = let low = next_within v.start v.words s.lawful.opens v.log s.lawful.enabled in
     let all = words_same v.start v.words s.lawful.opens v.log in
     (omega arith, s.lawful.opens.within)
 
@@ -135,8 +117,7 @@ read_table v next w r =
 
 -- the first free word never falls on the way
 next_on : (v w : View) (place word : ℕ) → Looked v place word w → (now v).next ≤ (now w).next
-next_on v w place word l =
-    let g = looked_goes_on v place word w l in
+next_on v w place word l = let g = looked_goes_on v place word w l in
     let lawful = goes_on_lawful v w g in
     let same = ap (λ (t : Snapshot). t.next) (goes_on_now v w g) in
     let more = next_between v.start v.words v.log w.log lawful.enabled (later-goes_on l.later) in
@@ -145,16 +126,130 @@ next_on v w place word l =
 -- if another word is found than was read before, the first free word lies further on
 pub next_risen : (u v w : View) (word found : ℕ) → Looked u next_place word v
     → Looked v next_place found w → found ≢ word → word < found
-next_risen u v w word found l m ne =
-    let here = looked_next u word v l in
-    let there = looked_next v found w m in
-    let then = next_on v w next_place found m in
-    let other : found ≢ word = ne in
-    omega arith
+next_risen u v w word found l m ne = let here = looked_next u word v l in
+    let there = looked_next v found w m in let held = next_on v w next_place found m in
+    let other : found ≢ word = ne in omega arith
 
 -- the event that the exchange of a caller names
 pub reserving_is : (v : View) (number old size : ℕ) → v.who ≡ Caller number
     → reserving v old (old + size) ≡ Reserve number old size
-reserving_is v number old size who =
-    let size_is : (old + size) - old ≡ size = omega arith in
+reserving_is v number old size who = let size_is : (old + size) - old ≡ size = omega arith in
     ap₂ (λ n z. Reserve n old z) (ap number_of who) size_is
+
+-- ---- builds after longer logs, and how the rows of a caller are merged from builds and others. Serves
+-- fairness.
+
+-- the second state comes after the first
+pub record ComesAfter (t u : Snapshot) : Type 0 where
+  pub words : u.words ≡ t.words
+  pub next : t.next ≤ u.next
+  pub grow : AllGrow t.pieces u.pieces
+
+-- a finished status stays
+finished_stays : (old new k : ℕ) → StatusGoesOn old new → old ≡ finished_word k
+    → new ≡ finished_word k
+finished_stays old new k (status_stays e) is = e ∙ is
+finished_stays old new k (is_marked e f) is = absurd (omega arith)
+finished_stays old new k (is_finished j e f) is = absurd (omega arith)
+finished_stays old new k (is_closed j e f) is = absurd (omega arith)
+
+module _ (t u : Snapshot) (b : ComesAfter t u) where
+  -- a started rebuild stays started
+  started_on : (rebuild : ℕ) → IsStarted t rebuild → IsStarted u rebuild
+  started_on rebuild s =
+      let it = change_there t.pieces u.pieces b.grow s.base s.change s.published in let g = it.2 in
+      let yes = s.decision in record {
+        base = s.base;
+        change = it.0;
+        published = it.1;
+        kind = ap (λ r. r.kind) g.others ∙ s.kind;
+        decision = g.decided (λ e. let n : 1 ≡ 0 = sym yes ∙ e in omega arith) ∙ s.decision;
+        to = ap (λ r. ref_of r.to) g.others ∙ s.to;
+      }
+
+  -- a finished row stays finished
+  finished_on : (node k : ℕ) → IsFinishedWith t node k → IsFinishedWith u node k
+  finished_on node k f = let it = inner_there t.pieces u.pieces b.grow node f.row f.published in
+      record {
+        row = it.0;
+        published = it.1;
+        status = finished_stays f.row.status it.0.status k it.2.status f.status;
+      }
+
+  -- a building list stays one
+  pub building_on : (sizes : List ℕ) → IsBuilding t sizes → IsBuilding u sizes
+  building_on sizes h =
+      let it = rebuild_there t.pieces u.pieces b.grow h.rebuild h.row h.published in record {
+        rebuild = h.rebuild;
+        row = it.0;
+        published = it.1;
+        started = started_on h.rebuild h.started;
+        k = h.k;
+        finished = subst (λ n. IsFinishedWith u n h.k) (sym it.2.target)
+            (finished_on h.row.target h.k h.finished);
+        build = h.build;
+      }
+
+  -- what is stuck stays stuck
+  pub stuck_on : (sizes : List ℕ) → IsStuck t sizes → IsStuck u sizes
+  stuck_on sizes s = let size = b.words in let more_used = b.next in let short = s.no_room in
+      record {
+        next_size = s.next_size;
+        rest = s.rest;
+        building = building_on (sizes ++ s.next_size ∷ s.rest) s.building;
+        no_room = omega arith;
+      }
+
+  -- builds stay builds, and what is stuck stays stuck
+  pub builds_on : (sizes : List ℕ) → AreBuilds t sizes → AreBuilds u sizes
+  builds_on _ no_build = no_build
+  builds_on _ (last_build {sizes = sizes} rest h) = last_build rest (building_on (sizes ++ rest) h)
+  builds_on _ (stuck_build {sizes = sizes} {more = more} s a) = let size = b.words in
+      let more_used = b.next in let short = s.no_room in stuck_build
+      record {
+        next_size = s.next_size;
+        rest = s.rest;
+        building = building_on (sizes ++ s.next_size ∷ s.rest) s.building;
+        no_room = omega arith;
+      }
+      (builds_on more a)
+
+-- ---- merging
+
+-- a list is merged from what a test refuses and what it accepts
+pub merge_filter : {A : Type 0} (f : A → ℕ) (p : A → Bool) (xs : List A)
+    → IsMerge (map f xs) (map f (filter (λ x. not (p x)) xs)) (map f (filter p xs))
+merge_filter f p [] = at_end
+merge_filter f p (x ∷ xs) = at (merge_filter f p xs) (p x) refl
+  where
+    at : IsMerge (map f xs) (map f (filter (λ y. not (p y)) xs)) (map f (filter p xs)) → (b : Bool)
+        → p x ≡ b → IsMerge (map f (x ∷ xs)) (map f (filter (λ y. not (p y)) (x ∷ xs)))
+        (map f (filter p (x ∷ xs)))
+    at rest true e =
+        subst (λ v. IsMerge (map f (x ∷ xs))
+        (map f (if not v then x ∷ filter (λ y. not (p y)) xs else filter (λ y. not (p y)) xs))
+        (map f (if v then x ∷ filter p xs else filter p xs))) (sym e)
+        (from_right (f x) rest)
+    at rest false e =
+        subst (λ v. IsMerge (map f (x ∷ xs))
+        (map f (if not v then x ∷ filter (λ y. not (p y)) xs else filter (λ y. not (p y)) xs))
+        (map f (if v then x ∷ filter p xs else filter p xs))) (sym e)
+        (from_left (f x) rest)
+
+-- one more at the end, from the right
+pub merge_more : (xs left right : List ℕ) (size : ℕ) → IsMerge xs left right
+    → IsMerge (xs ++ size ∷ []) left (right ++ size ∷ [])
+merge_more _ _ _ size at_end = from_right size at_end
+merge_more _ _ _ size (from_left {sizes = xs} {left = left} {right = right} n m) =
+    from_left n (merge_more xs left right size m)
+merge_more _ _ _ size (from_right {sizes = xs} {left = left} {right = right} n m) =
+    from_right n (merge_more xs left right size m)
+
+-- one more at the end, from the left
+pub merge_first : (xs left right : List ℕ) (size : ℕ) → IsMerge xs left right
+    → IsMerge (xs ++ size ∷ []) (left ++ size ∷ []) right
+merge_first _ _ _ size at_end = from_left size at_end
+merge_first _ _ _ size (from_left {sizes = xs} {left = left} {right = right} n m) =
+    from_left n (merge_first xs left right size m)
+merge_first _ _ _ size (from_right {sizes = xs} {left = left} {right = right} n m) =
+    from_right n (merge_first xs left right size m)

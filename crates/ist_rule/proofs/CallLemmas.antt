@@ -9,27 +9,17 @@ use Rattle.ist_core.specs.declared.states.ChangeRow.{ChangeRow}
 use Rattle.ist_core.specs.declared.lists.Row.{Row}
 use Rattle.ist_core.specs.declared.events.Event.{Event}
 use Rattle.ist_core.specs.declared.events.Event.TheVariants.{Install}
-use Rattle.ist_core.specs.Pieces.{Change}
-use Rattle.ist_core.specs.StartLayout.{start}
-use Rattle.ist_core.specs.Logs.{Log}
-use Rattle.ist_core.specs.Installing.{CanInstall}
-use Rattle.ist_core.specs.Rebuilding.{IsUpdate}
-use Rattle.ist_core.specs.Deciding.{AllResolvedOf}
-use Rattle.ist_core.specs.Enabled.{Enabled}
-use Rattle.ist_core.specs.Lawful.{EachEnabled, state_of}
-use Rattle.ist_core.specs.Changes.{changes_of, command_of}
-use Rattle.ist_core.specs.Standing.{entries_by}
-use Rattle.ist_rule.specs.declared.view.Pending.{Pending}
 use Rattle.ist_core.specs.declared.events.Who.TheVariants.{Caller}
-use Rattle.ist_core.specs.Authors.{no_more, one_more, whose, Later}
-use Rattle.ist_rule.specs.Standings.{entries_made, HasMade, IsUndecided, IsBetween, IsAtWork, IsEntered, CallStands}
+use Rattle.ist_core.specs.WordTerms.{Change, start}
+use Rattle.ist_core.specs.LogTerms.{Log, Enabled, EachEnabled, state_of, no_more, one_more, whose, Later}
+use Rattle.ist_core.specs.TreeTerms.{CanInstall, IsUpdate, AllResolvedOf, changes_of, command_of, entries_by}
+use Rattle.ist_rule.specs.RuleTerms.{Pending, entries_made, HasMade, IsUndecided, IsBetween, IsAtWork, IsEntered, CallStands}
 use Rattle.ist_rule.proofs.StandingLemmas.{EntriesMove, same_entries, new_entry, entries_move}
 use Rattle.ist_rule.proofs.UndecidedLemmas.{UndecidedComes, undecided_comes, decided_now, none_undecided, resolved_on, was_undecided, now_installed}
 
 -- an event of another installs nothing for the caller
 pub installs_not : (number : ℕ) (event : Event) → whose event ≢ Caller number
-    → (base : ℕ) (rows : List Row)
-    → event ≢ Install number base rows
+    → (base : ℕ) (rows : List Row) → event ≢ Install number base rows
 installs_not number event other base rows e = other (ap whose e)
 
 -- what is known of an Install of the caller: all before is resolved, and a put or remove is the
@@ -47,11 +37,10 @@ module _ (pairs : List Pair) (words : ℕ) (number : ℕ) (calls : List Call) wh
   pub between_on : (log : Log) (event : Event) → EachEnabled (start pairs words) (event ∷ log)
       → ((base : ℕ) (rows : List Row) → event ≢ Install number base rows)
       → IsBetween pairs words log number calls → IsBetween pairs words (event ∷ log) number calls
-  between_on log event enabled idle b =
-      record {
-        made = at (entries_move pairs words log number event enabled.1);
-        resolved = resolved_on pairs words log event enabled number idle b.resolved;
-      }
+  between_on log event enabled idle b = record {
+    made = at (entries_move pairs words log number event enabled.1);
+    resolved = resolved_on pairs words log event enabled number idle b.resolved;
+  }
     where
       at : EntriesMove pairs words log number event → HasMade pairs words (event ∷ log) number calls
       at (same_entries e) = e ∙ b.made
@@ -69,8 +58,7 @@ module _ (pairs : List Pair) (words : ℕ) (number : ℕ) (calls : List Call) wh
 
   -- all stays resolved along a log that goes on by others
   pub resolved_later : (old log : Log) → EachEnabled (start pairs words) log
-      → Later (Caller number) old log
-      → AllResolvedOf (state_of pairs words old) old number
+      → Later (Caller number) old log → AllResolvedOf (state_of pairs words old) old number
       → AllResolvedOf (state_of pairs words log) log number
   resolved_later old _ enabled no_more all = all
   resolved_later old _ enabled (one_more {log = log} event l other) all =
@@ -125,8 +113,7 @@ module _ (pairs : List Pair) (words : ℕ) (number : ℕ) (calls : List Call) wh
       where
         one_now : (base other : ℕ) → IsUndecided (state_of pairs words (event ∷ log)) number base
             → IsUndecided (state_of pairs words (event ∷ log)) number other → base ≡ other
-        one_now base other u v =
-            ⊎_elim
+        one_now base other u v = ⊎_elim
             (λ a. ⊎_elim (λ b. w.one base other a.0 b.0)
             (λ b. ⊎_elim (λ e. sym e) (λ x. absurd
             (none_undecided pairs words log enabled.0 number b.1.resolved base a.0))
@@ -140,44 +127,38 @@ module _ (pairs : List Pair) (words : ℕ) (number : ℕ) (calls : List Call) wh
         at : EntriesMove pairs words log number event
             → IsAtWork pairs words (event ∷ log) number calls command
             ⊎ IsEntered pairs words (event ∷ log) number calls command
-        at (same_entries e) =
-            inl record {
-              made = e ∙ w.made;
-              its_command = λ base u. ⊎_elim (λ a. sym a.1 ∙ w.its_command base a.0)
-                  (λ a. sym a.3 ∙ a.1.its_command a.2) (comes_from base u);
-              one = one_now;
-            }
-        at (new_entry by base is u entry named e) =
-            inr record {
-              entry = entry;
-              made = e ∙ ap (λ xs. xs ++ entry ∷ []) w.made;
-              its_command = sym (w.its_command base u) ∙ named;
-              none = λ other v.
-                  ⊎_elim
-                  (λ a.
-                  let same : other ≡ base = w.one other base a.0 u in
-                  decided_now pairs words log event enabled by base true is u.change
-                  u.pending.published v.change
-                  (subst (λ b. (state_of pairs words (event ∷ log)).pieces b
-                  ≡ Some (Change v.change)) same v.pending.published) v.pending.unset)
-                  (λ a. none_undecided pairs words log enabled.0 number a.1.resolved base u)
-                  (comes_from other v);
-            }
+        at (same_entries e) = inl record {
+          made = e ∙ w.made;
+          its_command = λ base u. ⊎_elim (λ a. sym a.1 ∙ w.its_command base a.0)
+              (λ a. sym a.3 ∙ a.1.its_command a.2) (comes_from base u);
+          one = one_now;
+        }
+        at (new_entry by base is u entry named e) = inr record {
+          entry = entry;
+          made = e ∙ ap (λ xs. xs ++ entry ∷ []) w.made;
+          its_command = sym (w.its_command base u) ∙ named;
+          none = λ other v. ⊎_elim
+              (λ a. let same : other ≡ base = w.one other base a.0 u in
+              decided_now pairs words log event enabled by base true is u.change
+              u.pending.published v.change
+              (subst (λ b. (state_of pairs words (event ∷ log)).pieces b
+              ≡ Some (Change v.change)) same v.pending.published) v.pending.unset)
+              (λ a. none_undecided pairs words log enabled.0 number a.1.resolved base u)
+              (comes_from other v);
+        }
 
     -- a call that made its entry goes on so
     entered_on : IsEntered pairs words log number calls command
         → IsEntered pairs words (event ∷ log) number calls command
-    entered_on w =
-        record {
-          entry = w.entry;
-          made = at (entries_move pairs words log number event enabled.1);
-          its_command = w.its_command;
-          none = λ base u.
-              ⊎_elim (λ a. w.none base a.0)
-              (λ a. let more = ap length (sym w.made ∙ a.1.none_yet a.2) in let long =
-              length-append (entries_made number calls) (w.entry ∷ []) in absurd (omega arith))
-              (comes_from base u);
-        }
+    entered_on w = record {
+      entry = w.entry;
+      made = at (entries_move pairs words log number event enabled.1);
+      its_command = w.its_command;
+      none = λ base u. ⊎_elim (λ a. w.none base a.0)
+          (λ a. let more = ap length (sym w.made ∙ a.1.none_yet a.2) in let long =
+          length-append (entries_made number calls) (w.entry ∷ []) in absurd (omega arith))
+          (comes_from base u);
+    }
       where
         at : EntriesMove pairs words log number event
             → entries_by number (changes_of pairs words (event ∷ log)) ≡ entries_made number calls
@@ -206,15 +187,13 @@ module _ (pairs : List Pair) (words : ℕ) (number : ℕ) (calls : List Call) wh
       brings : (base : ℕ) (rows : List Row) → event ≡ Install number base rows
           → (h : CanInstall (start pairs words) log number base rows)
           → MayBring pairs words log number calls pending.command h.change
-      brings base rows is h =
-          let it = may base rows is h in
+      brings base rows is h = let it = may base rows is h in
           let same : pending ≡ it.0 = cc (it.1) in
           subst (λ p. MayBring pairs words log number calls p.command h.change) (sym same) it.2
 
   -- nothing that others do takes a call further than that
   pub call_by_others : (log : Log) (event : Event) → EachEnabled (start pairs words) (event ∷ log)
-      → (o : Option Pending)
-      → whose event ≢ Caller number
+      → (o : Option Pending) → whose event ≢ Caller number
       → CallStands pairs words log number calls o
       → CallStands pairs words (event ∷ log) number calls o
   call_by_others log event enabled o other b =

@@ -4,26 +4,14 @@ use Rattle.std.proofs.Common.{◌≡◌, ℕ, ◌+◌, ◌≤◌, List, [], ◌�
 use Rattle.ist_core.specs.declared.calls.Call.{Call}
 use Rattle.ist_core.specs.declared.commands.Command.{Command}
 use Rattle.ist_core.specs.declared.pairs.Pair.{Pair}
-use Rattle.ist_core.specs.Logs.{Log, GoesOn, same_log, one_event}
-use Rattle.ist_core.specs.Deciding.{AllResolvedOf}
-use Rattle.ist_core.specs.Standing.{StandsIn, entry_by, IsFresh}
-use Rattle.ist_core.specs.Lawful.{Lawful, state_of}
-use Rattle.ist_core.specs.Elements.{Each, Among}
-use Rattle.ist_core.proofs.ElementLemmas.{each_append, among_right}
-use Rattle.ist_rule.specs.declared.view.View.{View}
-use Rattle.ist_rule.specs.declared.view.Loads.{Loads}
-use Rattle.ist_rule.specs.declared.view.Pending.{Pending}
-use Rattle.ist_rule.specs.declared.view.About.{About}
 use Rattle.ist_core.specs.declared.events.Who.{Who}
 use Rattle.ist_core.specs.declared.events.Who.TheVariants.{Caller}
-use Rattle.ist_core.specs.Authors.{Later}
-use Rattle.ist_core.proofs.PrefixLemmas.{goes_on_by, goes_on_more, goes_on_length}
-use Rattle.ist_rule.specs.Standings.{StandsInPrefix, HasMade, IsBetween, CallStands, entries_made}
-use Rattle.ist_rule.specs.Rule.{KeepsCalls, its_own, noted, Recalls, NeverFall, IsHeard, Fits, Kept}
-use Rattle.ist_rule.specs.Learning.{searching}
-use Rattle.ist_core.specs.Map.{map_of}
-use Rattle.ist_core.specs.StartLayout.{start}
-use Rattle.ist_core.specs.Changes.{changes_of}
+use Rattle.ist_core.specs.LogTerms.{Log, GoesOn, same_log, one_event, Lawful, state_of, Each, Among, Later}
+use Rattle.ist_core.specs.TreeTerms.{AllResolvedOf, StandsIn, entry_by, IsFresh, map_of, changes_of}
+use Rattle.ist_core.proofs.AllWordLemmas.{each_append, among_right}
+use Rattle.ist_rule.specs.RuleTerms.{View, Loads, Pending, About, StandsInPrefix, HasMade, IsBetween, CallStands, entries_made, KeepsCalls, its_own, noted, Recalls, NeverFall, IsHeard, Fits, Kept, searching, HasSpoken, CanEnd, CanGiveUp}
+use Rattle.ist_core.proofs.AllLogLemmas.{goes_on_by, goes_on_more, goes_on_length}
+use Rattle.ist_core.specs.WordTerms.{start}
 use Rattle.laws_histories.proofs.ChangeLemmas.{changes_on, get_left, read_on}
 use Rattle.laws_real_time.specs.declared.moments.Deed.{Deed}
 use Rattle.laws_real_time.specs.declared.moments.Deed.TheVariants.{Begins, Returns, GivesUp}
@@ -31,17 +19,14 @@ use Rattle.laws_real_time.specs.Moments.{Moments, in_call}
 use Rattle.laws_real_time.specs.Keeping.{moment_now, KeepsTime, IsPlacedCall}
 use Rattle.laws_real_time.proofs.DeedLemmas.{in_call_own}
 use Rattle.laws_real_time.proofs.KeepLemmas.{begun_counted, begins_keep, returns_keep, gives_up_keeps}
-use Rattle.ist_rule.specs.Speaking.{HasSpoken}
 use Rattle.ist_rule.proofs.LaterLemmas.{between}
 use Rattle.ist_rule.proofs.FrameLemmas.{Table}
 use Rattle.ist_rule.proofs.SpeakLemmas.{heard_spoken, out_of_call, begun_as, spoken_begins, spoken_returns, spoken_gives_up}
-use Rattle.ist_rule.specs.Conditions.{CanEnd, CanGiveUp}
 use Rattle.ist_rule.proofs.UndecidedLemmas.{none_undecided}
 use Rattle.ist_rule.proofs.CallLemmas.{between_later}
 use Rattle.ist_rule.proofs.FitLemmas.{each_map, stands_on, well_made_on}
 use Rattle.ist_rule.proofs.ViewPartLemmas.{fits_loads}
-use Rattle.ist_rule.proofs.SoundViewLemmas.{as_table}
-use Rattle.ist_rule.proofs.LookLemmas.{CanTurn}
+use Rattle.ist_rule.proofs.LookLemmas.{as_table, CanTurn}
 
 -- a caller keeps its own calls
 keeps_own : (number other : ℕ) (w : Who) → KeepsCalls number w → w ≡ Caller other → number ≡ other
@@ -50,17 +35,15 @@ keeps_own number other _ noted e = absurd (cc)
 
 -- what became of the changes of a caller, when it is between calls and begins one
 begun : (pairs : List Pair) (words : ℕ) (log : Log) → Lawful pairs words log
-    → (number : ℕ) (calls : List Call) (pending : Pending)
-    → IsBetween pairs words log number calls
+    → (number : ℕ) (calls : List Call) (pending : Pending) → IsBetween pairs words log number calls
     → CallStands pairs words log number calls (Some pending)
-begun pairs words log lawful number calls pending b =
-    inl record {
-      made = b.made;
-      its_command = λ base u. absurd (none_undecided pairs words log lawful.enabled number
-          b.resolved base u);
-      one = λ base other u _. absurd (none_undecided pairs words log lawful.enabled number
-          b.resolved base u);
-    }
+begun pairs words log lawful number calls pending b = inl record {
+  made = b.made;
+  its_command = λ base u. absurd (none_undecided pairs words log lawful.enabled number
+      b.resolved base u);
+  one = λ base other u _. absurd (none_undecided pairs words log lawful.enabled number
+      b.resolved base u);
+}
 
 -- what became of the changes of a caller whose call is over
 ended : (k : About) (log : Log) (image : List ℕ) (v : View) → Lawful k.start.value.items k.words log
@@ -69,8 +52,7 @@ ended : (k : About) (log : Log) (image : List ℕ) (v : View) → Lawful k.start
     → AllResolvedOf (state_of v.start v.words v.log) v.log number
     → (n : ℕ) → v.who ≡ Caller n → IsBetween k.start.value.items k.words log n calls
 ended k log image v lawful f number mine calls made resolved n is =
-    subst (λ i. IsBetween k.start.value.items k.words log i calls)
-    (cc (sym mine ∙ is))
+    subst (λ i. IsBetween k.start.value.items k.words log i calls) (cc (sym mine ∙ is))
     (between_later k.start.value.items k.words number calls v.log log lawful.enabled
     (subst (λ w. Later w v.log log) mine f.later)
     record {
@@ -81,17 +63,16 @@ ended k log image v lawful f number mine calls made resolved n is =
 
 -- any seat may begin a search
 pub can_search : (v : View) → CanTurn v (searching v)
-can_search v =
-    record {
-      who = λ log. refl;
-      given = λ log. refl;
-      taken = λ log. refl;
-      log_is = λ log. refl;
-      moments = λ log. refl;
-      fits = λ k log image lawful f. fits_loads k log image v
-          record { since = length log; list = [] } (v.loaded + 1) (v.searches + 1) f tt tt
-          (omega arith);
-    }
+can_search v = record {
+  who = λ log. refl;
+  given = λ log. refl;
+  taken = λ log. refl;
+  log_is = λ log. refl;
+  moments = λ log. refl;
+  fits = λ k log image lawful f. fits_loads k log image v
+      record { since = length log; list = [] } (v.loaded + 1) (v.searches + 1) f tt tt
+      (omega arith);
+}
 
 -- the moments with what the caller did now, the last first
 abbrev pub with_deeds : List Pair → ℕ → Log → ℕ → List Deed → Moments → Moments
@@ -105,11 +86,9 @@ pub record TurnsCall (k : About) (log : Log) (v : View) (moments : Moments) (num
   pub recalls : Each (Recalls k.start.value.items k.words log) loads.list
   pub in_order : NeverFall loads.since loads.list
   pub since : loads.since ≤ length log
-  pub stands : (n : ℕ) → KeepsCalls n v.who
-      → StandsInPrefix k.start.value.items k.words log n calls
+  pub stands : (n : ℕ) → KeepsCalls n v.who → StandsInPrefix k.start.value.items k.words log n calls
   pub stamps : Each (λ call. call.stamp ≤ stamp) calls
-  pub call : (n : ℕ) → v.who ≡ Caller n
-      → CallStands k.start.value.items k.words log n calls pending
+  pub call : (n : ℕ) → v.who ≡ Caller n → CallStands k.start.value.items k.words log n calls pending
   pub keeps : KeepsTime k.start.value.items k.words log
       (with_deeds k.start.value.items k.words log number deeds moments)
   pub spoken : HasSpoken (with_deeds k.start.value.items k.words log number deeds moments) number
@@ -137,8 +116,7 @@ can_begin k s r v number command who none f h =
       stands = λ n keeps. stands_on k.start.value.items k.words v.log r.log n v.calls
           (goes_on_by f.later) (f.well_made.stands n keeps);
       stamps = f.well_made.stamps;
-      call = λ n is.
-          begun k.start.value.items k.words r.log r.lawful n v.calls
+      call = λ n is. begun k.start.value.items k.words r.log r.lawful n v.calls
           record { command = command; length = length r.log }
           (subst (CallStands k.start.value.items k.words r.log n v.calls) none
           (f.is_true.call n is));
@@ -154,11 +132,9 @@ pub can_read : (k : About) (s : Table) (r : Kept k s) (v : View) (number : ℕ) 
     → NeverFall loads.since loads.list → loads.since ≤ length r.log
     → v.who ≡ Caller number → v.pending ≡ None → Fits k r.log s.words v → IsHeard r.moments v
     → TurnsCall k r.log v r.moments number (GivesUp ∷ Begins None ∷ []) loads v.calls v.stamp None
-can_read k s r v number loads recalls in_order since who none f h =
-    let ps = k.start.value.items in
+can_read k s r v number loads recalls in_order since who none f h = let ps = k.start.value.items in
     let b = can_begin k s r v number None who none f h in
-    let moment = moment_now ps k.words r.log number (Begins None) in
-    record {
+    let moment = moment_now ps k.words r.log number (Begins None) in record {
       recalls = recalls;
       in_order = in_order;
       since = since;
@@ -225,8 +201,7 @@ can_end k s r v call can f h =
       recalls = m.recalls;
       in_order = m.in_order;
       since = m.since;
-      stands = λ n keeps.
-          subst (λ i. StandsInPrefix ps k.words r.log i (v.calls ++ call ∷ []))
+      stands = λ n keeps. subst (λ i. StandsInPrefix ps k.words r.log i (v.calls ++ call ∷ []))
           (sym (keeps_own n can.number v.who keeps can.mine))
           record { prefix = v.log; goes_on = goes_on_by f.later; stands = stand };
       stamps = each_append (λ c. c.stamp ≤ call.stamp) v.calls (call ∷ [])

@@ -5,39 +5,25 @@ use Rattle.atomic_table.specs.Table.{step, keeps, Allows}
 use Rattle.atomic_table.proofs.Lists.{at_set}
 use Rattle.ist_core.specs.declared.calls.Call.{Call}
 use Rattle.ist_core.specs.declared.commands.Command.{Command}
-use Rattle.ist_core.specs.Elements.{Each}
-use Rattle.ist_rule.specs.declared.view.View.{View}
-use Rattle.ist_rule.specs.declared.view.Taken.{Taken}
-use Rattle.ist_rule.specs.declared.view.Loads.{Loads}
-use Rattle.ist_rule.specs.declared.view.Pending.{Pending}
-use Rattle.ist_rule.specs.declared.view.About.{About}
 use Rattle.ist_core.specs.declared.events.Who.{Who}
 use Rattle.ist_core.specs.declared.events.Who.TheVariants.{Caller, Spent}
-use Rattle.ist_core.specs.Authors.{no_more, Later}
-use Rattle.ist_core.specs.Changes.{changes_of}
-use Rattle.ist_core.specs.Logs.{Log}
-use Rattle.ist_core.specs.Standing.{position_after}
-use Rattle.ist_core.proofs.PrefixLemmas.{goes_on_by}
+use Rattle.ist_core.specs.LogTerms.{Each, no_more, Later, Log}
+use Rattle.ist_rule.specs.RuleTerms.{View, Taken, Loads, Pending, About, CallStands, number_of, pending_of, HasSpoken, IsSilent, MomentsGoOn, one_moment, MomentsLater, no_later, one_later, IsNamed, IsMet, IsRetired, IsHeard, IsTimed, HasView, Fits, Kept, IsSound, Seated, begins, searches, reads, ends, gives_up, moment_seen, TurnedAt, beginning, searching, beginning_read, ending, giving_up, CanBegin, CanEnd, CanGiveUp, MayWalk}
+use Rattle.ist_core.specs.TreeTerms.{changes_of, position_after}
+use Rattle.ist_core.proofs.AllLogLemmas.{goes_on_by}
 use Rattle.laws_real_time.specs.declared.moments.Deed.{Deed}
 use Rattle.laws_real_time.specs.declared.moments.Deed.TheVariants.{Begins, Returns, GivesUp}
 use Rattle.laws_real_time.specs.Moments.{Moments, in_call, ended}
 use Rattle.laws_real_time.specs.Making.{calls_returned}
 use Rattle.laws_real_time.specs.Keeping.{KeepsTime}
-use Rattle.ist_rule.specs.Standings.{CallStands}
-use Rattle.ist_rule.specs.Speaking.{number_of, pending_of, HasSpoken, IsSilent, MomentsGoOn, one_moment, MomentsLater, no_later, one_later}
-use Rattle.ist_rule.specs.Rule.{IsNamed, IsMet, IsRetired, IsHeard, IsTimed, HasView, Fits, Kept, IsSound}
-use Rattle.ist_rule.specs.Playing.{Seated, begins, searches, reads, ends, gives_up}
 use Rattle.ist_rule.specs.Glancing.{glancing, glances}
-use Rattle.ist_rule.specs.Learning.{moment_seen, TurnedAt, beginning, searching, beginning_read, ending, giving_up}
-use Rattle.ist_rule.specs.Conditions.{CanBegin, CanEnd, CanGiveUp, MayWalk}
 use Rattle.laws_real_time.proofs.KeepLemmas.{ended_low}
 use Rattle.ist_rule.proofs.WhoLemmas.{caller_maker}
 use Rattle.ist_rule.proofs.FitLemmas.{each_map, well_made_on}
 use Rattle.ist_rule.proofs.ViewPartLemmas.{well_made_but, true_but}
-use Rattle.ist_rule.proofs.SoundViewLemmas.{as_view, sound_of}
+use Rattle.ist_rule.proofs.LookLemmas.{as_view, sound_of, GoesAtStep, quiet, looked, turns_moves}
 use Rattle.ist_rule.proofs.FrameLemmas.{Table}
 use Rattle.ist_rule.proofs.SpeakLemmas.{go_on_more, later_goes_on, caller_or, spoken_other, spoken_stands, working_linear}
-use Rattle.ist_rule.proofs.LookLemmas.{GoesAtStep, quiet, looked, turns_moves}
 use Rattle.ist_rule.proofs.CallLoadLemmas.{TurnsCall, with_deeds, can_begin, can_search, can_read, can_glance, can_end, can_give_up}
 
 -- ---- a step of a call
@@ -55,8 +41,7 @@ module _ (k : About) (s : Table) (r : Kept k s) (id : ℕ) (v : View) (live : v.
 
   -- the new ones are the caller's
   all_are : with_deeds k.start.value.items k.words r.log number deeds r.moments ≡ all
-  all_are =
-      as_view k r.log s.words v f
+  all_are = as_view k r.log s.words v f
       (λ p n. with_deeds k.start.value.items k.words r.log number deeds r.moments
       ≡ with_deeds p n r.log number deeds r.moments) refl
       ∙ ap (λ c. with_deeds v.start v.words r.log c deeds r.moments) (sym (ap number_of is))
@@ -112,8 +97,7 @@ module _ (k : About) (s : Table) (r : Kept k s) (id : ℕ) (v : View) (live : v.
       at : (Caller n ≡ Caller number) ⊎ (Caller n ≢ Caller number)
           → CallStands k.start.value.items k.words r.log n (calls_returned n all)
           (pending_of (in_call n all))
-      at (inl e) =
-          subst
+      at (inl e) = subst
           (λ i. CallStands k.start.value.items k.words r.log i (calls_returned i all)
           (pending_of (in_call i all))) (sym (cc))
           (spoken_stands k.start.value.items k.words r.log all number calls pending spoken_all
@@ -150,34 +134,30 @@ module _ (k : About) (s : Table) (r : Kept k s) (id : ℕ) (v : View) (live : v.
       }
 
   timed_all : IsTimed k r.log all (slice_set s.views id turned_view)
-  timed_all =
-      record {
-        kept = keeps_all;
-        working = working_all;
-        heard = λ i u at alive. ⊎_elim (λ e. subst (IsHeard all) e.1 own)
-            (λ e. others i u e.0 e.1 alive) (at_set s.views id i turned_view u at);
-      }
+  timed_all = record {
+    kept = keeps_all;
+    working = working_all;
+    heard = λ i u at alive. ⊎_elim (λ e. subst (IsHeard all) e.1 own)
+        (λ e. others i u e.0 e.1 alive) (at_set s.views id i turned_view u at);
+  }
     where
       own : IsHeard all turned_view
-      own =
-          record {
-            later = no_later;
-            silent = λ e. absurd (caller_maker number (sym is ∙ e));
-            taken = taken_all v.taken (r.retired id v mine live) (r.timed.heard id v mine live).taken;
-          }
+      own = record {
+        later = no_later;
+        silent = λ e. absurd (caller_maker number (sym is ∙ e));
+        taken = taken_all v.taken (r.retired id v mine live) (r.timed.heard id v mine live).taken;
+      }
 
       others : (i : ℕ) (u : View) → i ≢ id → HasView s i u → u.who ≢ Spent → IsHeard all u
-      others i u apart at alive =
-          let h = r.timed.heard i u at alive in
-          record {
-            later = later_all u.who u.moments
-                (λ e. apart (r.apart id i v u mine at (subst IsNamed (sym is) tt)
-                (sym e ∙ ap Caller its_caller ∙ sym is))) h.later;
-            silent = λ maker n above. silent_all n
-                (λ e. r.unborn i u at maker n above id v mine (is ∙ ap Caller (sym its_caller ∙ e)))
-                (h.silent maker n above);
-            taken = taken_all u.taken (r.retired i u at alive) h.taken;
-          }
+      others i u apart at alive = let h = r.timed.heard i u at alive in record {
+        later = later_all u.who u.moments
+            (λ e. apart (r.apart id i v u mine at (subst IsNamed (sym is) tt)
+            (sym e ∙ ap Caller its_caller ∙ sym is))) h.later;
+        silent = λ maker n above. silent_all n
+            (λ e. r.unborn i u at maker n above id v mine (is ∙ ap Caller (sym its_caller ∙ e)))
+            (h.silent maker n above);
+        taken = taken_all u.taken (r.retired i u at alive) h.taken;
+      }
 
   fits_turned : Fits k r.log s.words turned_view
   fits_turned =
@@ -215,15 +195,13 @@ module _ (k : About) (s : Table) (r : Kept k s) (id : ℕ) (v : View) (live : v.
     homes = s.homes;
     views = slice_set s.views id turned_view;
   }
-  kept_turned =
-      quiet k s r id v turned_view mine live refl refl refl fits_turned all timed_all 0
+  kept_turned = quiet k s r id v turned_view mine live refl refl refl fits_turned all timed_all 0
 
 -- what a load that turns a call learns
 turned_at : (k : About) (s : Table) (r : Kept k s) (id : ℕ) (v w : View) → v.who ≢ Spent
     → HasView s id v → IsSound w → (turn : Log → Moments → View) → w.log ≡ r.log
     → w ≡ turn r.log r.moments → TurnedAt v turn w
-turned_at k s r id v w live mine sound turn same is =
-    let f = r.seats id v mine live in
+turned_at k s r id v w live mine sound turn same is = let f = r.seats id v mine live in
     let low = as_view k r.log s.words v f
     (λ p n. Each (λ x. position_after x.call ≤ length (changes_of p n r.log)) (ended r.moments))
     (ended_low k.start.value.items k.words r.log r.moments r.timed.kept) in
@@ -267,8 +245,7 @@ turns_call k s r id me live mine number is deeds loads searches calls stamp pend
 pub begins_moves : (k : About) (slots id : ℕ) (me : Seated) (command : Option Command)
     → me.0.who ≢ Spent → CanBegin me.0
     → Allows (Kept k) slots id me 0 (λ n. n) (begins command (step slots 0 0 0 maybe.none) me)
-begins_moves k slots id me command live can s r _ mine fits =
-    let v = me.0 in
+begins_moves k slots id me command live can s r _ mine fits = let v = me.0 in
     turns_call k s r id me live mine can.number can.mine (Begins command ∷ []) v.loads v.searches v.calls
     v.stamp (Some record { command = command; length = length r.log })
     (can_begin k s r v can.number command can.mine can.in_none (r.seats id v mine live)
@@ -288,8 +265,7 @@ searches_moves k slots id me live =
 -- a load that begins a read keeps the rule
 pub reads_moves : (k : About) (slots id : ℕ) (me : Seated) → me.0.who ≢ Spent → CanBegin me.0
     → Allows (Kept k) slots id me 0 (λ n. n) (reads (step slots 0 0 0 maybe.none) me)
-reads_moves k slots id me live can s r _ mine fits =
-    let v = me.0 in
+reads_moves k slots id me live can s r _ mine fits = let v = me.0 in
     let loads : Loads = record { since = length r.log; list = [] } in
     turns_call k s r id me live mine can.number can.mine (GivesUp ∷ Begins None ∷ [])
     loads (v.searches + 1) v.calls v.stamp None
@@ -301,8 +277,7 @@ reads_moves k slots id me live can s r _ mine fits =
 pub glances_moves : (k : About) (slots id : ℕ) (me : Seated) → me.0.who ≢ Spent → CanBegin me.0
     → Allows (Kept k) slots id me 0 (λ n. n) (glances (step slots 0 0 0 maybe.none) me)
 unfolding turns_call
-glances_moves k slots id me live can s r _ mine fits =
-    let v = me.0 in
+glances_moves k slots id me live can s r _ mine fits = let v = me.0 in
     let f = r.seats id v mine live in
     let turned =
     turns_call k s r id me live mine can.number can.mine (GivesUp ∷ Begins None ∷ []) v.loads v.searches
@@ -323,8 +298,7 @@ glances_moves k slots id me live can s r _ mine fits =
 pub ends_moves : (k : About) (slots id : ℕ) (me : Seated) (call : Call) → me.0.who ≢ Spent
     → CanEnd me.0 call
     → Allows (Kept k) slots id me 0 (λ n. n) (ends call (step slots 0 0 0 maybe.none) me)
-ends_moves k slots id me call live can s r _ mine fits =
-    let v = me.0 in
+ends_moves k slots id me call live can s r _ mine fits = let v = me.0 in
     turns_call k s r id me live mine can.number can.mine (Returns call ∷ []) v.loads v.searches
     (v.calls ++ call ∷ []) call.stamp None
     (can_end k s r v call can (r.seats id v mine live) (r.timed.heard id v mine live)) (ending v call) refl
@@ -332,7 +306,6 @@ ends_moves k slots id me call live can s r _ mine fits =
 -- a load that gives up a call keeps the rule
 pub gives_up_moves : (k : About) (slots id : ℕ) (me : Seated) → me.0.who ≢ Spent → CanGiveUp me.0
     → Allows (Kept k) slots id me 0 (λ n. n) (gives_up (step slots 0 0 0 maybe.none) me)
-gives_up_moves k slots id me live can s r _ mine fits =
-    let v = me.0 in
+gives_up_moves k slots id me live can s r _ mine fits = let v = me.0 in
     turns_call k s r id me live mine can.number can.mine (GivesUp ∷ []) v.loads v.searches v.calls v.stamp
     None (can_give_up k s r v can (r.seats id v mine live) (r.timed.heard id v mine live)) (giving_up v) refl

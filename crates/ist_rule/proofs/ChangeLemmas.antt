@@ -6,17 +6,11 @@ use Rattle.ist_core.specs.declared.states.ChangeRow.{ChangeRow}
 use Rattle.ist_core.specs.declared.lists.Row.{Row}
 use Rattle.ist_core.specs.declared.events.Event.{Event}
 use Rattle.ist_core.specs.declared.events.Event.TheVariants.{Install}
-use Rattle.ist_core.specs.Statuses.{undecided}
-use Rattle.ist_core.specs.Pieces.{Piece, Change, inner_of}
-use Rattle.ist_core.specs.Snapshots.{Snapshot}
-use Rattle.ist_core.specs.Growing.{Grows, ChangeGrows, change_grows}
-use Rattle.ist_core.specs.Logs.{Log, state}
-use Rattle.ist_core.specs.Installing.{CanInstall, pair_over, pair_row, FitsKind, a_put, a_pair, a_remove, a_start, a_finish}
-use Rattle.ist_core.specs.Enabled.{Enabled}
-use Rattle.ist_core.proofs.MoveLemmas.{HeldLieApart}
-use Rattle.ist_core.proofs.RowLemmas.{with_inners-some}
-use Rattle.ist_core.proofs.FreshLemmas.{IsPublishedWith}
-use Rattle.ist_core.proofs.BornLemmas.{Born, by_install, by_root, by_place, Comes, from_old, from_born, comes}
+use Rattle.ist_core.specs.WordTerms.{undecided, Piece, Change, inner_of}
+use Rattle.ist_core.specs.LogTerms.{Snapshot, Log, state, Enabled}
+use Rattle.ist_core.specs.TreeTerms.{Grows, ChangeGrows, change_grows, CanInstall, pair_over, pair_row, FitsKind, a_put, a_pair, a_remove, a_start, a_finish}
+use Rattle.ist_core.proofs.AllEventLemmas.{HeldLieApart, IsPublishedWith, Born, by_install, by_root, by_place, Comes, from_old, from_born, comes}
+use Rattle.ist_core.proofs.AllWordLemmas.{with_inners-some}
 
 -- words that are read as an inner row are no change
 inner_no_change : (words : List ℕ) (r : ChangeRow) → inner_of words ≡ Some (Change r) → ⊥
@@ -53,11 +47,9 @@ fresh_no_change first log change fresh (a_finish h) base p f = absurd f
 pub data ChangeComes (first : Snapshot) (log : Log) (base : ℕ) (r : ChangeRow) : Event
     → Type 0 where
   stood : {event : Event} (old : ChangeRow) → (state first log).pieces base ≡ Some (Change old)
-      → ChangeGrows old r
-      → ChangeComes first log base r event
+      → ChangeGrows old r → ChangeComes first log base r event
   is_installed : {caller : ℕ} {rows : List Row} (h : CanInstall first log caller base rows)
-      → ChangeGrows h.change r
-      → ChangeComes first log base r (Install caller base rows)
+      → ChangeGrows h.change r → ChangeComes first log base r (Install caller base rows)
 
 -- what grows into a change is a change
 grew : (first : Snapshot) (log : Log) (base : ℕ) (r : ChangeRow) (event : Event) (p : Piece)
@@ -105,8 +97,7 @@ grows_same_change g = (
   ap (λ r. r.kind) g.others,
   ap (λ r. r.owner) g.others,
   ap (λ r. r.key) g.others,
-  ap
-      (λ r. r.value) g.others,
+  ap (λ r. r.value) g.others,
 )
 
 -- one that is undecided was undecided

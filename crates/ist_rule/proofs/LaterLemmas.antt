@@ -2,9 +2,8 @@
 -- logs that seats have seen.
 use Rattle.std.proofs.Common.{◌≢◌, ◌≤◌, length, arith}
 use Rattle.ist_core.specs.declared.events.Event.{Event}
-use Rattle.ist_core.specs.Logs.{Log, GoesOn, same_log, one_event}
 use Rattle.ist_core.specs.declared.events.Who.{Who}
-use Rattle.ist_core.specs.Authors.{no_more, one_more, whose, Later, IsIdleIn}
+use Rattle.ist_core.specs.LogTerms.{Log, GoesOn, same_log, one_event, no_more, one_more, whose, Later, IsIdleIn}
 pub use Rattle.ist_core.proofs.PrefixLemmas.{goes_on_more, goes_on_length, goes_on_by as later-goes_on}
 
 -- going on by events of others, twice
@@ -20,8 +19,7 @@ between (one_event event p) (one_event _ q) le = between p q le
 
 -- a longer prefix has the events of this one too
 pub later_longer : {who : Who} {a b log : Log} → Later who a log → GoesOn b log
-    → length a ≤ length b
-    → Later who b log
+    → length a ≤ length b → Later who b log
 later_longer p same_log le = no_more
 later_longer no_more (one_event event q) le = let short = goes_on_length q in absurd (omega arith)
 later_longer (one_more event p ne) (one_event _ q) le = one_more event (later_longer p q le) ne

@@ -9,23 +9,13 @@ use prog.Atomic.{either}
 use Rattle.atomic_table.specs.Table.{step, keeps, Allows}
 use Rattle.atomic_table.proofs.Lists.{exchanged}
 use Rattle.ist_core.specs.declared.events.Event.{Event}
-use Rattle.ist_core.specs.Elements.{Each}
-use Rattle.ist_core.specs.Writing.{touched}
-use Rattle.ist_core.specs.Logs.{Log}
-use Rattle.ist_core.specs.Snapshots.{Snapshot}
-use Rattle.ist_core.specs.Lawful.{EachEnabled, state_of}
-use Rattle.ist_rule.specs.declared.view.View.{View}
-use Rattle.ist_rule.specs.declared.view.About.{About}
 use Rattle.ist_core.specs.declared.events.Who.TheVariants.{Spent}
-use Rattle.ist_core.specs.Shown.{IsShown}
-use Rattle.ist_rule.specs.Rule.{HasView, Kept, IsSound}
-use Rattle.ist_rule.specs.Playing.{Seated, exchanges_all}
-use Rattle.ist_rule.specs.Learning.{logging}
-use Rattle.ist_rule.specs.Conditions.{CanMake}
+use Rattle.ist_core.specs.LogTerms.{Each, Log, Snapshot, EachEnabled, state_of, IsShown}
+use Rattle.ist_core.specs.TreeTerms.{touched}
+use Rattle.ist_rule.specs.RuleTerms.{View, About, HasView, Kept, IsSound, Seated, exchanges_all, logging, CanMake}
 use Rattle.ist_rule.specs.Several.{with_events, logging_all, LoggedAll, ExchangedAll, ComeAt, CanExchangeAll}
 use Rattle.ist_rule.proofs.FrameLemmas.{Table}
-use Rattle.ist_rule.proofs.SoundViewLemmas.{as_table}
-use Rattle.ist_rule.proofs.LookLemmas.{GoesAtStep, sees}
+use Rattle.ist_rule.proofs.LookLemmas.{as_table, GoesAtStep, sees}
 use Rattle.ist_rule.proofs.LogLemmas.{sound_now, kept, kept_log}
 use Rattle.ist_rule.proofs.ExchangeLemmas.{shown_there, may_come}
 
@@ -59,18 +49,15 @@ kept_all : (k : About) (s : Table) (r : Kept k s) (id : ℕ) (me : Seated) → m
       views = slice_set s.views id (logging_all me.0 r.log (event ∷ more));
     })
     × IsSound (logging_all me.0 r.log (event ∷ more))
-kept_all k s r id me live mine event [] make place found left come =
-    let v = me.0 in
+kept_all k s r id me live mine event [] make place found left come = let v = me.0 in
     let words_after = ap (touched s.words) come.2 ∙ ap (slice_set s.words place) come.3 in (
       kept k s r id me live mine event (make.0 v refl) come.0 (slice_set s.words place left)
           v.loaded words_after,
       sound_now k s r id me live mine event (make.0 v refl) come.0
           (slice_set s.words place left) v.loaded words_after,
     )
-kept_all k s r id me live mine event (next ∷ rest) make place found left come =
-    let v = me.0 in
-    let words' = slice_set s.words place come.1 in
-    let w : View = logging v r.log event in
+kept_all k s r id me live mine event (next ∷ rest) make place found left come = let v = me.0 in
+    let words' = slice_set s.words place come.1 in let w : View = logging v r.log event in
     let s' : Table = record { words = words'; homes = s.homes; views = slice_set s.views id w } in
     let r' : Kept k s' = kept k s r id me live mine event (make.0 v refl) come.0 words' v.loaded
     (ap (touched s.words) come.2) in
@@ -90,11 +77,7 @@ kept_all k s r id me live mine event (next ∷ rest) make place found left come 
     })
     × IsSound (logging_all w l (next ∷ rest))) log here in (
       subst
-          (λ ws. Kept k (record {
-            words = ws;
-            homes = s.homes;
-            views = slice_set s.views id last;
-          }))
+          (λ ws. Kept k (record { words = ws; homes = s.homes; views = slice_set s.views id last }))
           (set_again s.words place come.1 left)
           (subst
           (λ vs. Kept k (record {
@@ -109,15 +92,13 @@ kept_all k s r id me live mine event (next ∷ rest) make place found left come 
 -- the events come at a step that finds their first word
 logs_all : (k : About) (s : Table) (r : Kept k s) (id : ℕ) (me : Seated) → me.0.who ≢ Spent
     → HasView s id me.0 → (events : List Event) → 1 ≤ length events
-    → Each (λ e. (w : View) → w.who ≡ me.0.who → CanMake w e) events
-    → (place found left : ℕ)
+    → Each (λ e. (w : View) → w.who ≡ me.0.who → CanMake w e) events → (place found left : ℕ)
     → ComeAt k.start.value.items k.words r.log events place found left
     → (tells : ℕ → Seated → Type 0)
     → (LoggedAll me.0 events (logging_all me.0 r.log events)
     → tells (slice_index s.words place) (logging_all me.0 r.log events, me.1))
     → GoesAtStep k s place id me tells left
-logs_all k s r id me live mine [] one make place found left come tells told =
-    absurd (omega arith)
+logs_all k s r id me live mine [] one make place found left come tells told = absurd (omega arith)
 logs_all k s r id me live mine (event ∷ more) one make place found left come tells told =
     let it = kept_all k s r id me live mine event more make place found left come in (
       logging_all me.0 r.log (event ∷ more),
@@ -138,15 +119,12 @@ pub exchanges_all_moves : (k : About) (slots id : ℕ) (me : Seated) (place old 
     → Allows (Kept k) slots id me place (λ n. either (eqb n old) new n)
     (exchanges_all events (step slots place old new maybe.none) me)
 exchanges_all_moves k slots id me place old new events live can s r _ mine fits =
-    let x : ℕ = slice_index s.words place in
-    let v = me.0 in
-    let f = r.seats id v mine live in
+    let x : ℕ = slice_index s.words place in let v = me.0 in let f = r.seats id v mine live in
     let tells : ℕ → Seated → Type 0 =
     exchanges_all events (step slots place old new maybe.none) me in
     exchanged x old new (λ y. GoesAtStep k s place id me tells y)
     (λ hit.
-    let come = as_table k r.log s.words v f
-    (λ p n. ComeAt p n r.log events place old new)
+    let come = as_table k r.log s.words v f (λ p n. ComeAt p n r.log events place old new)
     (can.comes r.log (may_come k s r v f)
     (subst (IsShown (state_of v.start v.words r.log) place) hit
     (shown_there k s r v place f can.known))) in
@@ -164,8 +142,7 @@ enabled_before first (event ∷ more) log h = (enabled_before first more (event 
 -- a seat that made such an exchange is sound, of the same table
 pub exchanged_all_sound : (v : View) (events : List Event) (place old found : ℕ) (w : View)
     → ExchangedAll v events place old found w → IsSound w × (w.words ≡ v.words) × (w.table ≡ v.table)
-exchanged_all_sound v events place old found w e =
-    ⊎_elim
+exchanged_all_sound v events place old found w e = ⊎_elim
     (λ hit. let l = e.0 hit.1 in
     (l.sound, ap (λ y. y.words) l.view, ap (λ y. y.table) l.view))
     (λ miss. let l = e.1 miss.1 in (l.sound, ap (λ y. y.words) l.view, ap (λ y. y.table) l.view))

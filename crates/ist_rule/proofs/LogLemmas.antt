@@ -3,38 +3,23 @@
 use Rattle.std.proofs.Common.{◌≡◌, ◌≢◌, ◌⊎◌, inl, inr, ℕ, List, [], ◌∷◌, slice_index, slice_set, Some, refl, sym, ap, ◌∙◌, subst, le_refl}
 use Rattle.atomic_table.specs.Table.{keeps}
 use Rattle.ist_core.specs.declared.events.Event.{Event}
-use Rattle.ist_core.specs.Elements.{Each}
-use Rattle.ist_core.specs.StartLayout.{start}
-use Rattle.ist_core.specs.Images.{IsImage}
-use Rattle.ist_core.specs.Writing.{touch_of, touched}
-use Rattle.ist_core.specs.Logs.{Log, same_log, one_event}
-use Rattle.ist_core.specs.Enabled.{Enabled}
-use Rattle.ist_core.specs.Lawful.{EachEnabled, Lawful, state_of}
-use Rattle.ist_rule.specs.declared.view.View.{View}
-use Rattle.ist_rule.specs.declared.view.Taken.{Taken}
-use Rattle.ist_rule.specs.declared.view.About.{About}
 use Rattle.ist_core.specs.declared.events.Who.TheVariants.{Caller, Spent}
-use Rattle.ist_core.specs.Authors.{no_more, one_more, whose}
+use Rattle.ist_core.specs.LogTerms.{Each, Log, same_log, one_event, Enabled, EachEnabled, Lawful, state_of, no_more, one_more, whose}
+use Rattle.ist_core.specs.WordTerms.{start, IsImage}
+use Rattle.ist_core.specs.TreeTerms.{touch_of, touched}
+use Rattle.ist_rule.specs.RuleTerms.{View, Taken, About, CallStands, pending_of, IsNamed, IsRetired, IsTimed, Owns, HasView, Fits, Kept, IsSound, Seated, logging, Logged, CanMake}
 use Rattle.laws_real_time.specs.Moments.{in_call}
 use Rattle.laws_real_time.specs.Making.{calls_returned}
 use Rattle.laws_real_time.proofs.KeepLemmas.{kept_on}
-use Rattle.ist_rule.specs.Standings.{CallStands}
-use Rattle.ist_rule.specs.Speaking.{pending_of}
-use Rattle.ist_rule.specs.Rule.{IsNamed, IsRetired, IsTimed, Owns, HasView, Fits, Kept, IsSound}
 use Rattle.ist_rule.proofs.CallLemmas.{call_by_others}
 use Rattle.ist_rule.proofs.SpeakLemmas.{caller_or, heard_spoken, spoken_stands}
-use Rattle.ist_rule.proofs.TimedLemmas.{timed_view}
-use Rattle.ist_rule.specs.Playing.{Seated}
-use Rattle.ist_rule.specs.Learning.{logging, Logged}
-use Rattle.ist_rule.specs.Conditions.{CanMake}
+use Rattle.ist_rule.proofs.FrameLemmas.{timed_view, Table, moved}
 use Rattle.ist_rule.proofs.EventLemmas.{author_named}
-use Rattle.ist_core.proofs.PrefixLemmas.{goes_on_by}
-use Rattle.ist_rule.proofs.EventWordLemmas.{owns_after, image_after}
+use Rattle.ist_core.proofs.AllLogLemmas.{goes_on_by}
+use Rattle.ist_rule.proofs.ShownLemmas.{owns_after, image_after}
 use Rattle.ist_rule.proofs.FitLemmas.{well_made_on, true_of_others, true_of_own}
 use Rattle.ist_rule.proofs.ViewPartLemmas.{well_made_but, true_but}
-use Rattle.ist_rule.proofs.FrameLemmas.{Table, moved}
-use Rattle.ist_rule.proofs.SoundViewLemmas.{sound_of}
-use Rattle.ist_rule.proofs.LookLemmas.{GoesAtStep}
+use Rattle.ist_rule.proofs.LookLemmas.{sound_of, GoesAtStep}
 
 -- an event of the seat, enabled after the longest log, and the words that its step leaves; the view
 -- counts this many loads
@@ -60,8 +45,7 @@ module _ (k : About) (s : Table) (r : Kept k s) (id : ℕ) (me : Seated) (live :
   f = r.seats id v mine live
 
   owns_now : (u : View) → Fits k r.log s.words u → Owns k.start.value.items k.words log' words' u
-  owns_now u g =
-      subst (λ ws. Owns k.start.value.items k.words log' ws u) words_following
+  owns_now u g = subst (λ ws. Owns k.start.value.items k.words log' ws u) words_following
       (owns_after k.start.value.items k.words r.lawful.opens r.log event enabled' s.words r.image u
       g.owns g.is_true.fresh)
 
@@ -112,20 +96,18 @@ module _ (k : About) (s : Table) (r : Kept k s) (id : ℕ) (me : Seated) (live :
 
   -- the moments of all calls stay kept, and each caller's changes are known
   timed_now : IsTimed k log' r.moments (slice_set s.views id w)
-  timed_now =
-      record {
-        kept = kept_on k.start.value.items k.words r.log log' r.moments
-            (one_event event same_log) r.timed.kept;
-        working = λ number. at number (caller_or (whose event) number);
-        heard = (timed_view k r.log r.moments s.views id w r.timed
-            (r.timed.heard id v mine live)).heard;
-      }
+  timed_now = record {
+    kept = kept_on k.start.value.items k.words r.log log' r.moments
+        (one_event event same_log) r.timed.kept;
+    working = λ number. at number (caller_or (whose event) number);
+    heard = (timed_view k r.log r.moments s.views id w r.timed
+        (r.timed.heard id v mine live)).heard;
+  }
     where
       at : (number : ℕ) → (whose event ≡ Caller number) ⊎ (whose event ≢ Caller number)
           → CallStands k.start.value.items k.words log' number (calls_returned number r.moments)
           (pending_of (in_call number r.moments))
-      at number (inl e) =
-          let is : v.who ≡ Caller number = sym make.mine ∙ e in
+      at number (inl e) = let is : v.who ≡ Caller number = sym make.mine ∙ e in
           spoken_stands k.start.value.items k.words log' r.moments number v.calls v.pending
           (heard_spoken k.start.value.items r.moments v number is f.well_made.moments
           (r.timed.heard id v mine live))
@@ -140,8 +122,7 @@ module _ (k : About) (s : Table) (r : Kept k s) (id : ℕ) (me : Seated) (live :
 
   -- the rule holds after the event
   pub kept : Kept k (record { words = words'; homes = s.homes; views = slice_set s.views id w })
-  kept =
-      moved k s r id v w s.homes mine live refl (le_refl v.given) log' words' lawful'
+  kept = moved k s r id v w s.homes mine live refl (le_refl v.given) log' words' lawful'
       (subst (IsImage (state_of k.start.value.items k.words log')) words_following
       (image_after k.start.value.items k.words r.lawful.opens r.log event enabled' s.words r.image
       v make.mine f.owns make.stored))
@@ -163,14 +144,13 @@ module _ (k : About) (s : Table) (r : Kept k s) (id : ℕ) (me : Seated) (live :
     }) where
   -- the event is the last of the seat's log
   pub logged : Logged me.0 event (logging me.0 r.log event)
-  logged =
-      record {
-        before = r.log;
-        later = (r.seats id me.0 mine live).later;
-        view = refl;
-        sound = sound_now k s r id me live mine event make able (slice_set s.words place left)
-            me.0.loaded (ap (touched s.words) touches);
-      }
+  logged = record {
+    before = r.log;
+    later = (r.seats id me.0 mine live).later;
+    view = refl;
+    sound = sound_now k s r id me live mine event make able (slice_set s.words place left)
+        me.0.loaded (ap (touched s.words) touches);
+  }
 
   -- an exchange or an add that is this event keeps the rule
   pub logs : (tells : ℕ → Seated → Type 0)

@@ -1,37 +1,49 @@
 -- A step that changes no word: the seat sees the whole log, and takes a view that fits. Serves
 -- loads and the turns of a call.
-use Rattle.std.proofs.Common.{◌≡◌, ◌≢◌, ℕ, ◌+◌, ◌^◌, ◌<◌, ◌≤◌, List, length, slice_get, slice_index, slice_set, Some, refl, sym, ap, ◌∙◌, subst, le_refl, arith}
+use Rattle.std.proofs.Common.{◌≢◌, ℕ, List, sym, subst, ◌≡◌, ◌+◌, ◌^◌, ◌<◌, ◌≤◌, length, slice_get, slice_index, slice_set, Some, refl, ap, ◌∙◌, le_refl, arith}
+use Rattle.ist_core.specs.declared.pairs.Pair.{Pair}
+use Rattle.ist_core.specs.declared.events.Who.TheVariants.{Spent, Caller}
+use Rattle.ist_core.specs.declared.lists.HeldRow.{HeldRow}
+use Rattle.ist_core.specs.declared.loads.Load.{Load}
+use Rattle.ist_core.specs.LogTerms.{Log, Lawful, Among, Each, same_log, state_of, Later, IsShown}
+use Rattle.ist_rule.specs.RuleTerms.{View, About, IsWellMade, IsTrueIn, IsSound, Fits, own_at, Recalls, IsRetired, IsTimed, HasView, Kept, Seated, looks, seeing, Looked, Turned}
 use Rattle.std.proofs.lemmas.List.{set-get_or}
 use Rattle.std.proofs.lemmas.Option.{get_or_from_slice_get}
-use mathlib.Core.Option as maybe
 use Rattle.atomic_table.specs.Table.{step, Act, keeps, Valid, carried_after, stepped, Allows}
-use Rattle.ist_core.specs.declared.lists.HeldRow.{HeldRow}
-use Rattle.ist_core.specs.Elements.{Among, Each}
-use Rattle.ist_core.specs.Logs.{Log, same_log}
-use Rattle.ist_core.specs.Lawful.{Lawful, state_of}
-use Rattle.ist_rule.specs.declared.view.View.{View}
-use Rattle.ist_core.specs.declared.loads.Load.{Load}
-use Rattle.ist_rule.specs.declared.view.About.{About}
-use Rattle.ist_core.specs.declared.events.Who.TheVariants.{Caller, Spent}
-use Rattle.ist_core.specs.Authors.{Later}
-use Rattle.ist_core.specs.Shown.{IsShown}
-use Rattle.ist_rule.specs.Rule.{own_at, Recalls, IsRetired, IsTimed, HasView, Fits, Kept, IsSound}
-use Rattle.ist_rule.specs.Playing.{Seated, looks}
-use Rattle.ist_rule.specs.Learning.{seeing, Looked, Turned}
-use Rattle.ist_core.proofs.ShownLemmas.{image_shows}
-use Rattle.ist_core.proofs.PrefixLemmas.{goes_on_length, goes_on_by}
+use Rattle.ist_core.proofs.AllLogLemmas.{image_shows, goes_on_length, goes_on_by}
 use Rattle.ist_rule.proofs.FitLemmas.{each_map, well_made_on}
 use Rattle.ist_rule.proofs.ViewPartLemmas.{fits_loads}
-use Rattle.ist_rule.proofs.FrameLemmas.{Table, moved}
+use Rattle.ist_rule.proofs.FrameLemmas.{Table, moved, timed_view, heard_same}
 use Rattle.laws_real_time.specs.Moments.{Moments}
-use Rattle.ist_rule.proofs.TimedLemmas.{timed_view, heard_same}
-use Rattle.ist_rule.proofs.SoundViewLemmas.{as_view, sound_of}
+use mathlib.Core.Option as maybe
+
+-- ---- what a seat learns of its own view if it has seen the whole log. Serves the invariant of
+-- `TreeToken`.
+
+-- what is true of the table's start and number of words is true of those of a view that fits
+module _ (k : About) (log : Log) (image : List ℕ) (v : View) (f : Fits k log image v) (P : List Pair
+    → ℕ → Type 0) where
+  -- from the table to the view
+  pub as_view : P k.start.value.items k.words → P v.start v.words
+  as_view h = subst (λ p. P p v.words) (sym f.start_is)
+      (subst (P k.start.value.items) (sym f.words_is) h)
+
+  -- from the view to the table
+  pub as_table : P v.start v.words → P k.start.value.items k.words
+  as_table h = subst (P k.start.value.items) f.words_is (subst (λ p. P p v.words) f.start_is h)
+
+-- a view that has seen the whole log and fits is sound
+pub sound_of : (k : About) (image : List ℕ) (w : View) → Lawful k.start.value.items k.words w.log
+    → w.who ≢ Spent → Fits k w.log image w → IsSound w
+sound_of k image w lawful live f =
+    let it = as_view k w.log image w f (λ p n. Lawful p n w.log × IsWellMade p n w
+    × IsTrueIn p n w.log w) (lawful, f.well_made, f.is_true) in
+    record { lawful = it.0; live = live; well_made = it.1; is_true = it.2 }
 
 -- what to show at a step that finds a word at the place and leaves y: a new view under the rule,
 -- and what it learns
 abbrev pub GoesAtStep : About → Table → ℕ → ℕ → Seated → (ℕ → Seated → Type 0) → ℕ → Type 0
-GoesAtStep k s place id me then y =
-    (w : View) × (a : Act (Unit {0})) × Valid s.homes me.1 a
+GoesAtStep k s place id me then y = (w : View) × (a : Act (Unit {0})) × Valid s.homes me.1 a
     × Kept k (stepped s place y id me.1 w a)
     × then (slice_index s.words place) (w, carried_after me.1 a)
 
@@ -43,8 +55,7 @@ pub quiet : (k : About) (s : Table) (r : Kept k s) (id : ℕ) (v w : View) → H
     → (place : ℕ)
     → Kept k (record {
       words = slice_set s.words place (slice_index s.words place);
-      homes =
-          s.homes;
+      homes = s.homes;
       views = slice_set s.views id w;
     })
 quiet k s r id v w mine live who given taken f moments timed place =
@@ -88,21 +99,20 @@ module _ (k : About) (s : Table) (r : Kept k s) (v : View) (f : Fits k r.log s.w
 
     -- what the load learns
     pub looked : v.who ≢ Spent → word < 2 ^ 64 → Looked v place word w
-    looked live fits =
-        record {
-          later = f.later;
-          sound = sound_of k s.words w r.lawful live fits_seeing;
-          view = refl;
-          stood = as_view k r.log s.words v f (λ p n. (shown : ℕ)
-              → IsShown (state_of p n r.log) place shown → word ≡ shown) stood;
-          mine = as_view k r.log s.words v f
-              (λ p n. (h : HeldRow) → Among h (state_of p n r.log).held → v.who ≡ Caller h.caller
-              → (j : ℕ) → j < h.size → place ≡ h.base + j → word ≡ own_at v.own place)
-              (λ h i who j less at. get_or_from_slice_get s.words place (own_at v.own place) 0
-              (subst (λ q. slice_get s.words q ≡ Some (own_at v.own q)) (sym at)
-              (f.owns h i who j less)));
-          fits = fits;
-        }
+    looked live fits = record {
+      later = f.later;
+      sound = sound_of k s.words w r.lawful live fits_seeing;
+      view = refl;
+      stood = as_view k r.log s.words v f (λ p n. (shown : ℕ)
+          → IsShown (state_of p n r.log) place shown → word ≡ shown) stood;
+      mine = as_view k r.log s.words v f
+          (λ p n. (h : HeldRow) → Among h (state_of p n r.log).held → v.who ≡ Caller h.caller
+          → (j : ℕ) → j < h.size → place ≡ h.base + j → word ≡ own_at v.own place)
+          (λ h i who j less at. get_or_from_slice_get s.words place (own_at v.own place) 0
+          (subst (λ q. slice_get s.words q ≡ Some (own_at v.own q)) (sym at)
+          (f.owns h i who j less)));
+      fits = fits;
+    }
 
 -- a load is allowed, and learns the word at the place
 pub sees : (k : About) (s : Table) (r : Kept k s) (id : ℕ) (me : Seated) (place : ℕ) (then : ℕ
@@ -154,12 +164,9 @@ pub turns_moves : (k : About) (slots id : ℕ) (me : Seated) (turn : Log → Vie
     → Type 0) → me.0.who ≢ Spent → CanTurn me.0 turn
     → ((found : ℕ) (w : View) → Turned me.0 turn w → then found (w, me.1))
     → Allows (Kept k) slots id me 0 (λ n. n) then
-turns_moves k slots id me turn then live can told s r _ mine fits =
-    let v = me.0 in
-    let f = r.seats id v mine live in
-    let g = can.fits k r.log s.words r.lawful f in
-    let w : View = turn r.log in
-    let log : w.log ≡ r.log = can.log_is r.log in
+turns_moves k slots id me turn then live can told s r _ mine fits = let v = me.0 in
+    let f = r.seats id v mine live in let g = can.fits k r.log s.words r.lawful f in
+    let w : View = turn r.log in let log : w.log ≡ r.log = can.log_is r.log in
     let lawful : Lawful k.start.value.items k.words w.log =
     subst (Lawful k.start.value.items k.words) (sym log) r.lawful in
     let alive : w.who ≢ Spent = λ e. live (sym (can.who r.log) ∙ e) in
@@ -173,8 +180,7 @@ turns_moves k slots id me turn then live can told s r _ mine fits =
           (heard_same r.moments v w (can.who r.log) (can.moments r.log) (can.given r.log)
           (can.taken r.log) (r.timed.heard id v mine live))) 0,
       told (slice_index s.words 0) w record {
-        later =
-            subst (Later v.who v.log) (sym log) f.later;
+        later = subst (Later v.who v.log) (sym log) f.later;
         view = ap turn (sym log);
         sound = sound;
       },

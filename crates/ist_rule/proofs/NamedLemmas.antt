@@ -2,24 +2,19 @@
 use Rattle.std.proofs.Common.{◌≡◌, List, [], sym, ap, subst, ◌∙◌}
 use Rattle.atomic_table.specs.Seated.{TableId}
 use Rattle.ist_core.specs.declared.pairs.Pair.{Pair}
-use Rattle.ist_rule.specs.declared.view.TableName.{TableName}
-use Rattle.ist_rule.specs.declared.view.View.{View}
-use Rattle.ist_rule.specs.Faces.{TokenFace, TableFace, name_of}
-use Rattle.ist_rule.specs.Playing.{Seated}
-use Rattle.ist_rule.specs.Rule.{IsSound}
+use Rattle.ist_rule.specs.RuleTerms.{TableName, View, TokenFace, TableFace, name_of, Seated, IsSound}
 
 -- the table that has this name
 abbrev id_of : TableName → TableId
-id_of name =
-    record {
-      words = name.words;
-      slots = name.slots;
-      views_name = name.views_name;
-      atom = name.atom;
-      block = name.block;
-      offset = name.offset;
-      slot_names = name.slot_names;
-    }
+id_of name = record {
+  words = name.words;
+  slots = name.slots;
+  views_name = name.views_name;
+  atom = name.atom;
+  block = name.block;
+  offset = name.offset;
+  slot_names = name.slot_names;
+}
 
 -- a seat whose view has the table's name is of the table
 pub same_id : {x y : TableId} {v : View} {start : List Pair} {s : TokenFace} {t : TableFace}

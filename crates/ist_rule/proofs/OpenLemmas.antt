@@ -6,34 +6,21 @@ use mathlib.Core.Option as maybe
 use Rattle.atomic_table.specs.Seated.{TableId}
 use Rattle.atomic_table.specs.Table.{opening, step, keeps, Allows, Final, Seen}
 use Rattle.ist_core.specs.declared.pairs.Pair.{Pair}
-use Rattle.ist_core.specs.StartLayout.{start}
-use Rattle.ist_core.specs.Elements.{Each}
-use Rattle.ist_core.specs.Images.{IsImage}
-use Rattle.ist_core.specs.Lawful.{CanOpen, Lawful, state_of}
-use Rattle.ist_core.specs.Logs.{Log}
-use Rattle.ist_rule.specs.declared.view.TableName.{TableName}
-use Rattle.ist_rule.specs.declared.view.View.{View}
-use Rattle.ist_rule.specs.declared.view.About.{About}
 use Rattle.ist_core.specs.declared.events.Event.{Event}
 use Rattle.ist_core.specs.declared.events.Who.{Who}
 use Rattle.ist_core.specs.declared.events.Who.TheVariants.{Caller, Maker, Spent}
-use Rattle.ist_core.specs.Authors.{no_more, one_more, whose, Later, IsIdleIn}
-use Rattle.ist_core.specs.Changes.{changes_of, map_after_entries}
-use Rattle.ist_core.specs.Map.{map_of}
+use Rattle.ist_core.specs.WordTerms.{start, IsImage}
+use Rattle.ist_core.specs.LogTerms.{Each, CanOpen, Lawful, state_of, Log, no_more, one_more, whose, Later, IsIdleIn}
+use Rattle.ist_rule.specs.RuleTerms.{TableName, View, About, no_later, IsHeard, KeepsCalls, its_own, noted, IsWellMade, IsTrueIn, IsRetired, IsSound, Fits, Kept, no_table, opened_view, first_view, HasImage, IsLast, IsNewMaker, name_of, Seated, names}
+use Rattle.ist_core.specs.TreeTerms.{changes_of, map_after_entries, map_of}
 use Rattle.laws_real_time.specs.Joining.{LinearizesTo}
-use Rattle.ist_rule.specs.Speaking.{no_later}
 use Rattle.ist_rule.proofs.EventLemmas.{Authored, authored, by_maker, by_caller}
-use Rattle.ist_rule.proofs.HeldLemmas.{idle_between}
+use Rattle.ist_rule.proofs.WatchLemmas.{idle_between}
 use Rattle.ist_rule.proofs.SpeakLemmas.{none_linear, working_linear}
-use Rattle.ist_rule.specs.Rule.{IsHeard, KeepsCalls, its_own, noted, IsWellMade, IsTrueIn, IsRetired, IsSound, Fits, Kept, no_table, opened_view, first_view}
-use Rattle.ist_rule.specs.Seating.{HasImage, IsLast, IsNewMaker}
-use Rattle.ist_rule.specs.Faces.{name_of}
-use Rattle.ist_rule.specs.Playing.{Seated, names}
-use Rattle.ist_rule.proofs.LookLemmas.{quiet}
-use Rattle.ist_rule.proofs.TimedLemmas.{timed_view}
+use Rattle.ist_rule.proofs.LookLemmas.{quiet, as_view}
+use Rattle.ist_rule.proofs.FrameLemmas.{timed_view}
 use Rattle.ist_rule.proofs.ViewPartLemmas.{well_made_plain}
 use Rattle.ist_rule.proofs.WhoLemmas.{maker_caller, maker_live}
-use Rattle.ist_rule.proofs.SoundViewLemmas.{as_view}
 
 maker_keeps : (number : ℕ) (w : Who) → KeepsCalls number w → w ≡ Maker → ⊥
 maker_keeps number _ its_own e = maker_caller number (sym e)
@@ -54,15 +41,14 @@ first_well_made table pairs words =
 -- the first view and the empty log
 first_true : (table : TableName) (pairs : List Pair) (words : ℕ)
     → IsTrueIn pairs words [] (opened_view table pairs words)
-first_true table pairs words =
-    record {
-      low = λ number is. absurd (maker_caller number is);
-      made = λ _. (refl, omega arith, omega arith);
-      idle = λ _ number above. tt;
-      fresh = λ place far. refl;
-      call = λ number is. absurd (maker_caller number is);
-      taken = tt;
-    }
+first_true table pairs words = record {
+  low = λ number is. absurd (maker_caller number is);
+  made = λ _. (refl, omega arith, omega arith);
+  idle = λ _ number above. tt;
+  fresh = λ place far. refl;
+  call = λ number is. absurd (maker_caller number is);
+  taken = tt;
+}
 
 only : (v : View) (i : ℕ) (u : View) → get_elem? (v ∷ []) i ≡ some u → (v ≡ u) × (i ≡ 0)
 only v zero u e = (some-injective v u e, refl)
@@ -72,11 +58,9 @@ only v (suc i) u e = absurd (some-ne-none u (sym e))
 pub opens : (k : About) (words : List ℕ) {pairs : List Pair} → k.start.value.items ≡ pairs
     → CanOpen pairs k.words → IsImage (start pairs k.words) words
     → Kept k (opening words [] (first_view k))
-opens k words same opened of_pairs =
-    let v = first_view k in
+opens k words same opened of_pairs = let v = first_view k in
     let can = subst (λ p. CanOpen p k.words) (sym same) opened in
-    let image = subst (λ p. IsImage (start p k.words) words) (sym same) of_pairs in
-    record {
+    let image = subst (λ p. IsImage (start p k.words) words) (sym same) of_pairs in record {
       log = [];
       lawful = record { opens = can; enabled = tt };
       image = image;
@@ -114,44 +98,40 @@ opens k words same opened of_pairs =
 -- a view fits as well with another name of its table
 fits_named : (k : About) (log : Log) (image : List ℕ) (v : View) (table : TableName)
     → Fits k log image v → Fits k log image (record v { table = table })
-fits_named k log image v table f =
-    let m = f.well_made in
-    let t = f.is_true in
-    record {
-      start_is = f.start_is;
-      words_is = f.words_is;
-      later = f.later;
-      owns = f.owns;
-      well_made = record {
-        stands = m.stands;
-        stamps = m.stamps;
-        recalls = m.recalls;
-        in_order = m.in_order;
-        since = m.since;
-        olds = m.olds;
-        taken_stand = m.taken_stand;
-        taken_seen = m.taken_seen;
-        taken_once = m.taken_once;
-        taken_given = m.taken_given;
-        maker_takes = m.maker_takes;
-        in_none = m.in_none;
-        moments = m.moments;
-      };
-      is_true = record {
-        low = t.low;
-        made = t.made;
-        idle = t.idle;
-        fresh = t.fresh;
-        call = t.call;
-        taken = t.taken;
-      };
-    }
+fits_named k log image v table f = let m = f.well_made in let t = f.is_true in record {
+  start_is = f.start_is;
+  words_is = f.words_is;
+  later = f.later;
+  owns = f.owns;
+  well_made = record {
+    stands = m.stands;
+    stamps = m.stamps;
+    recalls = m.recalls;
+    in_order = m.in_order;
+    since = m.since;
+    olds = m.olds;
+    taken_stand = m.taken_stand;
+    taken_seen = m.taken_seen;
+    taken_once = m.taken_once;
+    taken_given = m.taken_given;
+    maker_takes = m.maker_takes;
+    in_none = m.in_none;
+    moments = m.moments;
+  };
+  is_true = record {
+    low = t.low;
+    made = t.made;
+    idle = t.idle;
+    fresh = t.fresh;
+    call = t.call;
+    taken = t.taken;
+  };
+}
 
 -- a load at which a seat learns which table it is of keeps the rule
 pub names_moves : (k : About) (slots id : ℕ) (me : Seated) (table : TableName) → me.0.who ≢ Spent
     → Allows (Kept k) slots id me 0 (λ n. n) (names table (step slots 0 0 0 maybe.none) me)
-names_moves k slots id me table live s r _ mine fits =
-    let v = me.0 in
+names_moves k slots id me table live s r _ mine fits = let v = me.0 in
     let w : View = record v { table = table } in
     let h = r.timed.heard id v mine live in (
       w,
@@ -175,13 +155,12 @@ named_view k {x = x} {pairs = pairs} named first same table =
 -- the first view with its table's name is sound
 pub opened_sound : (table : TableName) (pairs : List Pair) (words : ℕ) → CanOpen pairs words
     → IsSound (opened_view table pairs words)
-opened_sound table pairs words can =
-    record {
-      lawful = record { opens = can; enabled = tt };
-      live = maker_live;
-      well_made = first_well_made table pairs words;
-      is_true = first_true table pairs words;
-    }
+opened_sound table pairs words can = record {
+  lawful = record { opens = can; enabled = tt };
+  live = maker_live;
+  well_made = first_well_made table pairs words;
+  is_true = first_true table pairs words;
+}
 
 -- an event is made by the maker or by a caller
 none_makes : (event : Event) → whose event ≢ Maker → ((number : ℕ) → whose event ≢ Caller number)
@@ -200,8 +179,7 @@ no_event (one_more event p ne) idle = absurd (none_makes event ne (λ number. (i
 
 -- while the maker has entered no caller, the words are the image of the start
 pub first_image : (v : View) → IsNewMaker v → HasImage v (start v.start v.words)
-first_image v first k s i kept at =
-    let f = kept.seats i v at (λ e. absurd (cc)) in
+first_image v first k s i kept at = let f = kept.seats i v at (λ e. absurd (cc)) in
     let none : kept.log ≡ [] = no_event
     (subst (λ w. Later w [] kept.log) first.maker
     (subst (λ l. Later v.who l kept.log) first.seen f.later))
@@ -213,9 +191,7 @@ first_image v first k s i kept at =
 -- what the words are after the last step
 pub closes : (k : About) (id : ℕ) (v : View) (words : List ℕ) (slots : List (Unit {0}))
     → v.who ≢ Spent → Final (Seen (Kept k) id v) words slots → IsLast v words
-closes k id v words slots live fin =
-    let s = fin.0 in
-    let r : Kept k s = fin.1.0 in
+closes k id v words slots live fin = let s = fin.0 in let r : Kept k s = fin.1.0 in
     let f = r.seats id v fin.1.1 live in
     let it = as_view k r.log s.words v f (λ p n. Lawful p n r.log
     × IsImage (state_of p n r.log) s.words × IsWellMade p n v × IsTrueIn p n r.log v

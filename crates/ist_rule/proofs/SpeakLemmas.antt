@@ -6,10 +6,8 @@ use Rattle.ist_core.specs.declared.commands.Command.{Command}
 use Rattle.ist_core.specs.declared.events.Who.{Who}
 use Rattle.ist_core.specs.declared.events.Who.TheVariants.{Maker, Caller, Note, Spent}
 use Rattle.ist_core.specs.declared.pairs.Pair.{Pair}
-use Rattle.ist_core.specs.Map.{Map, map_of}
-use Rattle.ist_core.specs.Logs.{Log}
-use Rattle.ist_core.specs.Lawful.{Lawful}
-use Rattle.ist_core.specs.Changes.{changes_of, map_after_entries}
+use Rattle.ist_core.specs.TreeTerms.{Map, map_of, changes_of, map_after_entries}
+use Rattle.ist_core.specs.LogTerms.{Log, Lawful}
 use Rattle.laws_real_time.specs.declared.moments.Deed.{Deed}
 use Rattle.laws_real_time.specs.declared.moments.Deed.TheVariants.{Begins, Returns, GivesUp}
 use Rattle.laws_real_time.specs.declared.moments.Moment.{Moment}
@@ -20,11 +18,7 @@ use Rattle.laws_real_time.specs.Joining.{LinearizesTo}
 use Rattle.laws_real_time.specs.RealTime.{IsLinearizable}
 use Rattle.laws_real_time.proofs.DeedLemmas.{in_call_own, in_call_other, begins_ends_none, gives_up_ends_none, calls_of_other, calls_of_same, calls_of_own}
 use Rattle.laws_real_time.proofs.KeepLemmas.{kept_linearizes}
-use Rattle.ist_rule.specs.declared.view.View.{View}
-use Rattle.ist_rule.specs.declared.view.Pending.{Pending}
-use Rattle.ist_rule.specs.Standings.{CallStands}
-use Rattle.ist_rule.specs.Speaking.{pending_of, HasSpoken, IsSilent, MomentsGoOn, same_moments, one_moment, MomentsLater, no_later, one_later, HasMoments}
-use Rattle.ist_rule.specs.Rule.{IsHeard}
+use Rattle.ist_rule.specs.RuleTerms.{View, Pending, CallStands, pending_of, HasSpoken, IsSilent, MomentsGoOn, same_moments, one_moment, MomentsLater, no_later, one_later, HasMoments, IsHeard}
 
 -- it is the caller with this number, or not
 pub caller_or : (w : Who) (number : ℕ) → (w ≡ Caller number) ⊎ (w ≢ Caller number)
@@ -36,16 +30,15 @@ caller_or (Caller n) number = ⊎_elim (λ t. inl (ap Caller t.1)) (λ t. inr (�
 
 -- no moments are linearizable
 pub none_linear : (m : Map) → IsLinearizable m []
-none_linear m =
-    record {
-      well_formed = tt;
-      order = [];
-      calls = tt;
-      all = tt;
-      once = tt;
-      legal = refl;
-      real_time = tt;
-    }
+none_linear m = record {
+  well_formed = tt;
+  order = [];
+  calls = tt;
+  all = tt;
+  once = tt;
+  legal = refl;
+  real_time = tt;
+}
 
 -- moments of any follow those of one who makes none
 pub later_any : {who other : Who} {earlier moments : Moments}
@@ -112,14 +105,12 @@ silent_before number (one_moment moment p) h = silent_before number p h.1
 
 -- another caller's moment leaves what a caller has spoken
 pub spoken_other : (moment : Moment) (moments : Moments) (number : ℕ) (calls : List Call)
-    (pending : Option Pending)
-    → moment.caller ≢ number → HasSpoken moments number calls pending
+    (pending : Option Pending) → moment.caller ≢ number → HasSpoken moments number calls pending
     → HasSpoken (moment ∷ moments) number calls pending
-spoken_other moment moments number calls pending other s =
-    record {
-      calls_are = calls_of_other number moment moments other ∙ s.calls_are;
-      pending_is = ap pending_of (in_call_other number moment moments other) ∙ s.pending_is;
-    }
+spoken_other moment moments number calls pending other s = record {
+  calls_are = calls_of_other number moment moments other ∙ s.calls_are;
+  pending_is = ap pending_of (in_call_other number moment moments other) ∙ s.pending_is;
+}
 
 -- so do moments of others
 pub spoken_later : (number : ℕ) (earlier moments : Moments) (calls : List Call)
@@ -143,8 +134,7 @@ pub heard_spoken : (pairs : List Pair) (moments : Moments) (v : View) (number : 
     → v.who ≡ Caller number
     → HasMoments pairs v.who v.given v.moments v.calls v.pending → IsHeard moments v
     → HasSpoken moments number v.calls v.pending
-heard_spoken pairs moments v number is m h =
-    spoken_later number v.moments moments v.calls v.pending
+heard_spoken pairs moments v number is m h = spoken_later number v.moments moments v.calls v.pending
     (subst (λ w. MomentsLater w v.moments moments) is h.later) (m.spoken number is)
 
 -- what became of a caller's changes, told by the moments
@@ -159,13 +149,11 @@ spoken_stands pairs words log moments number calls pending s c =
 
 -- what a caller made, by what became of its changes
 made_of : (pairs : List Pair) (words : ℕ) (log : Log) (number : ℕ) (calls : List Call)
-    (o : Option Begun)
-    → CallStands pairs words log number calls (pending_of o)
+    (o : Option Begun) → CallStands pairs words log number calls (pending_of o)
     → HasMadeChanges (changes_of pairs words log) number calls o
 made_of pairs words log number calls None b = none_since b.made
 made_of pairs words log number calls (Some begun) (inl w) = none_since w.made
-made_of pairs words log number calls (Some begun) (inr w) =
-    one_since w.entry w.made w.its_command
+made_of pairs words log number calls (Some begun) (inr w) = one_since w.entry w.made w.its_command
 
 -- so the moments are linearizable, and lead to the map after the changes
 pub working_linear : (pairs : List Pair) (words : ℕ) (log : Log) (moments : Moments)
@@ -195,13 +183,12 @@ pub record IsBegunAs (o : Option Begun) (pending : Pending) : Type 0 where
 pub begun_as : (o : Option Begun) (pending : Pending) → pending_of o ≡ Some pending
     → IsBegunAs o pending
 begun_as None pending e = absurd (cc)
-begun_as (Some begun) pending e =
-    record {
-      begun = begun;
-      in_it = refl;
-      command = ap (command_in pending) e;
-      length_is = ap (length_in pending) e;
-    }
+begun_as (Some begun) pending e = record {
+  begun = begun;
+  in_it = refl;
+  command = ap (command_in pending) e;
+  length_is = ap (length_in pending) e;
+}
   where
     command_in : Pending → Option Pending → Option Command
     command_in d None = d.command
@@ -221,33 +208,29 @@ module _ (pairs : List Pair) (words : ℕ) (log : Log) (moments : Moments) (numb
   pub spoken_begins : (command : Option Command) → HasSpoken moments number calls None
       → HasSpoken (now_did (Begins command) ∷ moments) number calls
       (Some record { command = command; length = length log })
-  spoken_begins command s =
-      record {
-        calls_are = calls_of_same number (now_did (Begins command)) moments
-            (begins_ends_none (in_call number moments) (length moments) (now_did (Begins command)) command)
-            ∙ s.calls_are;
-        pending_is = ap pending_of
-            (in_call_own number (now_did (Begins command)) moments refl);
-      }
+  spoken_begins command s = record {
+    calls_are = calls_of_same number (now_did (Begins command)) moments
+        (begins_ends_none (in_call number moments) (length moments) (now_did (Begins command)) command)
+        ∙ s.calls_are;
+    pending_is = ap pending_of (in_call_own number (now_did (Begins command)) moments refl);
+  }
 
   -- it gave its call up
   pub spoken_gives_up : (pending : Option Pending) → HasSpoken moments number calls pending
       → HasSpoken (now_did GivesUp ∷ moments) number calls None
-  spoken_gives_up pending s =
-      record {
-        calls_are = calls_of_same number (now_did GivesUp) moments
-            (gives_up_ends_none (in_call number moments) (length moments) (now_did GivesUp))
-            ∙ s.calls_are;
-        pending_is = ap pending_of (in_call_own number (now_did GivesUp) moments refl);
-      }
+  spoken_gives_up pending s = record {
+    calls_are = calls_of_same number (now_did GivesUp) moments
+        (gives_up_ends_none (in_call number moments) (length moments) (now_did GivesUp))
+        ∙ s.calls_are;
+    pending_is = ap pending_of (in_call_own number (now_did GivesUp) moments refl);
+  }
 
   -- its call returned
   pub spoken_returns : (begun : Begun) (call : Call) (pending : Option Pending)
       → in_call number moments ≡ Some begun → HasSpoken moments number calls pending
       → HasSpoken (now_did (Returns call) ∷ moments) number (calls ++ call ∷ []) None
-  spoken_returns begun call pending in_it s =
-      record {
-        calls_are = calls_of_own number (now_did (Returns call)) moments begun call refl refl in_it
-            ∙ ap (λ cs. cs ++ call ∷ []) s.calls_are;
-        pending_is = ap pending_of (in_call_own number (now_did (Returns call)) moments refl);
-      }
+  spoken_returns begun call pending in_it s = record {
+    calls_are = calls_of_own number (now_did (Returns call)) moments begun call refl refl in_it
+        ∙ ap (λ cs. cs ++ call ∷ []) s.calls_are;
+    pending_is = ap pending_of (in_call_own number (now_did (Returns call)) moments refl);
+  }

@@ -8,15 +8,11 @@ use Rattle.ist_core.specs.declared.pairs.Pair.{Pair}
 use Rattle.ist_core.specs.declared.states.ChangeRow.{ChangeRow}
 use Rattle.ist_core.specs.declared.events.Event.{Event}
 use Rattle.ist_core.specs.declared.events.Event.TheVariants.{Decide}
-use Rattle.ist_core.specs.StartLayout.{start}
-use Rattle.ist_core.specs.Logs.{Log}
-use Rattle.ist_core.specs.Deciding.{IsPending}
-use Rattle.ist_core.specs.Enabled.{Enabled}
-use Rattle.ist_core.specs.Lawful.{state_of}
-use Rattle.ist_core.specs.Changes.{Entry, changes_of, command_of, reply_of, entry_for, entry_of}
-use Rattle.ist_core.specs.Standing.{entries_by}
+use Rattle.ist_core.specs.WordTerms.{start}
+use Rattle.ist_core.specs.LogTerms.{Log, Enabled, state_of}
+use Rattle.ist_core.specs.TreeTerms.{IsPending, Entry, changes_of, command_of, reply_of, entry_for, entry_of, entries_by}
 use Rattle.ist_core.proofs.CommandLemmas.{command_update}
-use Rattle.ist_rule.specs.Standings.{IsUndecided}
+use Rattle.ist_rule.specs.RuleTerms.{IsUndecided}
 
 -- ---- commands and entries
 
@@ -30,8 +26,7 @@ one_entry number entry b e = ap (λ x. if x then entry ∷ [] else []) e
 pub data EntriesMove (pairs : List Pair) (words : ℕ) (log : Log) (number : ℕ) (event : Event) : Type
     0 where
   same_entries : entries_by number (changes_of pairs words (event ∷ log))
-      ≡ entries_by number (changes_of pairs words log)
-      → EntriesMove pairs words log number event
+      ≡ entries_by number (changes_of pairs words log) → EntriesMove pairs words log number event
   new_entry : (by base : ℕ) → event ≡ Decide by base true
       → (u : IsUndecided (state_of pairs words log) number base)
       → (entry : Entry) → command_of u.change ≡ Some entry.command
@@ -49,8 +44,7 @@ module _ (pairs : List Pair) (words : ℕ) (log : Log) (number by base : ℕ) (r
       → entry_of (state_of pairs words log).pieces ((state_of pairs words log).pieces base) ≡ new
       → entries_by number (changes_of pairs words (Decide by base true ∷ log)) ≡ before
       ++ entries_by number new
-  following_yes new e =
-      filter-append (λ entry. entry.owner == number) (changes_of pairs words log)
+  following_yes new e = filter-append (λ entry. entry.owner == number) (changes_of pairs words log)
       (entry_of (state_of pairs words log).pieces ((state_of pairs words log).pieces base))
       ∙ ap (λ xs. before ++ entries_by number xs) e
 
@@ -66,8 +60,7 @@ module _ (pairs : List Pair) (words : ℕ) (log : Log) (number by base : ℕ) (r
       entry = record {
         owner = r.owner;
         command = command;
-        reply =
-            reply_of (state_of pairs words log).pieces r;
+        reply = reply_of (state_of pairs words log).pieces r;
       }
 
       made : entries_by number (changes_of pairs words (Decide by base true ∷ log)) ≡ before
@@ -78,22 +71,19 @@ module _ (pairs : List Pair) (words : ℕ) (log : Log) (number by base : ℕ) (r
       at : (((r.owner == number) ≡ true) × (r.owner ≡ number))
           ⊎ (((r.owner == number) ≡ false) × (r.owner ≢ number))
           → EntriesMove pairs words log number (Decide by base true)
-      at (inl k) =
-          new_entry by base refl record {
-            change = r;
-            pending = there;
-            owned = k.1;
-            update =
-                command_update r command e;
-          } entry e
+      at (inl k) = new_entry by base refl record {
+        change = r;
+        pending = there;
+        owned = k.1;
+        update = command_update r command e;
+      } entry e
           (made ∙ ap (λ xs. before ++ xs) (one_entry number entry true k.0))
       at (inr k) = same_entries (made ∙ ap (λ xs. before ++ xs) (one_entry number entry false k.0) ∙
           append-nil before)
 
 -- what an event adds to the entries of a caller
 pub entries_move : (pairs : List Pair) (words : ℕ) (log : Log) (number : ℕ) (event : Event)
-    → Enabled (start pairs words) log event
-    → EntriesMove pairs words log number event
+    → Enabled (start pairs words) log event → EntriesMove pairs words log number event
 entries_move pairs words log number (Decide by base true) h =
     with_command pairs words log number by base h.change h.pending (command_of h.change) refl
 entries_move pairs words log number _ h = same_entries refl

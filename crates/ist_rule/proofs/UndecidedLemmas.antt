@@ -6,27 +6,15 @@ use Rattle.ist_core.specs.declared.states.ChangeRow.{ChangeRow}
 use Rattle.ist_core.specs.declared.lists.Row.{Row}
 use Rattle.ist_core.specs.declared.events.Event.{Event}
 use Rattle.ist_core.specs.declared.events.Event.TheVariants.{Install, Decide, Resolve}
-use Rattle.ist_core.specs.Statuses.{undecided}
-use Rattle.ist_core.specs.Pieces.{Change, with_decision}
-use Rattle.ist_core.specs.Snapshots.{Snapshot}
-use Rattle.ist_core.specs.After.{decision_word}
-use Rattle.ist_core.specs.StartLayout.{start}
-use Rattle.ist_core.specs.Logs.{Log, state, Happened, Resolves}
-use Rattle.ist_core.specs.Installing.{CanInstall}
-use Rattle.ist_core.specs.Rebuilding.{IsUpdate}
-use Rattle.ist_core.specs.Deciding.{AllResolvedOf}
-use Rattle.ist_core.specs.Enabled.{Enabled}
-use Rattle.ist_core.specs.Lawful.{EachEnabled, state_of}
-use Rattle.ist_core.specs.Changes.{command_of}
-use Rattle.ist_core.proofs.RowLemmas.{changed_at-same}
-use Rattle.ist_core.proofs.GrowingLemmas.{change_there}
-use Rattle.ist_core.proofs.StepLemmas.{grow_step}
-use Rattle.ist_core.proofs.SoundLemmas.{sound}
-use Rattle.ist_core.proofs.StartLemmas.{sound_start}
-use Rattle.ist_rule.specs.Standings.{IsUndecided}
+use Rattle.ist_core.specs.WordTerms.{undecided, Change, with_decision, start}
+use Rattle.ist_core.specs.LogTerms.{Snapshot, decision_word, Log, state, Happened, Resolves, Enabled, EachEnabled, state_of}
+use Rattle.ist_core.specs.TreeTerms.{CanInstall, IsUpdate, AllResolvedOf, command_of}
+use Rattle.ist_core.proofs.AllWordLemmas.{changed_at-same}
+use Rattle.ist_core.proofs.AllLogLemmas.{change_there, said_something}
+use Rattle.ist_core.proofs.AllEventLemmas.{grow_step, sound, sound_start}
+use Rattle.ist_rule.specs.RuleTerms.{IsUndecided}
 use Rattle.ist_rule.proofs.ChangeLemmas.{ChangeComes, stood, is_installed, change_comes, grows_same_change, grows_undecided}
 use Rattle.laws_histories.proofs.EntryLemmas.{command_stays}
-use Rattle.ist_core.proofs.YesLemmas.{said_something}
 
 -- ---- changes that are undecided, and changes that are resolved
 
@@ -35,8 +23,7 @@ use Rattle.ist_core.proofs.YesLemmas.{said_something}
 pub data UndecidedComes (first : Snapshot) (log : Log) (number base : ℕ)
     (command : Option Command) : Event → Type 0 where
   was_undecided : {event : Event} (u : IsUndecided (state first log) number base)
-      → command_of u.change ≡ command
-      → UndecidedComes first log number base command event
+      → command_of u.change ≡ command → UndecidedComes first log number base command event
   now_installed : {rows : List Row} (h : CanInstall first log number base rows)
       → IsUpdate h.change.kind → command_of h.change ≡ command
       → UndecidedComes first log number base command (Install number base rows)
@@ -56,9 +43,7 @@ module _ (pairs : List Pair) (words : ℕ) (log : Log) (event : Event)
     where
       at : {e : Event} → ChangeComes first log base u.change e
           → UndecidedComes first log number base (command_of u.change) e
-      at (stood old there g) =
-          let same = grows_same_change g in
-          was_undecided
+      at (stood old there g) = let same = grows_same_change g in was_undecided
           record {
             change = old;
             pending = record { published = there; unset = grows_undecided g u.pending.unset };
@@ -66,8 +51,7 @@ module _ (pairs : List Pair) (words : ℕ) (log : Log) (event : Event)
             update = subst IsUpdate same.0 u.update;
           }
           (sym (command_stays _ _ g))
-      at (is_installed {caller = caller} {rows = rows} h g) =
-          let same = grows_same_change g in
+      at (is_installed {caller = caller} {rows = rows} h g) = let same = grows_same_change g in
           by (sym h.owned ∙ sym same.1 ∙ u.owned) h (subst IsUpdate same.0 u.update)
           (sym (command_stays _ _ g))
         where
@@ -104,8 +88,7 @@ pub record WasDecided (t : Snapshot) (base : ℕ) : Type 0 where
 
 module _ (pairs : List Pair) (words : ℕ) where
   decided_on : (log : Log) (event : Event) → EachEnabled (start pairs words) (event ∷ log)
-      → (base : ℕ)
-      → WasDecided (state_of pairs words log) base
+      → (base : ℕ) → WasDecided (state_of pairs words log) base
       → WasDecided (state_of pairs words (event ∷ log)) base
   decided_on log event enabled base d =
       let grow = grow_step (start pairs words) log event enabled.1
@@ -115,26 +98,22 @@ module _ (pairs : List Pair) (words : ℕ) where
       record {
         change = it.0;
         published = it.1;
-        decided =
-            λ e. d.decided (sym (it.2.decided d.decided) ∙ e);
+        decided = λ e. d.decided (sym (it.2.decided d.decided) ∙ e);
       }
 
   resolved_now : (log : Log) (event : Event) → Enabled (start pairs words) log event → (base : ℕ)
-      → Resolves base event
-      → WasDecided (state_of pairs words log) base
+      → Resolves base event → WasDecided (state_of pairs words log) base
   resolved_now log (Resolve caller change) h base is =
       subst (WasDecided (state_of pairs words log)) is record {
         change = h.change;
-        published =
-            h.published;
+        published = h.published;
         decided = h.decided;
       }
   resolved_now log _ h base is = absurd is
 
   -- a change that was resolved is decided
   pub resolved_decided : (log : Log) → EachEnabled (start pairs words) log → (base : ℕ)
-      → Happened (Resolves base) log
-      → WasDecided (state_of pairs words log) base
+      → Happened (Resolves base) log → WasDecided (state_of pairs words log) base
   resolved_decided [] enabled base is = absurd is
   resolved_decided (event ∷ log) enabled base (inl is) =
       decided_on log event enabled base (resolved_now log event enabled.1 base is)
@@ -152,8 +131,7 @@ module _ (pairs : List Pair) (words : ℕ) where
 
   -- what is resolved stays so, if the caller installs nothing
   pub resolved_on : (log : Log) (event : Event) → EachEnabled (start pairs words) (event ∷ log)
-      → (number : ℕ)
-      → ((base : ℕ) (rows : List Row) → event ≢ Install number base rows)
+      → (number : ℕ) → ((base : ℕ) (rows : List Row) → event ≢ Install number base rows)
       → AllResolvedOf (state_of pairs words log) log number
       → AllResolvedOf (state_of pairs words (event ∷ log)) (event ∷ log) number
   resolved_on log event enabled number idle all base r there owned =
@@ -161,8 +139,7 @@ module _ (pairs : List Pair) (words : ℕ) where
       (sound (start pairs words) log (sound_start pairs words) enabled.0) base r there) idle)
     where
       at : {e : Event} → ChangeComes (start pairs words) log base r e
-          → ((b : ℕ) (rows : List Row) → e ≢ Install number b rows)
-          → Happened (Resolves base) log
+          → ((b : ℕ) (rows : List Row) → e ≢ Install number b rows) → Happened (Resolves base) log
       at (stood past was g) out = all base past was (sym (grows_same_change g).1 ∙ owned)
       at (is_installed {rows = rows} h g) out =
           absurd (out base rows (ap (λ c. Install c base rows)

@@ -6,36 +6,16 @@ use Rattle.ist_core.specs.declared.states.InnerRow.{InnerRow}
 use Rattle.ist_core.specs.declared.states.ChangeRow.{ChangeRow}
 use Rattle.ist_core.specs.declared.events.Event.{Event}
 use Rattle.ist_core.specs.declared.events.Event.TheVariants.{Okay, Pass, Lose}
-use Rattle.ist_core.specs.RowLayout.{anchor, pair_words, inner_status_offset, slot_place}
-use Rattle.ist_core.specs.References.{ref_of, unset_word}
-use Rattle.ist_core.specs.Statuses.{open_word, marked_word, undecided}
-use Rattle.ist_core.specs.Pieces.{Inner, Change, words_of, as_inner, as_change}
-use Rattle.ist_core.specs.Snapshots.{Snapshot, HoldsRow}
-use Rattle.ist_core.specs.StartLayout.{start}
-use Rattle.ist_core.specs.Naming.{HasDegree}
-use Rattle.ist_core.specs.Slots.{IsOpen, anchor_is, row_is}
-use Rattle.ist_core.specs.Logs.{Log}
-use Rattle.ist_core.specs.Enabled.{Enabled}
-use Rattle.ist_core.specs.Lawful.{state_of}
-use Rattle.ist_core.specs.Writing.{place_of_status, place_of_slot, touch_of, touch_of_okay}
-use Rattle.ist_core.proofs.ImageLemmas.{get-words_of_slot}
-use Rattle.ist_core.proofs.PlaceLemmas.{anchor_free}
-use Rattle.ist_core.proofs.ShapedLemmas.{shaped}
-use Rattle.ist_core.proofs.GrowingLemmas.{inner_there, change_there}
-use Rattle.ist_core.proofs.FateLemmas.{grow_between}
-use Rattle.ist_rule.specs.declared.view.View.{View}
 use Rattle.ist_core.specs.declared.events.Who.TheVariants.{Caller}
-use Rattle.ist_core.specs.Authors.{whose, Later}
-use Rattle.ist_core.specs.Shown.{IsShown, shown_status, shown_row}
-use Rattle.ist_core.proofs.PrefixLemmas.{goes_on_by}
-use Rattle.ist_core.proofs.IntervalLemmas.{both_true}
-use Rattle.ist_rule.specs.Rule.{IsSound}
-use Rattle.ist_rule.specs.Learning.{now}
-use Rattle.ist_rule.specs.Conditions.{MayCome, CanMake, LeavesAt, CanLoadAs}
-use Rattle.ist_rule.specs.Watching.{IsNode, is_anchor, is_inner, number_of, waits, okay_of, CanLoadOkay, is_marked, is_change_ref, pass_of, CanLoadPass, past_of, CanLoadPast}
-use Rattle.ist_rule.proofs.GoingOnLemmas.{callers_later}
-use Rattle.ist_rule.proofs.HeldLemmas.{held_later}
-use Rattle.ist_rule.proofs.WatchLemmas.{some_one, shown_in_row, change_node, if_some, not_true, no_change, status_place_inner, status_place_anchor, place_inner}
+use Rattle.ist_core.specs.WordTerms.{anchor, pair_words, inner_status_offset, slot_place, ref_of, unset_word, open_word, marked_word, undecided, Inner, Change, words_of, as_inner, as_change, start, IsOpen, anchor_is, row_is}
+use Rattle.ist_core.specs.LogTerms.{Snapshot, HoldsRow, Log, Enabled, state_of, whose, Later, IsShown, shown_status, shown_row}
+use Rattle.ist_core.specs.Naming.{HasDegree}
+use Rattle.ist_core.specs.TreeTerms.{place_of_status, place_of_slot, touch_of, touch_of_okay}
+use Rattle.ist_core.proofs.AllPlaceLemmas.{get-words_of_slot, anchor_free, shaped, both_true}
+use Rattle.ist_core.proofs.AllLogLemmas.{inner_there, change_there, grow_between, goes_on_by}
+use Rattle.ist_rule.specs.RuleTerms.{View, IsSound, now, MayCome, CanMake, LeavesAt, CanLoadAs, IsNode, is_anchor, is_inner, number_of, waits, okay_of, CanLoadOkay, is_marked, is_change_ref, pass_of, CanLoadPass, past_of, CanLoadPast}
+use Rattle.ist_rule.proofs.EventLemmas.{callers_later}
+use Rattle.ist_rule.proofs.WatchLemmas.{held_later, some_one, shown_in_row, change_node, if_some, not_true, no_change, status_place_inner, status_place_anchor, place_inner}
 
 -- ---- the three loads
 
@@ -53,8 +33,7 @@ module _ (v : View) (s : IsSound v) (log : Log) (m : MayCome v log) where
   inner_later node row e =
       let it = inner_there (now v).pieces u.pieces
       (grow_between v.start v.words v.log log m.lawful.enabled (goes_on_by m.later)) node
-      row e in
-      (it.0, it.1, it.2.degree)
+      row e in (it.0, it.1, it.2.degree)
 
   -- a change is still there
   change_later : (base : ℕ) (row : ChangeRow) → (now v).pieces base ≡ Some (Change row)
@@ -62,8 +41,7 @@ module _ (v : View) (s : IsSound v) (log : Log) (m : MayCome v log) where
   change_later base row e =
       let it = change_there (now v).pieces u.pieces
       (grow_between v.start v.words v.log log m.lawful.enabled (goes_on_by m.later)) base
-      row e in
-      (it.0, it.1, ap (λ x. x.node) it.2.others)
+      row e in (it.0, it.1, ap (λ x. x.node) it.2.others)
 
   -- no row lies at the anchor
   not_anchor : (node : ℕ) (r : InnerRow) → u.pieces node ≡ Some (Inner r) → node ≢ anchor
@@ -98,22 +76,19 @@ module _ (v : View) (s : IsSound v) (log : Log) (m : MayCome v log) where
 -- a caller may load the status of a change's node, and so see the node open
 pub can_load_okay : (v : View) (change place : ℕ) → IsSound v → CanLoadOkay v change place
     → CanLoadAs v place (okay_of v change)
-can_load_okay v change place s can =
-    record {
-      known = λ log m.
-          let r = change_later v s log m change can.row can.installed in
-          let node = subst (λ n. IsNode (state_of v.start v.words log) n) r.2
-          (change_node v.start v.words log m.lawful.enabled change r.0 r.1) in
-          let it = status_shown v s log m can.row.node node in
-          (it.0, subst (λ p. IsShown (state_of v.start v.words log) p it.0) (sym can.at) it.1);
-      comes = λ log m word shown event named. okay_comes log m word shown event named;
-    }
+can_load_okay v change place s can = record {
+  known = λ log m. let r = change_later v s log m change can.row can.installed in
+      let node = subst (λ n. IsNode (state_of v.start v.words log) n) r.2
+      (change_node v.start v.words log m.lawful.enabled change r.0 r.1) in
+      let it = status_shown v s log m can.row.node node in
+      (it.0, subst (λ p. IsShown (state_of v.start v.words log) p it.0) (sym can.at) it.1);
+  comes = λ log m word shown event named. okay_comes log m word shown event named;
+}
   where
     okay_comes : (log : Log) (m : MayCome v log) (word : ℕ)
         → IsShown (state_of v.start v.words log) place word → (event : Event)
         → okay_of v change log word ≡ Some event → CanMake v event × LeavesAt v log event place word
-    okay_comes log m word shown event named =
-        let t = state_of v.start v.words log in
+    okay_comes log m word shown event named = let t = state_of v.start v.words log in
         let r = change_later v s log m change can.row can.installed in
         let node = subst (λ n. IsNode t n) r.2
         (change_node v.start v.words log m.lawful.enabled change r.0 r.1) in
@@ -136,8 +111,7 @@ can_load_okay v change place s can =
           node_open = subst (IsOpen t) (sym r.2) opened;
         } in
         let touches : touch_of t (Okay (number_of v.who) change) ≡ Some record {
-          place =
-              place;
+          place = place;
           found = word;
           left = word;
         } =
@@ -147,8 +121,7 @@ can_load_okay v change place s can =
           subst (CanMake v) it.1 record { mine = mine; stored = tt; allowed = tt },
           subst (λ e. LeavesAt v log e place word) it.1 record {
             enabled = enabled;
-            leaves =
-                inl touches;
+            leaves = inl touches;
           },
         )
 
@@ -164,35 +137,29 @@ module _ (v : View) (s : IsSound v) (log : Log) (m : MayCome v log) (node i plac
       × ((word : ℕ) × (slice_get r.slots i ≡ Some word)
       × (slice_get (words_of (Inner r)) (4 + length r.keys + i) ≡ Some word)
       × (place ≡ node + (4 + length r.keys + i)))
-  slot_later =
-      let it = inner_later v s log m node row there in
-      let r = it.0 in
+  slot_later = let it = inner_later v s log m node row there in let r = it.0 in
       let shape : HasDegree r = shaped v.start v.words log m.lawful.enabled node (Inner r) it.1 in
-      let slots = shape.slots in
-      let keys = shape.keys in
-      let degree = it.2 in
+      let slots = shape.slots in let keys = shape.keys in let degree = it.2 in
       let word = slice_get-get_or r.slots i 0 (omega arith) in
       (r, it.1, it.2, (_, word, get-words_of_slot r i ∙ word, at ∙ omega arith))
 
 -- a caller may load a slot of an inner row, and so pass it if the row is marked
 pub can_load_pass : (v : View) (node i place : ℕ) → IsSound v → CanLoadPass v node i place
     → CanLoadAs v place (pass_of v node i)
-can_load_pass v node i place s can =
-    record {
-      known = λ log m.
-          let it = slot_later v s log m node i place can.row can.published can.within can.at in (
-            it.3.0,
-            subst (λ p. IsShown (state_of v.start v.words log) p it.3.0) (sym it.3.3)
-                (shown_row node (Inner it.0) (4 + length it.0.keys + i) it.1 it.3.2),
-          );
-      comes = pass_comes;
-    }
+can_load_pass v node i place s can = record {
+  known = λ log m.
+      let it = slot_later v s log m node i place can.row can.published can.within can.at in (
+        it.3.0,
+        subst (λ p. IsShown (state_of v.start v.words log) p it.3.0) (sym it.3.3)
+            (shown_row node (Inner it.0) (4 + length it.0.keys + i) it.1 it.3.2),
+      );
+  comes = pass_comes;
+}
   where
     pass_comes : (log : Log) (m : MayCome v log) (word : ℕ)
         → IsShown (state_of v.start v.words log) place word → (event : Event)
         → pass_of v node i log word ≡ Some event → CanMake v event × LeavesAt v log event place word
-    pass_comes log m word shown event named =
-        let t = state_of v.start v.words log in
+    pass_comes log m word shown event named = let t = state_of v.start v.words log in
         let it = slot_later v s log m node i place can.row can.published can.within can.at in
         let r = it.0 in
         let same = shown_in_row v.start v.words log m.lawful.enabled node (Inner r)
@@ -224,35 +191,31 @@ can_load_pass v node i place s can =
           subst (CanMake v) tests.1 record { mine = mine; stored = tt; allowed = tt },
           subst (λ e. LeavesAt v log e place word) tests.1 record {
             enabled = enabled;
-            leaves =
-                inl (ap (λ p. Some record { place = p; found = word; left = word }) at_place);
+            leaves = inl (ap (λ p. Some record { place = p; found = word; left = word }) at_place);
           },
         )
 
 -- a caller may give up a pair row by a load
 pub can_load_past : (v : View) (pair node : ℕ) → IsSound v → CanLoadPast v pair node
     → CanLoadAs v (node + inner_status_offset) (past_of v pair)
-can_load_past v pair node s can =
-    record {
-      known = λ log m. let it = inner_later v s log m node can.row can.published in
-          (it.0.status, shown_row node (Inner it.0) 0 it.1 refl);
-      comes = past_comes;
-    }
+can_load_past v pair node s can = record {
+  known = λ log m. let it = inner_later v s log m node can.row can.published in
+      (it.0.status, shown_row node (Inner it.0) 0 it.1 refl);
+  comes = past_comes;
+}
   where
     past_comes : (log : Log) (m : MayCome v log) (word : ℕ)
         → IsShown (state_of v.start v.words log) (node + inner_status_offset) word → (event : Event)
         → past_of v pair log word ≡ Some event → CanMake v event
         × LeavesAt v log event (node + inner_status_offset) word
-    past_comes log m word shown event named =
-        let t = state_of v.start v.words log in
+    past_comes log m word shown event named = let t = state_of v.start v.words log in
         let it = inner_later v s log m node can.row can.published in
         let number = ap number_of can.mine in
         let is = some_one (Lose (number_of v.who) (pair ∷ [])) event named in
         let held = held_later v.start v.words record {
           caller = can.number;
           base = pair;
-          size =
-              pair_words;
+          size = pair_words;
         } v.log log m.lawful.enabled
         (subst (λ w. Later w v.log log) can.mine m.later) can.held in
         let enabled : Enabled (start v.start v.words) log (Lose (number_of v.who) (pair ∷ [])) =
@@ -272,8 +235,7 @@ can_load_past v pair node s can =
         ap Caller number ∙ sym can.mine in (
           subst (CanMake v) is record { mine = mine; stored = tt; allowed = tt },
           subst (λ e. LeavesAt v log e (node + inner_status_offset) word) is record {
-            enabled =
-                enabled;
+            enabled = enabled;
             leaves = inr refl;
           },
         )

@@ -2,18 +2,12 @@
 use Rattle.std.proofs.Common.{◌≡◌, ℕ, ◌+◌, ◌≤◌, ◌∷◌, sym, ap, ap₂, ◌∙◌, subst, le_refl, inl, inr, arith}
 use Rattle.std.proofs.Math.Nat.{le_trans}
 use Rattle.ist_core.specs.declared.events.Event.{Event}
-use Rattle.ist_core.specs.Authors.{no_more, one_more, Later, LaterBy}
-use Rattle.ist_core.specs.Growing.{AllGrow}
-use Rattle.ist_core.specs.Logs.{Log}
-use Rattle.ist_core.specs.Lawful.{Lawful, state_of}
-use Rattle.ist_core.proofs.FateLemmas.{grow_between}
-use Rattle.ist_rule.specs.declared.view.View.{View}
 use Rattle.ist_core.specs.declared.events.Who.{Who}
-use Rattle.ist_rule.specs.Rule.{IsSound}
-use Rattle.ist_rule.specs.Learning.{now, made_after, logging, GoesOnTo, Looked, Logged, LoggedLoad}
-use Rattle.ist_rule.specs.Going.{WentOn}
-use Rattle.ist_rule.proofs.GoingOnLemmas.{goes_on_same, looked_goes_on}
-use Rattle.ist_core.proofs.PrefixLemmas.{goes_on_by}
+use Rattle.ist_core.specs.LogTerms.{no_more, one_more, Later, LaterBy, Log, Lawful, state_of}
+use Rattle.ist_core.specs.TreeTerms.{AllGrow}
+use Rattle.ist_core.proofs.AllLogLemmas.{grow_between, goes_on_by}
+use Rattle.ist_rule.specs.RuleTerms.{View, IsSound, now, made_after, logging, GoesOnTo, Looked, Logged, LoggedLoad, WentOn}
+use Rattle.ist_rule.proofs.EventLemmas.{goes_on_same, looked_goes_on}
 pub use Rattle.ist_core.proofs.PrefixLemmas.{goes_on_by as later_by-goes_on}
 
 -- ---- logs
@@ -51,46 +45,41 @@ went_now P v w h =
 
 -- the log of a seat that went on is lawful for the table of the first view
 pub went_lawful : (P : Event → Type 0) (v w : View) → WentOn P v w → Lawful v.start v.words w.log
-went_lawful P v w h =
-    subst (λ p. Lawful p v.words w.log) (ap (λ x. x.start) h.same)
+went_lawful P v w h = subst (λ p. Lawful p v.words w.log) (ap (λ x. x.start) h.same)
     (subst (λ n. Lawful w.start n w.log) (ap (λ x. x.words) h.same) h.sound.lawful)
 
 -- rows grow
 pub went_grow : (P : Event → Type 0) (v w : View) → WentOn P v w
     → AllGrow (now v).pieces (now w).pieces
-went_grow P v w h =
-    subst (λ t. AllGrow (now v).pieces t.pieces) (sym (went_now P v w h))
+went_grow P v w h = subst (λ t. AllGrow (now v).pieces t.pieces) (sym (went_now P v w h))
     (grow_between v.start v.words v.log w.log (went_lawful P v w h).enabled
     (goes_on_by h.later))
 
 -- what is true of all its events may be said of them
 pub went_all : (P Q : Event → Type 0) → ((event : Event) → P event → Q event) → (v w : View)
     → WentOn P v w → WentOn Q v w
-went_all P Q all v w h =
-    record {
-      later = later_by_all all h.later;
-      sound = h.sound;
-      same = h.same;
-      loaded = h.loaded;
-    }
+went_all P Q all v w h = record {
+  later = later_by_all all h.later;
+  sound = h.sound;
+  same = h.same;
+  loaded = h.loaded;
+}
 
 -- ---- which steps make a seat go on so
 
 -- a seat that made loads went on so
 pub goes_on_went : (P : Event → Type 0) (v w : View) → GoesOnTo v w → WentOn P v w
-goes_on_went P v w g =
-    let own : w.own ≡ v.own = ap (λ x. x.own) g.same in
-    record {
-      later = later_by g.later;
-      sound = g.sound;
-      same = g.same ∙ ap {B = View} (λ own. record v {
-        log = w.log;
-        own = own;
-        loads = w.loads;
-        loaded = w.loaded;
-      }) (sym own);
-      loaded = g.loaded;
-    }
+goes_on_went P v w g = let own : w.own ≡ v.own = ap (λ x. x.own) g.same in record {
+  later = later_by g.later;
+  sound = g.sound;
+  same = g.same ∙ ap {B = View} (λ own. record v {
+    log = w.log;
+    own = own;
+    loads = w.loads;
+    loaded = w.loaded;
+  }) (sym own);
+  loaded = g.loaded;
+}
 
 -- a seat that does nothing went on
 pub went_same : (P : Event → Type 0) (v : View) → IsSound v → WentOn P v v
@@ -105,20 +94,19 @@ looked_went P v place word w l = goes_on_went P v w (looked_goes_on v place word
 event_went : (P : Event → Type 0) (v : View) (event : Event) (w : View) (before : Log) (count : ℕ)
     → Later v.who v.log before → w ≡ record (logging v before event) { loaded = count } → IsSound w
     → v.loaded ≤ count → P event → made_after event v.made ≡ v.made → WentOn P v w
-event_went P v event w before count later view sound more is made =
-    record {
-      later = subst (LaterBy v.who P v.log) (sym (ap (λ x. x.log) view))
-          (one_more event (later_by later) (inr is));
-      sound = sound;
-      same = subst (λ (x : View). x ≡ record v {
-        log = x.log;
-        own = x.own;
-        loads = x.loads;
-        loaded = x.loaded;
-      }) (sym view)
-          (ap {B = View} (λ n. record v { log = event ∷ before; made = n; loaded = count }) made);
-      loaded = subst (λ n. v.loaded ≤ n) (sym (ap (λ x. x.loaded) view)) more;
-    }
+event_went P v event w before count later view sound more is made = record {
+  later = subst (LaterBy v.who P v.log) (sym (ap (λ x. x.log) view))
+      (one_more event (later_by later) (inr is));
+  sound = sound;
+  same = subst (λ (x : View). x ≡ record v {
+    log = x.log;
+    own = x.own;
+    loads = x.loads;
+    loaded = x.loaded;
+  }) (sym view)
+      (ap {B = View} (λ n. record v { log = event ∷ before; made = n; loaded = count }) made);
+  loaded = subst (λ n. v.loaded ≤ n) (sym (ap (λ x. x.loaded) view)) more;
+}
 
 -- a seat that made an event that P is true of went on
 pub logged_went : (P : Event → Type 0) (v : View) (event : Event) (w : View) → Logged v event w
@@ -128,8 +116,7 @@ logged_went P v event w l =
 
 -- a seat that made a load which is such an event went on
 pub logged_load_went : (P : Event → Type 0) (v : View) (event : Event) (place word : ℕ) (w : View)
-    → LoggedLoad v event place word w → P event
-    → made_after event v.made ≡ v.made → WentOn P v w
+    → LoggedLoad v event place word w → P event → made_after event v.made ≡ v.made → WentOn P v w
 logged_load_went P v event place word w l =
     event_went P v event w l.before (v.loaded + 1) l.later l.view l.sound (omega arith)
 
@@ -146,21 +133,18 @@ pub goes_on_grow : (v w : View) → GoesOnTo v w → AllGrow (now v).pieces (now
 goes_on_grow v w g = went_grow (λ event. ⊥) v w (goes_on_went (λ event. ⊥) v w g)
 
 -- going on twice
-pub went_more : (P : Event → Type 0) (u v w : View) → WentOn P u v → WentOn P v w
-    → WentOn P u w
-went_more P u v w a b =
-    record {
-      later = later_by_more a.later
-          (subst (λ x. LaterBy x P v.log w.log) (went_who P u v a) b.later);
-      sound = b.sound;
-      same = b.same ∙ ap {B = View} (λ (x : View). record x {
-        log = w.log;
-        own = w.own;
-        loads = w.loads;
-        loaded = w.loaded;
-      }) a.same;
-      loaded = le_trans a.loaded b.loaded;
-    }
+pub went_more : (P : Event → Type 0) (u v w : View) → WentOn P u v → WentOn P v w → WentOn P u w
+went_more P u v w a b = record {
+  later = later_by_more a.later (subst (λ x. LaterBy x P v.log w.log) (went_who P u v a) b.later);
+  sound = b.sound;
+  same = b.same ∙ ap {B = View} (λ (x : View). record x {
+    log = w.log;
+    own = w.own;
+    loads = w.loads;
+    loaded = w.loaded;
+  }) a.same;
+  loaded = le_trans a.loaded b.loaded;
+}
   where
     start_is : w.start ≡ u.start
     start_is = ap (λ x. x.start) b.same ∙ ap (λ x. x.start) a.same

@@ -1,13 +1,11 @@
 -- A shot that is read after its pass went on, or by another pass. Serves `callers.rt`.
 use Rattle.std.proofs.Common.{◌≡◌, ℕ, List, [], ◌∷◌, ◌++◌, Option, ap, ◌∙◌, sym, subst}
 use Rattle.ist_core.specs.declared.commands.Command.TheVariants.{Remove}
-use Rattle.ist_core.specs.Lawful.{Lawful}
-use Rattle.ist_core.specs.Logs.{GoesOn}
 use Rattle.ist_core.specs.declared.pairs.Pair.{Pair}
-use Rattle.ist_core.specs.Map.{listed, pairs_between, pairs_of}
+use Rattle.ist_core.specs.LogTerms.{Lawful, GoesOn}
+use Rattle.ist_core.specs.TreeTerms.{listed, pairs_between, pairs_of}
+use Rattle.ist_tree.specs.CallTerms.{HasSeenMore, HasLearnt, AddsCall, PassFace, noted}
 use Rattle.ist_tree.specs.declared.freezing.Frozen.{Frozen}
-use Rattle.ist_tree.specs.Calls.{HasSeenMore, HasLearnt, AddsCall}
-use Rattle.ist_tree.specs.Faces.{PassFace, noted}
 use Rattle.ist_tree.proofs.HeardLemmas.{seen_more_then, steps_until}
 use Rattle.ist_scan.specs.declared.totals.Total.{Total}
 use Rattle.ist_scan.specs.Callers.{IsTotalBefore, IsListOnce}
@@ -32,8 +30,7 @@ module _ (p taken made q : PassFace) (seen : HasSeenMore taken made)
       → total ≡ total_of (listed first last (map_seen made position)))
       → IsTotalBefore p q first last key total
   total_before shot first last key reply total h calls added value =
-      let at = of_on taken made on h.position shot h.is_of in
-      record {
+      let at = of_on taken made on h.position shot h.is_of in record {
         at = h.at;
         step = steps_until p taken q h.at h.step (seen_more_then taken made q seen looked.seen);
         position = h.position;
@@ -57,8 +54,7 @@ module _ (p taken q : PassFace) (shot : Frozen) (h : HasTakenShot p taken shot)
   listed_once =
       let following : GoesOnWell taken q =
       record { tree = looked.seen.tree; seen = looked.seen.seen; lawful = lawful_now } in
-      let at = of_on taken q following h.position shot h.is_of in
-      record {
+      let at = of_on taken q following h.position shot h.is_of in record {
         at = h.at;
         step = steps_until p taken q h.at h.step looked.seen;
         position = h.position;
@@ -72,8 +68,7 @@ module _ (p taken q : PassFace) (shot : Frozen) (h : HasTakenShot p taken shot)
   pub listed_alike : (other : PassFace) → GoesOnWell taken other → (theirs : List Pair)
       → ((pairs : List Pair) → ArePairsOf other shot pairs → theirs ≡ pairs_between first last pairs)
       → mine ≡ theirs
-  listed_alike other on theirs by =
-      let pairs = pairs_of (map_seen taken h.position) in
+  listed_alike other on theirs by = let pairs = pairs_of (map_seen taken h.position) in
       value h.position h.is_of
       ∙ sym (by pairs (has_on taken other on shot pairs (of_pairs taken h.position shot lawful h.is_of)))
 
@@ -82,8 +77,7 @@ pub told_well : (took taken note other : PassFace) → note ≡ noted took → t
     → HasLearnt other note → Lawful other.tree.start other.tree.words other.seen
     → GoesOnWell taken other
 told_well took taken note other noted_is same l lawful =
-    let value = noted_is ∙ ap noted (sym same) in
-    record {
+    let value = noted_is ∙ ap noted (sym same) in record {
       tree = sym l.tree ∙ ap (λ (n : PassFace). n.tree) value;
       seen = subst (λ (n : PassFace). GoesOn n.seen other.seen) value l.seen;
       lawful = lawful;
@@ -104,8 +98,7 @@ module _ (p took taken q note other : PassFace) (shot : Frozen) (h : HasTakenSho
 
   -- both lists are the same pairs
   pub both_alike : mine ≡ theirs
-  both_alike =
-      listed_alike p taken q shot its lawful looked lawful_now first last mine value other
+  both_alike = listed_alike p taken q shot its lawful looked lawful_now first last mine value other
       (told_well took taken note other noted_is same learnt lawful_other) theirs by
 
   -- the taker's list is of one position

@@ -11,12 +11,11 @@ use Rattle.ist_scan.proofs.PairLemmas.{rise}
 -- at first the search is between 0 and the number of pairs
 pub between_all : (pairs : List Pair) (key keys : ℕ) → length pairs ≡ keys
     → IsSearchBetween pairs key 0 keys
-between_all pairs key keys long =
-    record {
-      below = λ i pair low at. absurd (omega arith);
-      above = λ i pair high at.
-          (let within = slice_get_within pairs i pair at in absurd (omega arith));
-    }
+between_all pairs key keys long = record {
+  below = λ i pair low at. absurd (omega arith);
+  above = λ i pair high at.
+      (let within = slice_get_within pairs i pair at in absurd (omega arith));
+}
 
 -- a number below the next one, and one that isn't below
 at_or_below : (i m : ℕ) → i < m + 1 → (i ≡ m) ⊎ (i < m)
@@ -32,29 +31,27 @@ module _ (pairs : List Pair) (rising : IsStrictlyIncreasing (map (λ p. p.key) p
     (at : slice_get pairs middle ≡ Some x) where
   -- the middle pair has a lower key
   pub go_up : x.key < key → IsSearchBetween pairs key (middle + 1) high
-  go_up less =
-      record {
-        below = λ i pair lower here. ⊎_elim
-            (λ (same : i ≡ middle). (let one : pair ≡ x = cc in
-            subst (λ p. p.key < key) (sym one) less))
-            (λ (before : i < middle). (let rose = rise pairs rising i middle pair x here at before in
-            omega arith))
-            (at_or_below i middle lower);
-        above = b.above;
-      }
+  go_up less = record {
+    below = λ i pair lower here. ⊎_elim
+        (λ (same : i ≡ middle). (let one : pair ≡ x = cc in
+        subst (λ p. p.key < key) (sym one) less))
+        (λ (before : i < middle). (let rose = rise pairs rising i middle pair x here at before in
+        omega arith))
+        (at_or_below i middle lower);
+    above = b.above;
+  }
 
   -- if the bound is at most the key in the middle, the search goes down
   pub go_down : key ≤ x.key → IsSearchBetween pairs key low middle
-  go_down more =
-      record {
-        below = b.below;
-        above = λ i pair higher here. ⊎_elim
-            (λ (same : i ≡ middle). (let one : pair ≡ x = cc in
-            subst (λ p. key ≤ p.key) (sym one) more))
-            (λ (following : middle < i). (let rose = rise pairs rising middle i x pair at here following in
-            omega arith))
-            (at_or_above i middle higher);
-      }
+  go_down more = record {
+    below = b.below;
+    above = λ i pair higher here. ⊎_elim
+        (λ (same : i ≡ middle). (let one : pair ≡ x = cc in
+        subst (λ p. key ≤ p.key) (sym one) more))
+        (λ (following : middle < i). (let rose = rise pairs rising middle i x pair at here following in
+        omega arith))
+        (at_or_above i middle higher);
+  }
 
 -- ---- how many looks it takes
 
@@ -65,24 +62,20 @@ none_made keys high all = record { shrunk = omega arith; few = omega arith }
 -- a power of two is above its exponent
 power_above : (looks : ℕ) → looks < 2 ^ looks
 power_above zero = omega arith
-power_above (suc looks) =
-    let before = power_above looks in
-    let next = pow-suc 2 looks in
+power_above (suc looks) = let before = power_above looks in let next = pow-suc 2 looks in
     omega (arith, before, next)
 
 -- the power so far, if something is left
 power_within : (keys looks left : ℕ) → 0 < left → IsHalved keys looks left → 2 ^ looks ≤ keys
 power_within keys looks left some h =
     let once = mul-le-mul_left {m = 1} {n = left} (2 ^ looks) (omega arith) in
-    let shrunk = h.shrunk in
-    omega (arith, once, shrunk)
+    let shrunk = h.shrunk in omega (arith, once, shrunk)
 
 -- one look more leaves no more than half
 pub one_more : (keys looks low high less : ℕ) → low < high → IsHalved keys looks (high - low)
     → less + less ≤ high - low → IsHalved keys (looks + 1) less
 one_more keys looks low high less some h half =
-    let within = power_within keys looks (high - low) (omega arith) h in
-    let shrunk = h.shrunk in
+    let within = power_within keys looks (high - low) (omega arith) h in let shrunk = h.shrunk in
     let next : 2 ^ (looks + 1) ≡ 2 ^ looks * 2 = ap (λ n. 2 ^ n) (add-one looks) ∙ pow-suc 2 looks in
     let double = mul-le-mul_left {m = less + less} {n = high - low} (2 ^ looks) half in
     record { shrunk = rw next (omega (arith, double, shrunk)); few = omega (arith, within, next) }
@@ -91,5 +84,4 @@ one_more keys looks low high less some h half =
 pub looks_fit : (keys looks low high : ℕ) → low < high → IsHalved keys looks (high - low) → looks + 1 ≤ keys
 looks_fit keys looks low high some h =
     let within = power_within keys looks (high - low) (omega arith) h in
-    let above = power_above looks in
-    omega (arith, within, above)
+    let above = power_above looks in omega (arith, within, above)

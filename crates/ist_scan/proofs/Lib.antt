@@ -1,7 +1,6 @@
 pub mod ShotLemmas
 pub mod PairLemmas
 pub mod HalvingLemmas
-pub mod CutLemmas
 pub mod TotalLemmas
 pub mod WalkLemmas
 pub mod CallerLemmas

@@ -9,9 +9,7 @@ key_at : (pairs : List Pair) (i : ℕ) (pair : Pair) → slice_get pairs i ≡ S
     → (slice_index_or (map (λ p. p.key) pairs) i 0 ≡ pair.key) × (i < length (map (λ p. p.key) pairs))
 key_at [] i pair at = cc
 key_at (x ∷ pairs) zero pair at = let same : x ≡ pair = cc in (ap (λ p. p.key) same, omega arith)
-key_at (x ∷ pairs) (suc i) pair at =
-    let rest = key_at pairs i pair at in
-    let low = rest.1 in
+key_at (x ∷ pairs) (suc i) pair at = let rest = key_at pairs i pair at in let low = rest.1 in
     (rest.0, omega arith)
 
 -- of two pairs the first has the lower key
@@ -21,6 +19,5 @@ pub rise : (pairs : List Pair) → IsStrictlyIncreasing (map (λ p. p.key) pairs
 rise pairs rising i j x y at_i at_j below =
     let all = AllPairs-from_increasing (map (λ p. p.key) pairs) rising i j 0 below
     (key_at pairs j y at_j).1 in
-    let here = (key_at pairs i x at_i).0 in
-    let there = (key_at pairs j y at_j).0 in
+    let here = (key_at pairs i x at_i).0 in let there = (key_at pairs j y at_j).0 in
     omega (arith, all, here, there)

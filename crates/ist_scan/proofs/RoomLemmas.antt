@@ -2,23 +2,14 @@
 -- `take_if_room`.
 use Rattle.std.proofs.Common.{◌≡◌, ℕ, ◌+◌, ◌<◌, ◌≤◌, length, Result, Ok, Err, IfOk, IfErr, OnOk, inl, inr, ⊎_elim, ap, ◌∙◌, sym, subst, arith}
 use Rattle.ist_core.specs.declared.ports.Full.{Full}
-use Rattle.ist_core.specs.Lawful.{state_of}
-use Rattle.ist_core.specs.Links.{IsChild}
-use Rattle.ist_core.specs.Changes.{changes_of}
-use Rattle.ist_core.specs.Logs.{Log, same_log}
-use Rattle.ist_core.specs.RowLayout.{anchor, change_words, rebuild_words}
-use Rattle.ist_core.specs.Slots.{SlotHolds}
-use Rattle.ist_core.specs.References.{InnerAt, word_of}
-use Rattle.ist_core.specs.Spending.{spent}
-use Rattle.ist_core.proofs.PrefixLemmas.{goes_on_more}
+use Rattle.ist_core.specs.LogTerms.{state_of, Log, same_log, spent}
+use Rattle.ist_core.specs.TreeTerms.{IsChild, changes_of}
+use Rattle.ist_core.specs.WordTerms.{anchor, change_words, rebuild_words, SlotHolds, InnerAt, word_of}
+use Rattle.ist_core.proofs.AllLogLemmas.{goes_on_more}
+use Rattle.ist_tree.specs.CallTerms.{HasSeenMore, TreeFace, PassFace, FreezesInFew, IsFreezeRefused, StepsIn, HadTooFew, IsTopRefused, KeepsRefusal}
 use Rattle.ist_tree.specs.declared.freezing.Frozen.{Frozen}
-use Rattle.ist_tree.specs.Calls.{HasSeenMore}
-use Rattle.ist_tree.specs.Faces.{TreeFace, PassFace}
-use Rattle.ist_tree.specs.Freezing.{FreezesInFew, IsFreezeRefused}
-use Rattle.ist_tree.specs.RealTime.{StepsIn}
-use Rattle.ist_tree.specs.Refusals.{HadTooFew, IsTopRefused, KeepsRefusal}
 use Rattle.ist_tree.specs.Room.{HasLeft, HasMadeNone}
-use Rattle.ist_tree.proofs.AloneLemmas.{few_before, freezes_before, lone_whole, room_is_enough}
+use Rattle.ist_tree.proofs.RoomLemmas.{few_before, freezes_before, lone_whole, room_is_enough}
 use Rattle.ist_tree.proofs.ShortLemmas.{left_same}
 use Rattle.ist_tree.proofs.HeardLemmas.{seen_more_then, steps_from, steps_until}
 use Rattle.ist_scan.specs.Room.{HadRoom, HadNoRoom, IsShotRefused, LoneShotsAreTaken, LoneShotsAreWhole, for_start}
@@ -65,8 +56,7 @@ lone_taken p q words full room rows alone refused =
 
 -- room for all words of the shot is enough for the whole
 pub lone_shot_whole : LoneShotsAreWhole
-lone_shot_whole p q shot words few room le alone =
-    let enough = room.enough in
+lone_shot_whole p q shot words few room le alone = let enough = room.enough in
     lone_whole p q shot few room.at room.step.seen (omega arith) alone
 
 -- ---- the shot after it
@@ -78,82 +68,75 @@ module _ (p m q : PassFace) (look : HasSeenMore p m) (after : HasSeenMore m q) w
 
   -- the room that was found was there in the call
   room_both : (words : ℕ) → HadRoom p m words → HadRoom p q words
-  room_both words h =
-      record {
-        at = h.at;
-        step = steps_until p m q h.at h.step after;
-        enough = h.enough;
-      }
+  room_both words h = record {
+    at = h.at;
+    step = steps_until p m q h.at h.step after;
+    enough = h.enough;
+  }
 
   -- a shot that was taken after the look was taken in the call
   taken_both : (shot : Frozen) → HasTakenShot m q shot → HasTakenShot p q shot
-  taken_both shot h =
-      record {
-        at = h.at;
-        step = steps_from p m q h.at look h.step;
-        position = h.position;
-        fresh = subst (λ (t : TreeFace). length (changes_of t.start t.words h.at) ≤ h.position)
-            look.tree h.fresh;
-        is_of = h.is_of;
-      }
+  taken_both shot h = record {
+    at = h.at;
+    step = steps_from p m q h.at look h.step;
+    position = h.position;
+    fresh = subst (λ (t : TreeFace). length (changes_of t.start t.words h.at) ≤ h.position)
+        look.tree h.fresh;
+    is_of = h.is_of;
+  }
 
   -- too few words after the look were too few in the call
   abbrev short_both : {A B : Log → ℕ → Type 0} (full : Full) → HadTooFew A m q full
       → ((at : Log) → A at full.asked → B at full.asked) → HadTooFew B p q full
-  short_both full h to =
-      record {
-        at = h.at;
-        since = goes_on_more look.seen h.since;
-        until = h.until;
-        left = left_same full (ap (λ (t : TreeFace). t.start) look.tree)
-            (ap (λ (t : TreeFace). t.words) look.tree) h.left (to h.at);
-      }
+  short_both full h to = record {
+    at = h.at;
+    since = goes_on_more look.seen h.since;
+    until = h.until;
+    left = left_same full (ap (λ (t : TreeFace). t.start) look.tree)
+        (ap (λ (t : TreeFace). t.words) look.tree) h.left (to h.at);
+  }
 
   -- a freeze that was refused after the look was refused in the call
   refused_both : HasMadeNone p m → (full : Full) → IsFreezeRefused m q full
       → IsFreezeRefused p q full
-  refused_both none full h =
-      record {
-        had = short_both full h.had (λ at for. record {
-          start = for.start;
-          lacked = for.lacked;
-          few = few_before p m look.number none q.seen full.asked (rebuild_words + change_words)
-              for.few;
-        });
-        held = record {
-          at = h.held.at;
-          since = goes_on_more look.seen h.held.since;
-          until = h.held.until;
-          row = h.held.row;
-          holds = subst (λ (t : TreeFace). SlotHolds (state_of t.start t.words h.held.at) anchor 0
-              (word_of (InnerAt h.held.row))) look.tree h.held.holds;
-        };
-      }
+  refused_both none full h = record {
+    had = short_both full h.had (λ at for. record {
+      start = for.start;
+      lacked = for.lacked;
+      few = few_before p m look.number none q.seen full.asked (rebuild_words + change_words)
+          for.few;
+    });
+    held = record {
+      at = h.held.at;
+      since = goes_on_more look.seen h.held.since;
+      until = h.held.until;
+      row = h.held.row;
+      holds = subst (λ (t : TreeFace). SlotHolds (state_of t.start t.words h.held.at) anchor 0
+          (word_of (InnerAt h.held.row))) look.tree h.held.holds;
+    };
+  }
 
   top_both : (full : Full) → IsTopRefused m q full → IsTopRefused p q full
-  top_both full h =
-      record {
-        row = h.row;
-        at = h.at;
-        since = goes_on_more look.seen h.since;
-        until = h.until;
-        child = subst (λ (t : TreeFace). IsChild (state_of t.start t.words h.at) anchor 0 h.row)
-            look.tree h.child;
-        had = short_both full h.had (λ at for. for);
-      }
+  top_both full h = record {
+    row = h.row;
+    at = h.at;
+    since = goes_on_more look.seen h.since;
+    until = h.until;
+    child = subst (λ (t : TreeFace). IsChild (state_of t.start t.words h.at) anchor 0 h.row)
+        look.tree h.child;
+    had = short_both full h.had (λ at for. for);
+  }
 
   -- the refusal that the pass keeps has its cause in the call
   pub keeps_both : m.refused ≡ p.refused → KeepsRefusal m q → KeepsRefusal p q
-  keeps_both same k =
-      record {
-        stays = λ full e. k.stays full (same ∙ e);
-        cause = λ full e.
-            ⊎_elim (λ kept. inl (sym same ∙ kept)) (λ top. inr (top_both full top)) (k.cause full e);
-      }
+  keeps_both same k = record {
+    stays = λ full e. k.stays full (same ∙ e);
+    cause = λ full e.
+        ⊎_elim (λ kept. inl (sym same ∙ kept)) (λ top. inr (top_both full top)) (k.cause full e);
+  }
 
   -- what the shot after the look returned, it returned in the call
-  pub ok_both : (r : Result Frozen Full) → IfOk r (HasTakenShot m q)
-      → IfOk r (HasTakenShot p q)
+  pub ok_both : (r : Result Frozen Full) → IfOk r (HasTakenShot m q) → IfOk r (HasTakenShot p q)
   ok_both (Ok shot) h = taken_both shot h
   ok_both (Err full) h = tt
 
@@ -174,8 +157,6 @@ module _ (p m q : PassFace) (look : HasSeenMore p m) (after : HasSeenMore m q) w
   pub err_both : (words : ℕ) → HadRoom p m words → HasMadeNone p m → (r : Result Frozen Full)
       → IfErr r (IsFreezeRefused m q) → IfErr r (IsShotRefused p q words)
   err_both words room none (Ok shot) h = tt
-  err_both words room none (Err full) h =
-      let had = room_both words room in
-      let refused = refused_both none full h in
-      for_start had refused
+  err_both words room none (Err full) h = let had = room_both words room in
+      let refused = refused_both none full h in for_start had refused
       (λ rows alone. lone_taken p q words full had rows alone refused)

@@ -2,7 +2,7 @@
 use Rattle.std.proofs.Common.{◌≡◌, ℕ, ◌+◌, ◌-◌, ◌<◌, ◌≤◌, List, [], ◌∷◌, ◌++◌, zero, suc, length, take, drop, slice_get, slice_set, ◌≢◌, Option, Some, None, refl, sym, ap, ◌∙◌, ⊎_elim, arith}
 use Rattle.std.proofs.lemmas.Bool.{cases_lt}
 use Rattle.std.proofs.lemmas.List.Sums.{sum_by_push}
-use Rattle.ist_core.proofs.PieceLemmas.{slice_get-drop}
+use Rattle.ist_core.proofs.AllWordLemmas.{slice_get-drop}
 use Rattle.ist_core.specs.declared.pairs.Pair.{Pair}
 use Rattle.ist_scan.specs.Cuts.{slice_of}
 use Rattle.std.proofs.lemmas.List.{length-append}
@@ -29,8 +29,7 @@ greatest_swap a b (Some c) = ap Some (omega arith)
 pub greatest_more : (pairs : List Pair) (x : Pair)
     → greatest_of (pairs ++ x ∷ []) ≡ greatest_with x.value (greatest_of pairs)
 greatest_more [] x = refl
-greatest_more (y ∷ pairs) x =
-    ap (greatest_with y.value) (greatest_more pairs x)
+greatest_more (y ∷ pairs) x = ap (greatest_with y.value) (greatest_more pairs x)
     ∙ greatest_swap y.value x.value (greatest_of pairs)
 
 take_more : (pairs : List Pair) (count : ℕ) (x : Pair) → slice_get pairs count ≡ Some x
@@ -42,10 +41,8 @@ take_more (y ∷ pairs) (suc count) x at = ap (λ l. y ∷ l) (take_more pairs c
 -- the part with one pair more
 pub part_more : (pairs : List Pair) (low i : ℕ) (x : Pair) → low ≤ i → slice_get pairs i ≡ Some x
     → slice_of pairs low (i + 1) ≡ slice_of pairs low i ++ x ∷ []
-part_more pairs low i x order at =
-    let here : low + (i - low) ≡ i = omega arith in
-    let one : i + 1 - low ≡ suc (i - low) = omega arith in
-    ap (λ n. take n (drop low pairs)) one
+part_more pairs low i x order at = let here : low + (i - low) ≡ i = omega arith in
+    let one : i + 1 - low ≡ suc (i - low) = omega arith in ap (λ n. take n (drop low pairs)) one
     ∙ take_more (drop low pairs) (i - low) x
     (slice_get-drop low pairs (i - low) ∙ ap (slice_get pairs) here ∙ at)
 

@@ -5,32 +5,29 @@ use Rattle.std.specs.List.Sorted.{IsStrictlyIncreasing}
 use Rattle.std.proofs.lemmas.Bool.{cases_lt}
 use Rattle.std.proofs.lemmas.List.{length-take}
 use Rattle.std.proofs.lemmas.Option.{slice_get_past}
-use Rattle.ist_core.proofs.PieceLemmas.{slice_get-drop, slice_get-take}
+use Rattle.ist_core.proofs.AllWordLemmas.{slice_get-drop, slice_get-take}
 use Rattle.ist_core.specs.declared.pairs.Pair.{Pair}
-use Rattle.ist_core.specs.Map.{pairs_between}
+use Rattle.ist_core.specs.TreeTerms.{pairs_between}
+use Rattle.ist_tree.specs.CallTerms.{PassFace}
 use Rattle.ist_tree.specs.declared.freezing.Frozen.{Frozen}
-use Rattle.ist_tree.specs.Faces.{PassFace}
 use Rattle.ist_scan.specs.Cuts.{CutsAt, IsCut, slice_of}
 use Rattle.ist_scan.specs.Shots.{HasOnlyLooked, ArePairsOf}
 use Rattle.ist_scan.specs.Walks.{WalkFace, AreOneWalk, WalkHasBegun, WalksStay}
-use Rattle.ist_scan.proofs.CutLemmas.{cut_is, between_is, none_between}
+use Rattle.ist_scan.proofs.ShotLemmas.{cut_is, between_is, none_between, GoesOnWell, has_on, one_pairs}
 use Rattle.ist_scan.proofs.PairLemmas.{rise}
-use Rattle.ist_scan.proofs.ShotLemmas.{GoesOnWell, has_on, one_pairs}
 
 -- walks stay
 pub walks_stay : WalksStay
 walks_stay p q tree seen lawful w h =
-    let on : GoesOnWell p q = record { tree = tree; seen = seen; lawful = lawful } in
-    record {
+    let on : GoesOnWell p q = record { tree = tree; seen = seen; lawful = lawful } in record {
       fresh = h.fresh;
-      way = λ begun. (let b = h.way begun in
-          record {
-            pairs = b.pairs;
-            has = has_on p q on w.shot b.pairs b.has;
-            start = b.start;
-            cut = b.cut;
-            next_is = b.next_is;
-          });
+      way = λ begun. (let b = h.way begun in record {
+        pairs = b.pairs;
+        has = has_on p q on w.shot b.pairs b.has;
+        start = b.start;
+        cut = b.cut;
+        next_is = b.next_is;
+      });
     }
 
 -- ---- a key cuts pairs with increasing keys
@@ -50,15 +47,13 @@ some_cut [] key rises = (
 )
 some_cut (x ∷ pairs) key rises =
     let rest = some_cut pairs key (λ i j y z at_i at_j low. rises (suc i) (suc j) y z at_i at_j (omega arith)) in
-    ⊎_elim
-    (λ (less : x.key < key). (suc rest.0, cut_more x pairs key rest.0 less rest.1))
+    ⊎_elim (λ (less : x.key < key). (suc rest.0, cut_more x pairs key rest.0 less rest.1))
     (λ (more : key ≤ x.key). (0, cut_here x pairs key more (λ i y at. rises 0 (suc i) x y refl at (omega arith))))
     (cases_lt x.key key)
   where
     cut_more : (x : Pair) (pairs : List Pair) (key count : ℕ) → x.key < key → CutsAt pairs key count
         → CutsAt (x ∷ pairs) key (suc count)
-    cut_more x pairs key count less c =
-        let within = c.within in
+    cut_more x pairs key count less c = let within = c.within in
         record { within = omega arith; below = below; above = above }
       where
         below : (i : ℕ) (pair : Pair) → i < suc count → slice_get (x ∷ pairs) i ≡ Some pair
@@ -100,8 +95,7 @@ get_part pairs low high given less =
 -- there is no pair after the end of a part
 pub none_after : (pairs : List Pair) (low high given : ℕ) → high - low ≤ given
     → slice_get (slice_of pairs low high) given ≡ None
-none_after pairs low high given more =
-    let long = length-take (high - low) (drop low pairs) in
+none_after pairs low high given more = let long = length-take (high - low) (drop low pairs) in
     slice_get_past (slice_of pairs low high) given (omega (arith, long))
 
 module _ (pairs : List Pair) (rising : IsStrictlyIncreasing (map (λ p. p.key) pairs))
@@ -109,13 +103,11 @@ module _ (pairs : List Pair) (rising : IsStrictlyIncreasing (map (λ p. p.key) p
   -- no pair comes once the pairs of the interval were given
   none_within : ((high : ℕ) → CutsAt pairs (last + 1) high → high ≤ start + given)
       → slice_get (pairs_between first last pairs) given ≡ None
-  none_within following =
-      ⊎_elim
+  none_within following = ⊎_elim
       (λ (less : last < first). ap (λ l. slice_get l given) (none_between pairs first last less))
       (λ (order : first ≤ last).
       (let cut = cut_of pairs rising first last start order c in
-      let passed = following cut.0 cut.1 in
-      ap (λ l. slice_get l given)
+      let passed = following cut.0 cut.1 in ap (λ l. slice_get l given)
       (between_is pairs first last first (last + 1) start cut.0 refl refl cut.2)
       ∙ none_after pairs start cut.0 given (omega arith)))
       (cases_lt last first)
@@ -123,8 +115,7 @@ module _ (pairs : List Pair) (rising : IsStrictlyIncreasing (map (λ p. p.key) p
   -- a pair that isn't above the interval is the next one
   pub next_is : (x : Pair) → slice_get pairs (start + given) ≡ Some x → x.key ≤ last
       → slice_get (pairs_between first last pairs) given ≡ Some x
-  next_is x at low =
-      let from = c.above (start + given) x (omega arith) at in
+  next_is x at low = let from = c.above (start + given) x (omega arith) at in
       let cut = cut_of pairs rising first last start (omega (arith, from, low)) c in
       let less : given < cut.0 - start = ⊎_elim (λ (l : start + given < cut.0). omega arith)
       (λ (h : cut.0 ≤ start + given). (let more = cut.1.above (start + given) x h at in
@@ -163,14 +154,12 @@ module _ (p q : PassFace) (shot : Frozen) (v w : WalkFace) (looked : HasOnlyLook
 
   -- the pairs that the walk was cut by
   these : HasBegunBy pairs w
-  these =
-      let same = one_pairs q w.shot b.pairs pairs b.has its_pairs in
+  these = let same = one_pairs q w.shot b.pairs pairs b.has its_pairs in
       record { start = b.start; cut = subst (λ l. CutsAt l w.first b.start) same b.cut; next_is = b.next_is }
 
   as_it_was : slice_get (pairs_between w.first w.last pairs) w.given
       ≡ slice_get (pairs_between v.first v.last pairs) v.given
-  as_it_was =
-      ap (λ n. slice_get (pairs_between n w.last pairs) w.given) one.first
+  as_it_was = ap (λ n. slice_get (pairs_between n w.last pairs) w.given) one.first
       ∙ ap (λ n. slice_get (pairs_between v.first n pairs) w.given) one.last
       ∙ ap (slice_get (pairs_between v.first v.last pairs)) given
 
@@ -178,8 +167,7 @@ module _ (p q : PassFace) (shot : Frozen) (v w : WalkFace) (looked : HasOnlyLook
   reached : (u : WalkFace) (now : Frozen) (x : Pair) → u ≡ w → now ≡ shot
       → ((found : List Pair) → ArePairsOf q now found → slice_get found u.next ≡ Some x)
       → slice_get pairs (these.start + w.given) ≡ Some x
-  reached u now x is same at =
-      ap (slice_get pairs) (sym (ap (λ v. v.next) is ∙ these.next_is))
+  reached u now x is same at = ap (slice_get pairs) (sym (ap (λ v. v.next) is ∙ these.next_is))
       ∙ at pairs (subst (λ s. ArePairsOf q s pairs) (sym same) (looked.pairs shot pairs before))
 
   -- if the pair is in the interval, it is the next one
@@ -201,8 +189,7 @@ module _ (p q : PassFace) (shot : Frozen) (v w : WalkFace) (looked : HasOnlyLook
   -- if all pairs were given, no pair comes next
   pub ends_with_all : (u : WalkFace) (now : Frozen) → u ≡ w → now ≡ shot → now.keys ≤ u.next
       → None ≡ slice_get (pairs_between v.first v.last pairs) v.given
-  ends_with_all u now is same all =
-      let long = before.number in
+  ends_with_all u now is same all = let long = before.number in
       let keys : now.keys ≡ shot.keys = ap (λ s. s.keys) same in
       let next : u.next ≡ these.start + w.given = ap (λ v. v.next) is ∙ these.next_is in
       sym (none_left pairs its_pairs.rising w.first w.last these.start w.given these.cut (omega arith))

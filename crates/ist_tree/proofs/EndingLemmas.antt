@@ -8,22 +8,19 @@ use Rattle.std.proofs.lemmas.Option.{slice_get_within}
 use Rattle.ist_core.specs.declared.calls.Call.{Call}
 use Rattle.ist_core.specs.declared.commands.Command.{Command}
 use Rattle.ist_core.specs.declared.commands.Command.TheVariants.{Get}
-use Rattle.ist_core.specs.Changes.{Entry, changes_of}
-use Rattle.ist_core.specs.Logs.{Log}
-use Rattle.ist_core.specs.Map.{key_of}
-use Rattle.ist_core.specs.Standing.{IsFresh, entries_by, entry_by, is_change, makes_entry}
-use Rattle.ist_core.specs.StartLayout.{start}
-use Rattle.ist_core.proofs.ElementLemmas.{among_right}
+use Rattle.ist_core.specs.declared.events.Who.{Who}
+use Rattle.ist_core.specs.declared.events.Who.TheVariants.{Caller as CallerOf}
+use Rattle.ist_core.specs.TreeTerms.{Entry, changes_of, key_of, IsFresh, entries_by, entry_by, is_change, makes_entry}
+use Rattle.ist_core.specs.LogTerms.{Log}
+use Rattle.ist_core.specs.WordTerms.{start}
+use Rattle.ist_core.proofs.AllWordLemmas.{among_right}
 use Rattle.laws_histories.specs.Calls.{HasCalls, MadeNoEntry}
 use Rattle.laws_histories.specs.Loads.{log_at}
 use Rattle.laws_histories.proofs.CallLemmas.{add_reading}
-use Rattle.laws_histories.proofs.ChangeLemmas.{changes_on}
-use Rattle.laws_histories.proofs.LoadOnLemmas.{at_prefix}
+use Rattle.laws_histories.proofs.ChangeLemmas.{changes_on, at_prefix}
+use Rattle.ist_rule.specs.RuleTerms.{CanEnd}
 use Rattle.ist_rule.specs.declared.view.Pending.{Pending}
 use Rattle.ist_rule.specs.declared.view.View.{View}
-use Rattle.ist_core.specs.declared.events.Who.{Who}
-use Rattle.ist_core.specs.declared.events.Who.TheVariants.{Caller as CallerOf}
-use Rattle.ist_rule.specs.Conditions.{CanEnd}
 use Rattle.ist_tree.proofs.PositionLemmas.{command_in, first_from, first_is, first_place, position_of}
 use Rattle.ist_rows.proofs.CallerGoingLemmas.{base_same}
 
@@ -41,8 +38,7 @@ owned_at entries _ i = false
 
 -- the position of the call, from the changes of the log that was seen when it began
 abbrev pub place_of : View → Log → Command → Option ℕ → ℕ
-place_of v seen command reply =
-    if makes_entry command reply then
+place_of v seen command reply = if makes_entry command reply then
     first_from (owned_at (changes_of v.start v.words v.log) v.who)
     (length (changes_of v.start v.words seen)) (length (changes_of v.start v.words v.log) + 1)
     else position_of v.start v.words seen v.log (key_of command) reply
@@ -50,14 +46,12 @@ place_of v seen command reply =
 -- the call
 abbrev pub ending_in : View → Option Pending → Option ℕ → Call
 ending_in v None reply = record { command = Get 0; reply = reply; position = 0; stamp = 0 }
-ending_in v (Some pending) reply =
-    let command = command_in pending.command in
-    record {
-      command = command;
-      reply = reply;
-      position = place_of v (log_at v.log pending.length) command reply;
-      stamp = v.stamp + 1;
-    }
+ending_in v (Some pending) reply = let command = command_in pending.command in record {
+  command = command;
+  reply = reply;
+  position = place_of v (log_at v.log pending.length) command reply;
+  stamp = v.stamp + 1;
+}
 
 -- the call with which the view ends its pending command
 abbrev pub ended_call : View → Option ℕ → Call
@@ -123,8 +117,7 @@ one_owned_after number (x ∷ old) more few (suc i) (suc j) a b e f =
 -- ---- the call may end
 
 one_change : (call : Call) → is_change call ≡ true → length (filter is_change (call ∷ [])) ≡ 1
-one_change call e =
-    ap (λ b. length (if b then call ∷ [] else [])) e
+one_change call e = ap (λ b. length (if b then call ∷ [] else [])) e
 
 module _ (v : View) (call : Call) (c : CanEnd v call)
     (had : HasCalls v.start v.words c.seen c.number v.stamp v.calls) where
@@ -149,14 +142,12 @@ module _ (v : View) (call : Call) (c : CanEnd v call)
       let parts = ap (λ es. length (entries_by c.number es)) on.1
       ∙ ap length (filter-append (λ (x : Entry). x.owner == c.number) old on.0)
       ∙ length-append (entries_by c.number old) (entries_by c.number on.0) in
-      let one = one_change call e in
-      omega arith
+      let one = one_change call e in omega arith
 
   -- so that entry is the one that is found
   found_entry : is_change call ≡ true
       → first_from (owned_at entries v.who) (length old) (length entries + 1) ≡ call.position
-  found_entry e =
-      let at = c.stand.made call (among_right call v.calls (call ∷ []) (inl refl)) e in
+  found_entry e = let at = c.stand.made call (among_right call v.calls (call ∷ []) (inl refl)) e in
       let here = ap (is_owned c.number) at ∙ base_same c.number in
       let high = slice_get_within entries call.position (entry_by c.number call) at in
       let low = c.fresh.position in
@@ -214,18 +205,15 @@ module _ (v : View) (call : Call) (c : CanEnd v call)
     where
       no_change_more : is_change call ≡ false
           → filter is_change v.calls ++ filter is_change (call ∷ []) ≡ filter is_change v.calls
-      no_change_more f =
-          ap (λ b. filter is_change v.calls ++ (if b then call ∷ [] else [])) f
+      no_change_more f = ap (λ b. filter is_change v.calls ++ (if b then call ∷ [] else [])) f
           ∙ append-nil (filter is_change v.calls)
 
   -- so the call that is picked may end
   pub can_end_so : CanEnd v (ended_call v call.reply)
-  can_end_so =
-      subst (λ x. CanEnd v x) (sym picked) (by_kind (is_change call) refl)
+  can_end_so = subst (λ x. CanEnd v x) (sym picked) (by_kind (is_change call) refl)
     where
       picked : ended_call v call.reply ≡ moved (place_of v c.seen call.command call.reply)
-      picked =
-          ap (λ p. ending_in v p call.reply) c.in_call
+      picked = ap (λ p. ending_in v p call.reply) c.in_call
           ∙ ap (λ (o : Option Command). record {
             command = command_in o;
             reply = call.reply;
@@ -253,13 +241,11 @@ module _ (v : View) (call : Call) (c : CanEnd v call)
 
       by_kind : (b : Bool) → is_change call ≡ b
           → CanEnd v (moved (place_of v c.seen call.command call.reply))
-      by_kind true e =
-          subst (λ p. CanEnd v (moved p))
+      by_kind true e = subst (λ p. CanEnd v (moved p))
           (sym (ap (λ b. if b then first_from (owned_at entries v.who) (length old)
           (length entries + 1) else position_of v.start v.words c.seen v.log (key_of call.command)
           call.reply) e ∙ found_entry e)) c
-      by_kind false e =
-          subst (λ p. CanEnd v (moved p))
+      by_kind false e = subst (λ p. CanEnd v (moved p))
           (sym (ap (λ b. if b then first_from (owned_at entries v.who) (length old)
           (length entries + 1) else position_of v.start v.words c.seen v.log (key_of call.command)
           call.reply) e)) (moved_reading e)

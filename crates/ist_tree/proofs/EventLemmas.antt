@@ -3,14 +3,14 @@
 use Rattle.std.proofs.Common.{◌≡◌, ◌≢◌, ℕ, inl, inr, arith}
 use Rattle.ist_core.specs.declared.events.Event.{Event}
 use Rattle.ist_core.specs.declared.events.Event.TheVariants.{Count, Decide, Enter, Install, Okay, Resolve}
-use Rattle.ist_core.specs.Rebuilding.{IsUpdate}
-use Rattle.ist_core.specs.Statuses.{start_kind, finish_kind}
+use Rattle.ist_core.specs.TreeTerms.{IsUpdate}
+use Rattle.ist_core.specs.WordTerms.{start_kind, finish_kind}
 use Rattle.ist_dcss.specs.Helping as dcss
-use Rattle.ist_rows.specs.CallerLaws.{KeepsRows, InstallsNone}
+use Rattle.ist_rows.specs.RowTerms.{KeepsRows, InstallsNone}
 use Rattle.laws_calls.specs.Settling.{InstallsNoStart, CountsNothing}
 use Rattle.ist_rebuild.specs.Going.{Begins, ServesRebuild, StartsAt}
 use Rattle.ist_updates.specs.Asking.{Updates}
-use Rattle.ist_tree.specs.Working.{Rebuilds, Works}
+use Rattle.ist_tree.specs.CallTerms.{Rebuilds, Works}
 
 -- ---- steps of rebuilding
 
@@ -30,8 +30,7 @@ finish_no_start kind is e = omega arith
 
 -- a step of starting is one of rebuilding
 pub begins_rebuild : (event : Event) → Begins event → Rebuilds event
-begins_rebuild (Install caller base rows) p =
-    λ change is. start_no_update change.kind (p change is)
+begins_rebuild (Install caller base rows) p = λ change is. start_no_update change.kind (p change is)
 begins_rebuild (Enter caller) p = p
 begins_rebuild (Count caller node) p = p
 begins_rebuild _ p = tt
@@ -85,14 +84,12 @@ serves_start_none number (Install caller base rows) p =
 serves_start_none number _ p = tt
 
 -- an update starts no rebuild
-pub updates_start_none : (number : ℕ) (event : Event) → Updates event
-    → InstallsNoStart number event
+pub updates_start_none : (number : ℕ) (event : Event) → Updates event → InstallsNoStart number event
 updates_start_none number (Install caller base rows) p = λ mine change is. p change is
 updates_start_none number _ p = tt
 
 -- rebuilding counts nothing
-pub rebuilds_count_none : (number : ℕ) (event : Event) → Rebuilds event
-    → CountsNothing number event
+pub rebuilds_count_none : (number : ℕ) (event : Event) → Rebuilds event → CountsNothing number event
 rebuilds_count_none number (Count caller node) p other counts = p
 rebuilds_count_none number _ p other counts = counts
 

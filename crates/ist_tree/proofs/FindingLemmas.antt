@@ -4,35 +4,27 @@ use Rattle.std.proofs.Common.{◌≡◌, ℕ, ◌+◌, ◌≤◌, Option, Some, 
 use Rattle.ist_core.specs.declared.calls.Call.{Call}
 use Rattle.ist_core.specs.declared.commands.Command.TheVariants.{Get}
 use Rattle.ist_core.specs.declared.pairs.Pair.{Pair}
-use Rattle.ist_core.specs.Map.{map_of}
-use Rattle.ist_core.specs.Logs.{Log, GoesOn, same_log}
-use Rattle.ist_core.specs.Changes.{changes_of}
-use Rattle.ist_core.specs.Lawful.{Lawful}
-use Rattle.ist_core.specs.Standing.{IsRead, IsFresh}
-use Rattle.ist_core.specs.StartLayout.{start}
+use Rattle.ist_core.specs.declared.events.Who.TheVariants.{Caller as CallerOf}
+use Rattle.ist_core.specs.TreeTerms.{map_of, changes_of, IsRead, IsFresh}
+use Rattle.ist_core.specs.LogTerms.{Log, GoesOn, same_log, Lawful, Later}
+use Rattle.ist_core.specs.WordTerms.{start}
 use Rattle.laws_histories.specs.Calls.{HasCalls}
 use Rattle.laws_histories.specs.Searching.{HasPosition}
 use Rattle.laws_histories.proofs.CallLemmas.{add_reading}
-use Rattle.laws_histories.proofs.ChangeLemmas.{changes_on}
-use Rattle.laws_histories.proofs.LoadOnLemmas.{at_prefix}
+use Rattle.laws_histories.proofs.ChangeLemmas.{changes_on, at_prefix}
 use Rattle.laws_real_time.specs.Moments.{Moments}
+use Rattle.ist_rule.specs.RuleTerms.{IsSound, CanEnd}
 use Rattle.ist_rule.specs.declared.view.View.{View}
 use Rattle.ist_rule.specs.declared.view.Loads.{Loads}
-use Rattle.ist_core.specs.declared.events.Who.TheVariants.{Caller as CallerOf}
-use Rattle.ist_core.specs.Authors.{Later}
-use Rattle.ist_rule.specs.Rule.{IsSound}
-use Rattle.ist_rule.specs.Conditions.{CanEnd}
 use Rattle.ist_rule.proofs.LaterLemmas.{later-goes_on, later_more}
-use Rattle.ist_tree.proofs.IdleCallerLemmas.{between_after, no_entry_after, has_its_calls}
+use Rattle.ist_tree.proofs.GoingLemmas.{between_after, no_entry_after, has_its_calls}
 use Rattle.ist_tree.proofs.PositionLemmas.{position_of, IsPlace, first_place, found_call}
 
 -- a longer log has no fewer changes
 pub changes_rise : (pairs : List Pair) (words : ℕ) (earlier log : Log) → GoesOn earlier log
     → length (changes_of pairs words earlier) ≤ length (changes_of pairs words log)
-changes_rise pairs words earlier log g =
-    let on = changes_on (start pairs words) earlier log g in
-    let same = ap length on.1 in
-    omega (arith, length-append (changes_of pairs words earlier) on.0)
+changes_rise pairs words earlier log g = let on = changes_on (start pairs words) earlier log g in
+    let same = ap length on.1 in omega (arith, length-append (changes_of pairs words earlier) on.0)
 
 -- a view that began to get the key when it had seen the earlier log, and then searched
 abbrev pub searched_view : View → ℕ → Log → Log → Loads → ℕ → ℕ → Moments → View
@@ -48,13 +40,12 @@ searched_view v key earlier log loads loaded searches moments =
 
 -- the call that its caller then makes, if it has found this value
 abbrev pub get_call : View → ℕ → Log → Log → Option ℕ → Call
-get_call v key earlier log value =
-    record {
-      command = Get key;
-      reply = value;
-      position = position_of v.start v.words earlier log key value;
-      stamp = v.stamp + 1;
-    }
+get_call v key earlier log value = record {
+  command = Get key;
+  reply = value;
+  position = position_of v.start v.words earlier log key value;
+  stamp = v.stamp + 1;
+}
 
 -- a caller that began to get the key when it had seen the earlier log, and then searched
 module _ (v : View) (number key : ℕ) (s : IsSound v) (mine : v.who ≡ CallerOf number)
@@ -74,10 +65,8 @@ module _ (v : View) (number key : ℕ) (s : IsSound v) (mine : v.who ≡ CallerO
   -- it is fresh for all that the caller had seen before
   pub its_fresh : (seen : Log) → GoesOn seen earlier
       → IsFresh v.start v.words seen v.stamp (get_call v key earlier log value)
-  its_fresh seen g =
-      let rise = changes_rise v.start v.words seen earlier g in
-      let from = its_place.from in
-      record { position = omega arith; later = omega arith }
+  its_fresh seen g = let rise = changes_rise v.start v.words seen earlier g in
+      let from = its_place.from in record { position = omega arith; later = omega arith }
 
   -- and is added to its calls
   pub its_calls : HasCalls v.start v.words log number (v.stamp + 1) (v.calls ++ (get_call v key earlier log value) ∷ [])

@@ -4,43 +4,30 @@ use Rattle.std.specs.List.{sum_by}
 use Rattle.ist_core.specs.declared.calls.Call.{Call}
 use Rattle.ist_core.specs.declared.commands.Command.TheVariants.{Get}
 use Rattle.ist_core.specs.declared.ports.Full.{Full}
-use Rattle.ist_core.specs.Logs.{Log, GoesOn}
-use Rattle.ist_core.specs.Lawful.{Lawful, state_of}
-use Rattle.ist_core.specs.Standing.{IsFresh}
-use Rattle.ist_core.proofs.FateLemmas.{grow_between}
+use Rattle.ist_core.specs.declared.events.Who.{Who}
+use Rattle.ist_core.specs.declared.events.Who.TheVariants.{Caller as CallerOf}
+use Rattle.ist_core.specs.LogTerms.{Log, GoesOn, Lawful, state_of, Later}
+use Rattle.ist_core.specs.TreeTerms.{IsFresh}
+use Rattle.ist_core.proofs.AllLogLemmas.{grow_between}
 use Rattle.laws_calls.specs.Walking.{IsChainOf}
 use Rattle.laws_histories.specs.Calls.{HasCalls}
 use Rattle.laws_histories.specs.Searching.{HasPosition, Searched}
-use Rattle.laws_histories.proofs.LoadOnLemmas.{end_on}
-use Rattle.laws_histories.proofs.PositionOnLemmas.{position_on}
+use Rattle.laws_histories.proofs.ChangeLemmas.{end_on, position_on}
 use Rattle.laws_histories.proofs.WovenLemmas.{learnt_first}
+use Rattle.ist_rule.specs.RuleTerms.{TokenFace, IsSound, number_of, MomentsLater, moment_seen, TurnedAt, beginning, ending, CanEnd}
 use Rattle.ist_rule.specs.declared.view.View.{View}
 use Rattle.ist_rule.specs.declared.view.Loads.{Loads}
-use Rattle.ist_core.specs.declared.events.Who.{Who}
-use Rattle.ist_core.specs.declared.events.Who.TheVariants.{Caller as CallerOf}
-use Rattle.ist_core.specs.Authors.{Later}
-use Rattle.ist_rule.specs.Faces.{TokenFace}
-use Rattle.ist_rule.specs.Rule.{IsSound}
 use Rattle.laws_real_time.specs.declared.moments.Deed.TheVariants.{Begins, Returns}
 use Rattle.laws_real_time.specs.Moments.{Moments}
-use Rattle.ist_rule.specs.Speaking.{number_of, MomentsLater}
-use Rattle.ist_tree.specs.RealTime.{ReturnsInTime}
-use Rattle.ist_rule.specs.Learning.{moment_seen, TurnedAt, beginning, ending}
-use Rattle.ist_rule.specs.Conditions.{CanEnd}
+use Rattle.ist_tree.specs.CallTerms.{ReturnsInTime, PassFace, HasStartedNone, HasSeenMore, AddsCall, row_loads, HasLoadedFew, face_as, pass_face, IsPass, IsPassWith}
 use Rattle.ist_rule.proofs.LaterLemmas.{goes_on_length, later-goes_on, later_more}
 use Rattle.ist_rows.specs.declared.callers.Caller.{Caller}
 use Rattle.ist_find.specs.Searches.{HasSearched, HasFound, HasFewLoads}
-use Rattle.ist_tree.specs.Faces.{PassFace}
-use Rattle.ist_tree.specs.Freezing.{HasStartedNone}
-use Rattle.ist_tree.specs.Calls.{HasSeenMore, AddsCall, row_loads, HasLoadedFew}
-use Rattle.ist_tree.specs.Insides.{face_as, pass_face, IsPass, IsPassWith}
 use Rattle.ist_rule.proofs.SpeakLemmas.{go_on_more}
 use Rattle.ist_tree.proofs.HeardLemmas.{heard_same, heard_turned, runs_at_once}
-use Rattle.ist_tree.proofs.IdleCallerLemmas.{between_calls, has_its_calls}
-use Rattle.ist_tree.proofs.GoingLemmas.{IsLaterView, lawful_after, pass_with_later}
+use Rattle.ist_tree.proofs.GoingLemmas.{between_calls, has_its_calls, IsLaterView, lawful_after, pass_with_later, starts_none_later}
 use Rattle.ist_tree.proofs.LoadingLemmas.{chain_on, costs_rise}
 use Rattle.ist_tree.proofs.PositionLemmas.{found_call}
-use Rattle.ist_tree.proofs.StartLemmas.{starts_none_later}
 use Rattle.ist_tree.proofs.FindingLemmas.{searched_view, get_call, its_fresh, may_end, found_is}
 
 -- what a find results in, for a pass with this face
@@ -103,28 +90,24 @@ module _ (who : Caller) (key : ℕ) (value : Option ℕ) (b w : View) (s : IsSou
 
   -- the key had the value at a position of the find
   pub its_position : HasPosition v.start v.words b.log w.log key value
-  its_position =
-      subst (λ (y : View). HasPosition y.start y.words b.log w.log key value) w_is has
+  its_position = subst (λ (y : View). HasPosition y.start y.words b.log w.log key value) w_is has
 
   abbrev call : Call
   call = get_call v key b.log w.log value
 
   call_is : found_call w value ≡ call
-  call_is =
-      ap (λ (y : View). found_call y value) w_is
+  call_is = ap (λ (y : View). found_call y value) w_is
       ∙ found_is v who.number key s p.caller.mine p.in_none b.log w.log before later lawful value
       its_position w.loads w.loaded w.searches seen_moments
 
   -- it may end its call
   pub can_end : CanEnd w (found_call w value)
-  can_end =
-      subst (λ y. CanEnd y (found_call y value)) (sym w_is)
+  can_end = subst (λ y. CanEnd y (found_call y value)) (sym w_is)
       (may_end v who.number key s p.caller.mine p.in_none b.log w.log before later lawful value
       its_position w.loads w.loaded w.searches seen_moments)
 
   fresh : IsFresh v.start v.words v.log v.stamp call
-  fresh =
-      its_fresh v who.number key s p.caller.mine p.in_none b.log w.log before later lawful value
+  fresh = its_fresh v who.number key s p.caller.mine p.in_none b.log w.log before later lawful value
       its_position v.log (later-goes_on before)
 
   -- and ended it
@@ -136,26 +119,22 @@ module _ (who : Caller) (key : ℕ) (value : Option ℕ) (b w : View) (s : IsSou
 
     x_is : x ≡ ended_view v w.log x.log call w.loads (w.loaded + 1) w.searches
         (moment_seen v x.log (Returns call) ∷ ended.before)
-    x_is =
-        ended.view
-        ∙ ap₂ (λ (y : View) (c : Call). ending y c x.log ended.before) w_is call_is
+    x_is = ended.view ∙ ap₂ (λ (y : View) (c : Call). ending y c x.log ended.before) w_is call_is
 
     all_later : Later (CallerOf who.number) v.log x.log
-    all_later =
-        later_more (later_more before later)
+    all_later = later_more (later_more before later)
         (subst (λ (a : Who). Later a w.log x.log)
         (ap (λ (y : View). y.who) w_is ∙ p.caller.mine) ended.later)
 
     -- the view after the find is a later one
     pub later_view : IsLaterView v x
-    later_view =
-        record {
-          who_is = ap (λ (y : View). y.who) x_is;
-          start_is = ap (λ (y : View). y.start) x_is;
-          words_is = ap (λ (y : View). y.words) x_is;
-          later = subst (λ a. Later a v.log x.log) (sym p.caller.mine) all_later;
-          sound = ended.sound;
-        }
+    later_view = record {
+      who_is = ap (λ (y : View). y.who) x_is;
+      start_is = ap (λ (y : View). y.start) x_is;
+      words_is = ap (λ (y : View). y.words) x_is;
+      later = subst (λ a. Later a v.log x.log) (sym p.caller.mine) all_later;
+      sound = ended.sound;
+    }
 
     -- it is a pass still
     pub ended_pass : IsPassWith (record who { token = token }) refused
@@ -164,40 +143,38 @@ module _ (who : Caller) (key : ℕ) (value : Option ℕ) (b w : View) (s : IsSou
 
     -- its call was made in real time
     pub in_time : ReturnsInTime (pass_face who refused) (face_as token who.number refused) (Get key) value
-    in_time =
-        record {
-          before = begun.before;
-          since = subst (λ a. MomentsLater a v.moments begun.before) p.caller.mine begun.since;
-          began = moment_seen v b.log (Begins (Some (Get key)));
-          began_by = ap number_of p.caller.mine;
-          begins = refl;
-          meanwhile = ended.before;
-          during = subst (λ (y : View). MomentsLater (CallerOf who.number) y.moments ended.before) w_is
-              (subst (λ a. MomentsLater a w.moments ended.before)
-              (ap (λ (y : View). y.who) w_is ∙ p.caller.mine) ended.since);
-          returned = moment_seen v x.log (Returns call);
-          returned_by = ap number_of p.caller.mine;
-          call = call;
-          returns = refl;
-          command_is = refl;
-          reply_is = refl;
-          now_is = ap (λ (y : View). y.moments) x_is;
-        }
+    in_time = record {
+      before = begun.before;
+      since = subst (λ a. MomentsLater a v.moments begun.before) p.caller.mine begun.since;
+      began = moment_seen v b.log (Begins (Some (Get key)));
+      began_by = ap number_of p.caller.mine;
+      begins = refl;
+      meanwhile = ended.before;
+      during = subst (λ (y : View). MomentsLater (CallerOf who.number) y.moments ended.before) w_is
+          (subst (λ a. MomentsLater a w.moments ended.before)
+          (ap (λ (y : View). y.who) w_is ∙ p.caller.mine) ended.since);
+      returned = moment_seen v x.log (Returns call);
+      returned_by = ap number_of p.caller.mine;
+      call = call;
+      returns = refl;
+      command_is = refl;
+      reply_is = refl;
+      now_is = ap (λ (y : View). y.moments) x_is;
+    }
 
     -- which has seen more
     pub has_seen_more : HasSeenMore (pass_face who refused) (face_as token who.number refused)
-    has_seen_more =
-        record {
-          tree = tree_same;
-          number = refl;
-          seen = later-goes_on all_later;
-          heard = go_on_more v.moments b.moments x.moments
-              (heard_turned begun _ (ap (λ (y : View). y.moments) begun.view))
-              (go_on_more b.moments w.moments x.moments
-              (heard_same (ap (λ (y : View). y.moments) seen.same))
-              (heard_turned ended _ (ap (λ (y : View). y.moments) ended.view)));
-          stamp = let up = ap (λ (y : View). y.stamp) x_is in omega arith;
-        }
+    has_seen_more = record {
+      tree = tree_same;
+      number = refl;
+      seen = later-goes_on all_later;
+      heard = go_on_more v.moments b.moments x.moments
+          (heard_turned begun _ (ap (λ (y : View). y.moments) begun.view))
+          (go_on_more b.moments w.moments x.moments
+          (heard_same (ap (λ (y : View). y.moments) seen.same))
+          (heard_turned ended _ (ap (λ (y : View). y.moments) ended.view)));
+      stamp = let up = ap (λ (y : View). y.stamp) x_is in omega arith;
+    }
       where
         tree_same : (face_as token who.number refused).tree ≡ (pass_face who refused).tree
         tree_same =
@@ -211,26 +188,24 @@ module _ (who : Caller) (key : ℕ) (value : Option ℕ) (b w : View) (s : IsSou
 
     -- and has one more call
     pub adds_call : AddsCall (pass_face who refused) (face_as token who.number refused) (Get key) value
-    adds_call =
-        record {
-          call = call;
-          command_is = refl;
-          reply_is = refl;
-          stamp_is = sym (ap (λ (y : View). y.stamp) x_is);
-          calls_are = ap (λ (y : View). y.calls) x_is;
-          timed = runs_at_once (pass_face who refused) (face_as token who.number refused) (Get key) value
-              (s.well_made.moments.spoken who.number p.caller.mine).calls_are in_time;
-          added = record { has_calls = its_calls_now; fresh = fresh };
-          learnt = λ other l h. learnt_first v.start v.words other.seen v.log other.number other.stamp
-              v.stamp other.calls call
-              (subst (λ t. HasCalls t.start t.words other.seen other.number other.stamp other.calls)
-              l.tree h) l.seen l.stamp fresh;
-        }
+    adds_call = record {
+      call = call;
+      command_is = refl;
+      reply_is = refl;
+      stamp_is = sym (ap (λ (y : View). y.stamp) x_is);
+      calls_are = ap (λ (y : View). y.calls) x_is;
+      timed = runs_at_once (pass_face who refused) (face_as token who.number refused) (Get key) value
+          (s.well_made.moments.spoken who.number p.caller.mine).calls_are in_time;
+      added = record { has_calls = its_calls_now; fresh = fresh };
+      learnt = λ other l h. learnt_first v.start v.words other.seen v.log other.number other.stamp
+          v.stamp other.calls call
+          (subst (λ t. HasCalls t.start t.words other.seen other.number other.stamp other.calls)
+          l.tree h) l.seen l.stamp fresh;
+    }
 
     -- the reply is the map's at a position that is no lower than what the pass had seen
     pub has_position : HasPosition v.start v.words v.log x.log key value
-    has_position =
-        position_on v.start v.words v.log b.log w.log x.log (later-goes_on before)
+    has_position = position_on v.start v.words v.log b.log w.log x.log (later-goes_on before)
         (later-goes_on (subst (λ (a : Who). Later a w.log x.log)
         (ap (λ (y : View). y.who) w_is ∙ p.caller.mine) ended.later)) key value its_position
 
@@ -242,8 +217,7 @@ module _ (who : Caller) (key : ℕ) (value : Option ℕ) (b w : View) (s : IsSou
     -- and few loads were made
     pub has_loaded_few : (node index : ℕ) → HasFound w key node index value → HasFewLoads b w key node
         → HasLoadedFew (pass_face who refused) (face_as token who.number refused) key value
-    has_loaded_few node index found few =
-        let now_lawful = lawful_after v x later_view in
+    has_loaded_few node index found few = let now_lawful = lawful_after v x later_view in
         let searched = subst (λ (y : View). Searched y.start y.words w.log key w.loads.since node value)
         w_is found.searched in
         let chain = subst (λ (y : View). IsChainOf y.start y.words w.log node few.rows) w_is few.chain
@@ -253,10 +227,8 @@ module _ (who : Caller) (key : ℕ) (value : Option ℕ) (b w : View) (s : IsSou
         let rise = costs_rise (state_of v.start v.words w.log) (state_of v.start v.words x.log)
         (grow_between v.start v.words w.log x.log now_lawful.enabled longer) key few.rows in
         let first = ap (λ (y : View). y.loaded) begun.view in
-        let early = goes_on_length (later-goes_on before) in
-        let late = seen.since in
-        let more = seen.searches in
-        let none = ap (λ (y : View). y.searches) begun.view in
+        let early = goes_on_length (later-goes_on before) in let late = seen.since in
+        let more = seen.searches in let none = ap (λ (y : View). y.searches) begun.view in
         subst (λ (y : View). HasLoadedFew (pass_face who refused)
         (face_as record { view = y } who.number refused) key value) (sym x_is)
         record {

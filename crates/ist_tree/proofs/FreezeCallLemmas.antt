@@ -3,38 +3,25 @@
 use Rattle.std.proofs.Common.{◌≡◌, ℕ, List, length, Option, None, sym, ap, ap₂, ◌∙◌, subst, arith}
 use Rattle.ist_core.specs.declared.pairs.Pair.{Pair}
 use Rattle.ist_core.specs.declared.ports.Full.{Full}
-use Rattle.ist_core.specs.Deciding.{AllResolvedOf}
-use Rattle.ist_core.specs.Lawful.{Lawful, state_of}
-use Rattle.ist_core.specs.Logs.{GoesOn, Log}
-use Rattle.ist_core.specs.StartLayout.{start}
+use Rattle.ist_core.specs.TreeTerms.{AllResolvedOf}
+use Rattle.ist_core.specs.LogTerms.{Lawful, state_of, GoesOn, Log, Later}
+use Rattle.ist_core.specs.WordTerms.{start}
+use Rattle.ist_rule.specs.RuleTerms.{CanGiveUp, IsResolved, TokenFace, TurnedAt, beginning, giving_up, moment_seen, IsSound, HasMade, IsBetween, MomentsGoOn, number_of}
 use Rattle.ist_rule.specs.declared.view.View.{View}
-use Rattle.ist_core.specs.Authors.{Later}
-use Rattle.ist_rule.specs.Conditions.{CanGiveUp, IsResolved}
-use Rattle.ist_rule.specs.Faces.{TokenFace}
-use Rattle.ist_rule.specs.Learning.{TurnedAt, beginning, giving_up, moment_seen}
-use Rattle.ist_rule.specs.Rule.{IsSound}
-use Rattle.ist_rule.specs.Standings.{HasMade, IsBetween}
 use Rattle.ist_rule.proofs.LaterLemmas.{goes_on_more, later-goes_on}
 use Rattle.ist_rule.proofs.WentOnLemmas.{later_by-goes_on}
+use Rattle.ist_rows.specs.RowTerms.{IsReady, StaysReady}
 use Rattle.ist_rows.specs.declared.callers.Caller.{Caller}
 use Rattle.laws_calls.specs.Settling.{DueRowsAreClosed}
-use Rattle.ist_tree.specs.Calls.{HasSeenMore}
-use Rattle.ist_tree.specs.Insides.{HasSettled, IsPass, IsPassWith, face_as, pass_face}
-use Rattle.ist_tree.specs.Working.{KeepsDone, Rebuilds}
-use Rattle.ist_rows.specs.Going.{IsReady, StaysReady}
-use Rattle.ist_tree.proofs.IdleCallerLemmas.{between_after}
+use Rattle.ist_tree.specs.CallTerms.{HasSeenMore, HasSettled, IsPass, IsPassWith, face_as, pass_face, KeepsDone, Rebuilds, StepsIn}
+use Rattle.ist_tree.proofs.GoingLemmas.{between_after, IsLaterView, caller_on, lawful_after, settled_later, keeps_all}
 use Rattle.ist_tree.proofs.UpdateKeptLemmas.{rebuilt_no_entry}
 use Rattle.ist_tree.proofs.EventLemmas.{rebuilds_count_none}
-use Rattle.ist_tree.proofs.GoingLemmas.{IsLaterView, caller_on, lawful_after}
 use Rattle.laws_real_time.specs.declared.moments.Deed.TheVariants.{Begins}
 use Rattle.laws_real_time.specs.Moments.{Moments}
-use Rattle.ist_rule.specs.Speaking.{MomentsGoOn, number_of}
 use Rattle.ist_rule.proofs.SpeakLemmas.{go_on_more, later_goes_on}
-use Rattle.ist_tree.specs.RealTime.{StepsIn}
 use Rattle.ist_tree.proofs.HeardLemmas.{heard_same, heard_turned}
-use Rattle.ist_tree.proofs.RebuildLemmas.{due_went}
-use Rattle.ist_tree.proofs.SettlingLemmas.{settled_later}
-use Rattle.ist_tree.proofs.StartLemmas.{keeps_all}
+use Rattle.ist_tree.proofs.FurtherLemmas.{due_went}
 
 -- ---- the beginning
 
@@ -45,37 +32,33 @@ beginning_as v n = beginning (record v { searches = n }) None
 module _ (who : Caller) (token : TokenFace) (s : IsSound who.token.view) (p : IsPass who)
     (n : ℕ) (begun : TurnedAt who.token.view (beginning_as who.token.view n) token.view) where
   begun_view : IsLaterView who.token.view token.view
-  begun_view =
-      record {
-        who_is = ap (λ (y : View). y.who) begun.view;
-        start_is = ap (λ (y : View). y.start) begun.view;
-        words_is = ap (λ (y : View). y.words) begun.view;
-        later = begun.later;
-        sound = begun.sound;
-      }
+  begun_view = record {
+    who_is = ap (λ (y : View). y.who) begun.view;
+    start_is = ap (λ (y : View). y.start) begun.view;
+    words_is = ap (λ (y : View). y.words) begun.view;
+    later = begun.later;
+    sound = begun.sound;
+  }
 
   begun_between : IsBetween who.token.view.start who.token.view.words token.view.log who.number
       who.token.view.calls
-  begun_between =
-      between_after who.token.view who.number s p.caller.mine p.in_none token.view.log
+  begun_between = between_after who.token.view who.number s p.caller.mine p.in_none token.view.log
       (lawful_after who.token.view token.view begun_view)
       (subst (λ x. Later x who.token.view.log token.view.log) p.caller.mine begun.later)
 
   -- the caller has all its changes resolved
   pub begun_ready : IsReady (record who { token = token })
-  begun_ready =
-      let it = caller_on who token p.caller p.refused begun_view in
-      record {
-        caller = it.caller;
-        refused = it.refused;
-        quiet = record {
-          pending = record { command = None; length = length token.view.log };
-          in_call = ap (λ (y : View). y.pending) begun.view;
-          resolved =
-              subst (λ (y : View). AllResolvedOf (state_of y.start y.words token.view.log) token.view.log
-              who.number) (sym begun.view) begun_between.resolved;
-        };
-      }
+  begun_ready = let it = caller_on who token p.caller p.refused begun_view in record {
+    caller = it.caller;
+    refused = it.refused;
+    quiet = record {
+      pending = record { command = None; length = length token.view.log };
+      in_call = ap (λ (y : View). y.pending) begun.view;
+      resolved =
+          subst (λ (y : View). AllResolvedOf (state_of y.start y.words token.view.log) token.view.log
+          who.number) (sym begun.view) begun_between.resolved;
+    };
+  }
 
   -- and its entries are its calls' entries
   pub begun_made : HasMade token.view.start token.view.words token.view.log who.number token.view.calls
@@ -102,10 +85,8 @@ pub may_give_up : (who began new : Caller) → IsSound who.token.view → IsPass
     → began.number ≡ who.number → (n : ℕ)
     → TurnedAt who.token.view (beginning_as who.token.view n) began.token.view → IsReady began
     → StaysReady Rebuilds began new → CanGiveUp new.token.view
-may_give_up who began new s p number n begun ready on =
-    let b = began.token.view in
-    let w = new.token.view in
-    let mine_b = ready.caller.mine in
+may_give_up who began new s p number n begun ready on = let b = began.token.view in
+    let w = new.token.view in let mine_b = ready.caller.mine in
     let none = rebuilt_no_entry b w began.number mine_b ready.quiet.resolved on.gone.went in
     let made = subst (λ n. HasMade b.start b.words b.log n b.calls) (sym number)
     (begun_made who began.token s p n begun) in
@@ -115,8 +96,7 @@ may_give_up who began new s p number n begun ready on =
       pending = on.quiet.pending;
       in_call = on.quiet.in_call;
       resolved = on.quiet.resolved;
-      none =
-          subst (λ n. HasMade w.start w.words w.log n w.calls) (sym on.gone.number)
+      none = subst (λ n. HasMade w.start w.words w.log n w.calls) (sym on.gone.number)
           (subst (λ (y : View). HasMade y.start y.words w.log began.number y.calls)
           (sym on.gone.went.same) (none ∙ made));
     }
@@ -144,14 +124,13 @@ module _ (who began new : Caller) (token : TokenFace) (it : IsFreezeCall who beg
 
   -- the last view is later than the view after the work
   pub x_view : IsLaterView w x
-  x_view =
-      record {
-        who_is = ap (λ (y : View). y.who) it.given.view;
-        start_is = ap (λ (y : View). y.start) it.given.view;
-        words_is = ap (λ (y : View). y.words) it.given.view;
-        later = it.given.later;
-        sound = it.given.sound;
-      }
+  x_view = record {
+    who_is = ap (λ (y : View). y.who) it.given.view;
+    start_is = ap (λ (y : View). y.start) it.given.view;
+    words_is = ap (λ (y : View). y.words) it.given.view;
+    later = it.given.later;
+    sound = it.given.sound;
+  }
 
   -- the start pairs are the same after the work
   pub w_start : w.start ≡ v.start
@@ -211,19 +190,16 @@ module _ (who began new : Caller) (token : TokenFace) (it : IsFreezeCall who beg
 
   -- the caller is a pass again
   pub ended_pass : IsPass (record new { token = token })
-  ended_pass =
-      let c = caller_on new token it.on.gone.caller it.on.gone.refused x_view in
-      record {
-        caller = c.caller;
-        refused = c.refused;
-        in_none = ap (λ (y : View). y.pending) it.given.view;
-      }
+  ended_pass = let c = caller_on new token it.on.gone.caller it.on.gone.refused x_view in record {
+    caller = c.caller;
+    refused = c.refused;
+    in_none = ap (λ (y : View). y.pending) it.given.view;
+  }
 
   -- if its starts are done, all that was settled is still settled
   settled_w : KeepsDone began new → HasSettled v.start v.words v.log who.number
       → HasSettled w.start w.words w.log new.number
-  settled_w done h =
-      let mine_v = it.pass.caller.mine in
+  settled_w done h = let mine_v = it.pass.caller.mine in
       let first = settled_later v.start v.words v.log b.log (lawful_after v b b_view) who.number
       (subst (λ y. Later y v.log b.log) mine_v it.begun.later) h in
       let at_b : HasSettled b.start b.words b.log began.number =
@@ -234,8 +210,7 @@ module _ (who began new : Caller) (token : TokenFace) (it : IsFreezeCall who beg
       record {
         resolved = subst (IsResolved w) it.on.gone.number it.on.quiet.resolved;
         starts = keeps_all began new done at_b.starts;
-        due =
-            subst (λ (y : View). DueRowsAreClosed (start y.start y.words) w.log began.number)
+        due = subst (λ (y : View). DueRowsAreClosed (start y.start y.words) w.log began.number)
             (sym it.on.gone.went.same)
             (due_went Rebuilds began.number b w it.ready.caller.mine it.on.gone.went
             (rebuilds_count_none began.number) at_b.due);
@@ -244,16 +219,15 @@ module _ (who began new : Caller) (token : TokenFace) (it : IsFreezeCall who beg
   -- the caller is a pass again, and all of its own is settled if no rebuild was refused
   pub ended_pass_with : (r q : Option Full) → IsPassWith who r → (q ≡ None → r ≡ None)
       → (q ≡ None → KeepsDone began new) → IsPassWith (record new { token = token }) q
-  ended_pass_with r q all old done =
-      record {
-        pass = ended_pass;
-        settled = λ unrefused.
-            subst (λ pairs. HasSettled pairs x.words x.log new.number) (sym x_view.start_is)
-            (subst (λ words. HasSettled w.start words x.log new.number) (sym x_view.words_is)
-            (settled_later w.start w.words w.log x.log (lawful_after w x x_view) new.number
-            (subst (λ y. Later y w.log x.log) it.on.gone.caller.mine it.given.later)
-            (settled_w (done unrefused) (all.settled (old unrefused)))));
-      }
+  ended_pass_with r q all old done = record {
+    pass = ended_pass;
+    settled = λ unrefused.
+        subst (λ pairs. HasSettled pairs x.words x.log new.number) (sym x_view.start_is)
+        (subst (λ words. HasSettled w.start words x.log new.number) (sym x_view.words_is)
+        (settled_later w.start w.words w.log x.log (lawful_after w x x_view) new.number
+        (subst (λ y. Later y w.log x.log) it.on.gone.caller.mine it.given.later)
+        (settled_w (done unrefused) (all.settled (old unrefused)))));
+  }
 
   -- it has seen more
   pub has_seen_more : (r q : Option Full)
@@ -275,26 +249,24 @@ module _ (who began new : Caller) (token : TokenFace) (it : IsFreezeCall who beg
       }
     where
       trees : (face_as token new.number q).tree ≡ (pass_face who r).tree
-      trees =
-          ap₂ (λ t pairs. record { table = t; start = pairs; words = x.words }) x_table x_start
+      trees = ap₂ (λ t pairs. record { table = t; start = pairs; words = x.words }) x_table x_start
           ∙ ap (λ words. record { table = v.table; start = v.start; words = words }) x_words
 
   -- since the step at which its call began
   pub begin_step : (r q : Option Full) → StepsIn (pass_face who r) (face_as token new.number q) b.log
-  begin_step r q =
-      record {
-        before = it.begun.before;
-        since = later_goes_on it.begun.since;
-        step = moment_seen v b.log (Begins None);
-        step_by = ap number_of it.pass.caller.mine;
-        heard = subst (λ ms. MomentsGoOn ms x.moments) (ap (λ (y : View). y.moments) it.begun.view)
-            (go_on_more b.moments w.moments x.moments
-            (heard_same (ap (λ (y : View). y.moments) it.on.gone.went.same))
-            (heard_turned it.given _ (ap (λ (y : View). y.moments) it.given.view)));
-        seen = v_to_b;
-        until = goes_on_more b_to_w w_to_x;
-        placed = it.begun.placed;
-      }
+  begin_step r q = record {
+    before = it.begun.before;
+    since = later_goes_on it.begun.since;
+    step = moment_seen v b.log (Begins None);
+    step_by = ap number_of it.pass.caller.mine;
+    heard = subst (λ ms. MomentsGoOn ms x.moments) (ap (λ (y : View). y.moments) it.begun.view)
+        (go_on_more b.moments w.moments x.moments
+        (heard_same (ap (λ (y : View). y.moments) it.on.gone.went.same))
+        (heard_turned it.given _ (ap (λ (y : View). y.moments) it.given.view)));
+    seen = v_to_b;
+    until = goes_on_more b_to_w w_to_x;
+    placed = it.begun.placed;
+  }
 
   -- with the same calls
   pub calls_are : x.calls ≡ v.calls

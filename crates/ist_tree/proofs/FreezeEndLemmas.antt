@@ -2,47 +2,31 @@
 use Rattle.std.proofs.Common.{◌≡◌, ℕ, ◌+◌, ◌≤◌, ◌⊎◌, length, Option, Some, None, IfSome, sym, ap, subst, inl, inr, arith}
 use Rattle.std.specs.Option.{option_or}
 use Rattle.ist_core.specs.declared.ports.Full.{Full}
-use Rattle.ist_core.specs.Authors.{Later}
-use Rattle.ist_core.specs.Changes.{changes_of}
-use Rattle.ist_core.specs.Lawful.{state_of}
-use Rattle.ist_core.specs.Growing.{AllGrow}
-use Rattle.ist_core.specs.Links.{IsChild}
-use Rattle.ist_core.specs.Logs.{Log, same_log}
-use Rattle.ist_core.specs.Marking.{HasTarget}
-use Rattle.ist_core.specs.Rebuilding.{IsFinishedWith, IsStarted}
-use Rattle.ist_core.specs.RowLayout.{anchor, change_words, rebuild_words}
-use Rattle.ist_core.specs.Snapshots.{Snapshot}
-use Rattle.ist_core.proofs.FateLemmas.{grow_between}
+use Rattle.ist_core.specs.LogTerms.{Later, state_of, Log, same_log, Snapshot}
+use Rattle.ist_core.specs.TreeTerms.{changes_of, AllGrow, IsChild, HasTarget, IsFinishedWith, IsStarted}
+use Rattle.ist_core.specs.WordTerms.{anchor, change_words, rebuild_words}
+use Rattle.ist_core.proofs.AllLogLemmas.{grow_between}
 use Rattle.laws_links.proofs.FinishedLemmas.{target_grows}
 use Rattle.laws_links.proofs.FormLemmas.{started_grows}
 use Rattle.laws_calls.specs.Finishing.{puts_in}
 use Rattle.laws_calls.proofs.NumberLemmas.{finished_few}
-use Rattle.ist_rows.specs.Shortage.{LeavesTooFew}
+use Rattle.ist_rows.specs.RowTerms.{LeavesTooFew, taken_by}
+use Rattle.ist_rows.specs.declared.callers.Caller.{Caller}
 use Rattle.ist_rebuild.specs.Helping.{IsAskedFor, for_change, for_node}
 use Rattle.ist_rebuild.specs.Lacking.{LacksNow}
 use Rattle.ist_rebuild.specs.Starting.{StartsDoneSince, StartsNone}
 use Rattle.ist_rebuild.specs.Needs.{TakesNeeded, needed}
-use Rattle.ist_rows.specs.Taken.{taken_by}
 use Rattle.ist_rebuild.proofs.NeedLemmas.{needed_most}
-use Rattle.ist_rows.proofs.TakenLemmas.{taken_later}
+use Rattle.ist_rows.proofs.FewStepLemmas.{taken_later}
+use Rattle.ist_rule.specs.RuleTerms.{TokenFace, now}
 use Rattle.ist_rule.specs.declared.view.View.{View}
-use Rattle.ist_rule.specs.Faces.{TokenFace}
-use Rattle.ist_rule.specs.Learning.{now}
 use Rattle.ist_rule.proofs.LaterLemmas.{goes_on_more}
-use Rattle.ist_rows.specs.declared.callers.Caller.{Caller}
-use Rattle.ist_tree.specs.declared.freezing.Frozen.{Frozen}
-use Rattle.ist_tree.specs.FreezeSteps.{IsForNeeded, IsTopShort}
-use Rattle.ist_tree.specs.Freezing.{HasFrozen, HeldInnerRow, IsFreezeRefused, IsFrozenIn, IsFrozenFor, WasFrozen}
-use Rattle.ist_tree.specs.Insides.{face_as, pass_face}
-use Rattle.ist_tree.specs.Working.{KeepsDone}
-use Rattle.ist_tree.specs.Refusals.{HadTooFew, IsForRebuild, IsTopRefused, KeepsRefusal, LackedAt}
-use Rattle.ist_tree.proofs.AskedLemmas.{asked_grows, asked_same, held_on, lacked_then, puts_rise}
+use Rattle.ist_tree.specs.CallTerms.{Frozen, IsForNeeded, IsTopShort, HasFrozen, HeldInnerRow, IsFreezeRefused, IsFrozenIn, IsFrozenFor, WasFrozen, face_as, pass_face, KeepsDone, HadTooFew, IsForRebuild, IsTopRefused, KeepsRefusal, LackedAt}
+use Rattle.ist_tree.proofs.ShortLemmas.{asked_grows, asked_same, held_on, lacked_then, puts_rise, left_same}
 use Rattle.ist_tree.proofs.FreezingLemmas.{was_frozen_on}
 use Rattle.ist_tree.proofs.FreezeCallLemmas.{IsFreezeCall}
 use Rattle.ist_tree.proofs.FreezeCallLemmas as way
-use Rattle.ist_tree.proofs.IdleCallerLemmas.{between_calls}
-use Rattle.ist_tree.proofs.ShortLemmas.{left_same}
-use Rattle.ist_tree.proofs.StartLemmas.{since_later, since_none, starts_none_later, starts_none_more}
+use Rattle.ist_tree.proofs.GoingLemmas.{between_calls, since_later, since_none, starts_none_later, starts_none_more}
 
 module _ (who began new : Caller) (token : TokenFace) (it : IsFreezeCall who began new token) where
   -- the view before the call
@@ -67,17 +51,15 @@ module _ (who began new : Caller) (token : TokenFace) (it : IsFreezeCall who beg
   pub has_frozen : (r q : Option Full) (frozen : Frozen)
       → WasFrozen b.start b.words b.log w.log frozen
       → HasFrozen (pass_face who r) (face_as token new.number q) frozen
-  has_frozen r q frozen was =
-      let l = way.b_view who began new token it in
-      record {
-        at = b.log;
-        step = way.begin_step who began new token it r q;
-        was =
-            was_frozen_on v.start v.words b.log b.log w.log x.log (way.lawful_x who began new token it)
-            same_log (way.w_to_x who began new token it) frozen
-            (subst (λ pairs. WasFrozen pairs v.words b.log w.log frozen) l.start_is
-            (subst (λ words. WasFrozen b.start words b.log w.log frozen) l.words_is was));
-      }
+  has_frozen r q frozen was = let l = way.b_view who began new token it in record {
+    at = b.log;
+    step = way.begin_step who began new token it r q;
+    was =
+        was_frozen_on v.start v.words b.log b.log w.log x.log (way.lawful_x who began new token it)
+        same_log (way.w_to_x who began new token it) frozen
+        (subst (λ pairs. WasFrozen pairs v.words b.log w.log frozen) l.start_is
+        (subst (λ words. WasFrozen b.start words b.log w.log frozen) l.words_is was));
+  }
 
   -- the tree is frozen by the table that the pass has then
   pub frozen_for : (q : Option Full) (frozen : Frozen) → IsFrozenIn v.start v.words x.log frozen
@@ -93,13 +75,12 @@ module _ (who began new : Caller) (token : TokenFace) (it : IsFreezeCall who beg
       (full : Full) → words ≡ v.words → LeavesTooFew A w.start words w.log full
       → (A full.asked → B w.log full.asked)
       → HadTooFew B (pass_face who r) (face_as token new.number q) full
-  had_too_few r q words full same s to =
-      record {
-        at = w.log;
-        since = goes_on_more (way.v_to_b who began new token it) (way.b_to_w who began new token it);
-        until = (way.w_to_x who began new token it);
-        left = left_same full (way.w_start who began new token it) same s to;
-      }
+  had_too_few r q words full same s to = record {
+    at = w.log;
+    since = goes_on_more (way.v_to_b who began new token it) (way.b_to_w who began new token it);
+    until = (way.w_to_x who began new token it);
+    left = left_same full (way.w_start who began new token it) same s to;
+  }
 
   -- the call took at most the rows of a start
   took_needed : (asked : ℕ) → TakesNeeded began new → asked ≤ needed new
@@ -113,16 +94,14 @@ module _ (who began new : Caller) (token : TokenFace) (it : IsFreezeCall who beg
       = subst (λ n. taken_by n x.log ≡ taken_by n w.log) (way.number_is who began new token it)
       (taken_later new.number
       (subst (λ y. Later y w.log x.log) it.on.gone.caller.mine it.given.later)) in
-      let most = needed_most began in
-      omega arith
+      let most = needed_most began in omega arith
 
   -- a start that was refused in the work was refused in the call
   pub freeze_refused : (r q : Option Full) (words : ℕ) (full : Full) → words ≡ v.words
       → LeavesTooFew (IsForNeeded new) w.start words w.log full → TakesNeeded began new
       → HeldInnerRow b.start b.words b.log w.log
       → IsFreezeRefused (pass_face who r) (face_as token new.number q) full
-  freeze_refused r q words full same s few held =
-      let l = way.b_view who began new token it in
+  freeze_refused r q words full same s few held = let l = way.b_view who began new token it in
       record {
         had = had_too_few r q words full same s (λ for. record {
           start = for.start;
@@ -139,8 +118,7 @@ module _ (who began new : Caller) (token : TokenFace) (it : IsFreezeCall who beg
   -- if it started no rebuild, none was started in the call
   pub has_started_none : StartsNone (now b) (now w) began.number
       → StartsNone (now v) (now x) who.number
-  has_started_none none =
-      starts_none_more (now v) (now b) (now x) who.number
+  has_started_none none = starts_none_more (now v) (now b) (now x) who.number
       (starts_none_later v b (way.b_view who began new token it) who.number it.pass.caller.mine
       (between_calls v who.number it.sound it.pass.caller.mine it.pass.in_none).resolved)
       (starts_none_more (now b) (now w) (now x) who.number
@@ -151,8 +129,7 @@ module _ (who began new : Caller) (token : TokenFace) (it : IsFreezeCall who beg
 
   -- each rebuild that it started in the call is done, if the work kept its starts done
   pub started_since : KeepsDone began new → StartsDoneSince (now v) (now x) new.number
-  started_since keeps =
-      let l = way.x_view who began new token it in
+  started_since keeps = let l = way.x_view who began new token it in
       let at_b = since_none (now v) (now b) who.number
       (starts_none_later v b (way.b_view who began new token it) who.number it.pass.caller.mine
       (between_calls v who.number it.sound it.pass.caller.mine it.pass.in_none).resolved) in
@@ -172,13 +149,10 @@ module _ (who began new : Caller) (token : TokenFace) (it : IsFreezeCall who beg
       let most = finished_few v.start v.words l.opens w.log l.enabled row.target k here.row
       here.published here.status in
       let rise = puts_rise v.start v.words w.log x.log (way.w_to_x who began new token it) in
-      let some = node.some in
-      let le = node.most in
-      inr record {
+      let some = node.some in let le = node.most in inr record {
         some = some;
         least = node.least;
-        most =
-            subst (λ words. some ≤ length x.start + puts_in (changes_of x.start words x.log))
+        most = subst (λ words. some ≤ length x.start + puts_in (changes_of x.start words x.log))
             (sym (way.x_words who began new token it))
             (subst (λ pairs. some ≤ length pairs + puts_in (changes_of pairs v.words x.log))
             (sym (way.x_start who began new token it)) (omega arith));
@@ -199,50 +173,44 @@ module _ (who began new : Caller) (token : TokenFace) (it : IsFreezeCall who beg
 
   -- helping the rebuild of what was below the anchor was refused
   abbrev pub top_refused : (r q : Option Full) (words : ℕ) (full : Full) → words ≡ v.words
-      → IsTopShort b w words full
-      → IsTopRefused (pass_face who r) (face_as token new.number q) full
-  top_refused r q words full same d =
-      let l = way.b_view who began new token it in
-      record {
-        row = d.target;
-        at = d.top.at;
-        since = goes_on_more (way.v_to_b who began new token it) d.top.since;
-        until = goes_on_more d.top.until (way.w_to_x who began new token it);
-        child =
-            subst (λ pairs. IsChild (state_of pairs v.words d.top.at) anchor 0 d.target) l.start_is
-            (subst (λ words. IsChild (state_of b.start words d.top.at) anchor 0 d.target) l.words_is
-            d.top.child);
-        had = had_too_few r q words full same d.help (λ asked. record {
-          rebuild = d.rebuild;
-          started = in_last (λ t. IsStarted t d.rebuild)
-              (λ t u g. started_grows t u g d.rebuild) d.of.started;
-          target = in_last (λ t. HasTarget t d.rebuild d.target)
-              (λ t u g. target_grows t u g d.rebuild d.target) d.of.target_is;
-          size = asked_for_rebuild r q d.rebuild full.asked asked;
-          help = in_last (λ t. IsAskedFor (LackedAt (face_as token new.number q) w.log) t d.rebuild
-              full.asked)
-              (λ t u g. asked_grows (LackedAt (face_as token new.number q) w.log)
-              (LackedAt (face_as token new.number q) w.log) t u g d.rebuild full.asked
-              (λ lacked. lacked))
-              (asked_same (LacksNow w) (LackedAt (face_as token new.number q) w.log) (now w) d.rebuild
-              full.asked (lacked_then new token it.on.gone.caller (way.x_view who began new token it) q
-              full.asked) asked);
-        });
-      }
+      → IsTopShort b w words full → IsTopRefused (pass_face who r) (face_as token new.number q) full
+  top_refused r q words full same d = let l = way.b_view who began new token it in record {
+    row = d.target;
+    at = d.top.at;
+    since = goes_on_more (way.v_to_b who began new token it) d.top.since;
+    until = goes_on_more d.top.until (way.w_to_x who began new token it);
+    child = subst (λ pairs. IsChild (state_of pairs v.words d.top.at) anchor 0 d.target) l.start_is
+        (subst (λ words. IsChild (state_of b.start words d.top.at) anchor 0 d.target) l.words_is
+        d.top.child);
+    had = had_too_few r q words full same d.help (λ asked. record {
+      rebuild = d.rebuild;
+      started = in_last (λ t. IsStarted t d.rebuild)
+          (λ t u g. started_grows t u g d.rebuild) d.of.started;
+      target = in_last (λ t. HasTarget t d.rebuild d.target)
+          (λ t u g. target_grows t u g d.rebuild d.target) d.of.target_is;
+      size = asked_for_rebuild r q d.rebuild full.asked asked;
+      help = in_last (λ t. IsAskedFor (LackedAt (face_as token new.number q) w.log) t d.rebuild
+          full.asked)
+          (λ t u g. asked_grows (LackedAt (face_as token new.number q) w.log)
+          (LackedAt (face_as token new.number q) w.log) t u g d.rebuild full.asked
+          (λ lacked. lacked))
+          (asked_same (LacksNow w) (LackedAt (face_as token new.number q) w.log) (now w) d.rebuild
+          full.asked (lacked_then new token it.on.gone.caller (way.x_view who began new token it) q
+          full.asked) asked);
+    });
+  }
 
   -- the first refusal is kept
   pub keeps_refusal : (r met : Option Full) (words : ℕ) → words ≡ v.words
       → IfSome met (IsTopShort b w words)
       → KeepsRefusal (pass_face who r) (face_as token new.number (option_or r met))
-  keeps_refusal r met words same cause =
-      record {
-        stays = λ full e. ap (λ o. option_or o met) e;
-        cause = λ full e. from r met cause full e;
-      }
+  keeps_refusal r met words same cause = record {
+    stays = λ full e. ap (λ o. option_or o met) e;
+    cause = λ full e. from r met cause full e;
+  }
     where
       from : (o m : Option Full) → IfSome m (IsTopShort b w words) → (full : Full)
-          → option_or o m ≡ Some full
-          → (o ≡ Some full) ⊎ IsTopRefused (pass_face who r)
+          → option_or o m ≡ Some full → (o ≡ Some full) ⊎ IsTopRefused (pass_face who r)
           (face_as token new.number (option_or r met)) full
       from (Some first) m c full e = inl e
       from None (Some other) c full e =

@@ -2,16 +2,12 @@
 -- functions that freeze a tree.
 use Rattle.std.proofs.Common.{◌≡◌, ℕ, List, Option, Some, None, Result, Ok, Err, IfOk, IfErr, refl, sym, ap, ◌∙◌, subst, inr}
 use Rattle.ist_core.specs.declared.events.Event.{Event}
-use Rattle.ist_core.specs.Authors.{LaterBy}
 use Rattle.ist_core.specs.declared.pairs.Pair.{Pair}
 use Rattle.ist_core.specs.declared.ports.Full.{Full}
-use Rattle.ist_core.specs.Lawful.{Lawful, state_of}
-use Rattle.ist_core.specs.Links.{IsChild}
-use Rattle.ist_core.specs.Logs.{Log, same_log}
-use Rattle.ist_core.specs.Growing.{AllGrow}
-use Rattle.ist_core.specs.RowLayout.{anchor}
-use Rattle.ist_core.specs.Snapshots.{Snapshot}
-use Rattle.ist_core.proofs.GrowingLemmas.{rebuild_there}
+use Rattle.ist_core.specs.LogTerms.{LaterBy, Lawful, state_of, Log, same_log, Snapshot}
+use Rattle.ist_core.specs.TreeTerms.{IsChild, AllGrow}
+use Rattle.ist_core.specs.WordTerms.{anchor}
+use Rattle.ist_core.proofs.AllLogLemmas.{rebuild_there}
 use Rattle.laws_links.proofs.FinishedLemmas.{target_grows}
 use Rattle.laws_links.proofs.FormLemmas.{started_grows}
 use Rattle.ist_rebuild.specs.declared.answers.Started.{Started}
@@ -19,33 +15,23 @@ use Rattle.ist_rebuild.specs.declared.answers.Started.TheVariants.{Other}
 use Rattle.ist_rebuild.specs.Going.{Begins}
 use Rattle.ist_rebuild.specs.Lacking.{LacksKind}
 use Rattle.ist_rebuild.specs.Starting.{IsStartedAt, IsStartRefused, LeavesUninstalled, LeavesUnstarted, ReservesNeeded, StartsDoneBut, StartsDoneSince, StartsNone}
-use Rattle.ist_rebuild.proofs.LackLemmas.{lacks_now}
-use Rattle.ist_rebuild.proofs.NeedLemmas.{lacks_needed, takes_more, takes_none}
-use Rattle.ist_rows.proofs.TakenLemmas.{taken_keeps}
+use Rattle.ist_rebuild.proofs.NeedLemmas.{lacks_now, lacks_needed, takes_more, takes_none}
+use Rattle.ist_rows.proofs.FewStepLemmas.{taken_keeps}
+use Rattle.ist_rule.specs.RuleTerms.{WentOn, TokenFace, now, IsSound}
 use Rattle.ist_rule.specs.declared.view.View.{View}
-use Rattle.ist_rule.specs.Going.{WentOn}
-use Rattle.ist_rule.specs.Faces.{TokenFace}
-use Rattle.ist_rule.specs.Learning.{now}
-use Rattle.ist_rule.specs.Rule.{IsSound}
 use Rattle.ist_rule.proofs.LaterLemmas.{goes_on_more}
 use Rattle.ist_rule.proofs.WentOnLemmas.{later_by-goes_on, went_grow, went_lawful}
+use Rattle.ist_rows.specs.RowTerms.{IsReady, StaysReady}
 use Rattle.ist_rows.specs.declared.callers.Caller.{Caller}
 use Rattle.ist_rebuild.specs.Needs.{TakesNeeded}
 use Rattle.ist_tree.proofs.FewFreezeLemmas.{few_met}
-use Rattle.ist_tree.specs.declared.freezing.Frozen.{Frozen}
-use Rattle.ist_tree.specs.declared.freezing.Site.{Site}
-use Rattle.ist_tree.specs.declared.freezing.Site.TheVariants.{Rebuilt, Still}
-use Rattle.ist_tree.specs.Freezing.{HeldInnerRow, WasFrozen}
-use Rattle.ist_tree.specs.FreezeSteps.{GoesIdle, HasMet, IsBelowAnchor, IsRebuildOf, IsSite, KeepsDoneBut, MayHaveMet, WasTop, rebuild_in, IsFreezeStopped}
-use Rattle.ist_tree.specs.Working.{KeepsDone, Rebuilds}
-use Rattle.ist_rows.specs.Going.{IsReady, StaysReady}
-use Rattle.ist_tree.proofs.AskedLemmas.{held_on}
+use Rattle.ist_tree.specs.CallTerms.{Frozen, Site, Rebuilt, Still, HeldInnerRow, WasFrozen, GoesIdle, HasMet, IsBelowAnchor, IsRebuildOf, IsSite, KeepsDoneBut, MayHaveMet, WasTop, rebuild_in, IsFreezeStopped, KeepsDone, Rebuilds}
+use Rattle.ist_tree.proofs.ShortLemmas.{held_on, short_now}
 use Rattle.ist_tree.proofs.DueLemmas.{done_more}
 use Rattle.ist_tree.proofs.FreezingLemmas.{was_frozen_on}
 use Rattle.ist_tree.proofs.EventLemmas.{IsPlainHelp, none_starts_none}
-use Rattle.ist_tree.proofs.RebuildLemmas.{plain_done, plain_on}
-use Rattle.ist_tree.proofs.ShortLemmas.{short_now}
-use Rattle.ist_tree.proofs.StartLemmas.{starts_none_more, starts_none_went}
+use Rattle.ist_tree.proofs.FurtherLemmas.{plain_done, plain_on}
+use Rattle.ist_tree.proofs.GoingLemmas.{starts_none_more, starts_none_went}
 use Rattle.ist_rows.proofs.GoneLemmas.{ready_more, ready_same}
 
 -- ---- one table
@@ -53,8 +39,7 @@ use Rattle.ist_rows.proofs.GoneLemmas.{ready_more, ready_same}
 -- what is true by the table of a view that went on is true by the first view's table
 pub by_table : (P : Event → Type 0) (v w : View) → WentOn P v w → (Q : List Pair → ℕ → Type 0)
     → Q w.start w.words → Q v.start v.words
-by_table P v w g Q h =
-    subst (λ pairs. Q pairs v.words) (ap (λ (x : View). x.start) g.same)
+by_table P v w g Q h = subst (λ pairs. Q pairs v.words) (ap (λ (x : View). x.start) g.same)
     (subst (λ words. Q w.start words) (ap (λ (x : View). x.words) g.same) h)
 
 -- ---- what was met
@@ -62,14 +47,13 @@ by_table P v w g Q h =
 -- a row that was the anchor's child since the second view was its child since the first
 pub top_more : (P : Event → Type 0) (u v : View) (log : Log) → WentOn P u v → (target : ℕ)
     → WasTop v log target → WasTop u log target
-top_more P u v log g target t =
-    record {
-      at = t.at;
-      since = goes_on_more (later_by-goes_on g.later) t.since;
-      until = t.until;
-      child = by_table P u v g (λ pairs words. IsChild (state_of pairs words t.at) anchor 0 target)
-          t.child;
-    }
+top_more P u v log g target t = record {
+  at = t.at;
+  since = goes_on_more (later_by-goes_on g.later) t.since;
+  until = t.until;
+  child = by_table P u v g (λ pairs words. IsChild (state_of pairs words t.at) anchor 0 target)
+      t.child;
+}
 
 -- what was frozen since the second view was frozen since the first
 pub frozen_more : (P : Event → Type 0) (u v : View) (log : Log) → WentOn P u v → (frozen : Frozen)
@@ -83,58 +67,50 @@ frozen_more P u v log g frozen l w =
 pub but_more : (a b c : Caller) (o : Option ℕ) → b.number ≡ a.number → KeepsDone a b
     → KeepsDoneBut b c o → KeepsDoneBut a c o
 but_more a b c None number one two = done_more a b c number one two
-but_more a b c (Some rebuild) number one two =
-    λ first done.
+but_more a b c (Some rebuild) number one two = λ first done.
     subst (λ n. StartsDoneBut first (now c.token.view) n rebuild) number
     (two first (subst (StartsDoneSince first (now b.token.view)) (sym number) (one first done)))
 
 -- if all are done, all but one are
 pub all_but : (a c : Caller) (rebuild : ℕ) → KeepsDone a c → KeepsDoneBut a c (Some rebuild)
-all_but a c rebuild done =
-    λ first was base change e own kind said other to.
+all_but a c rebuild done = λ first was base change e own kind said other to.
     inr (done first was base change e own kind said other to)
 
 -- ---- going on without a start
 
 -- a caller goes on without a start to itself
 pub idle_same : (who : Caller) → IsSound who.token.view → IsReady who → GoesIdle who who
-idle_same who s r =
-    record {
-      on = ready_same Rebuilds who s r;
-      done = λ first done. done;
-      none = λ base change e own kind said. e;
-      few = takes_none who who refl refl;
-    }
+idle_same who s r = record {
+  on = ready_same Rebuilds who s r;
+  done = λ first done. done;
+  none = λ base change e own kind said. e;
+  few = takes_none who who refl refl;
+}
 
 -- two such parts, one after the other, are one
 pub idle_more : (a b c : Caller) → GoesIdle a b → GoesIdle b c → GoesIdle a c
-idle_more a b c one two =
-    record {
-      on = ready_more Rebuilds a b c one.on two.on;
-      done = done_more a b c one.on.gone.number one.done two.done;
-      none =
-          starts_none_more (now a.token.view) (now b.token.view) (now c.token.view) a.number one.none
-          (subst (StartsNone (now b.token.view) (now c.token.view)) one.on.gone.number two.none);
-      few = takes_more a b c one.on.gone.number one.few two.few;
-    }
+idle_more a b c one two = record {
+  on = ready_more Rebuilds a b c one.on two.on;
+  done = done_more a b c one.on.gone.number one.done two.done;
+  none = starts_none_more (now a.token.view) (now b.token.view) (now c.token.view) a.number one.none
+      (subst (StartsNone (now b.token.view) (now c.token.view)) one.on.gone.number two.none);
+  few = takes_more a b c one.on.gone.number one.few two.few;
+}
 
 -- steps that install nothing are such
 pub plain_idle : (P : Event → Type 0) → ((event : Event) → P event → IsPlainHelp event)
     → (who : Caller) (token : TokenFace) → IsReady who → WentOn P who.token.view token.view
     → GoesIdle who (record who { token = token })
-plain_idle P all who token r went =
-    record {
-      on = plain_on P all who token r went;
-      done = plain_done P all who token r went;
-      none =
-          starts_none_went P who.number
-          (λ event p. none_starts_none who.number event (all event p).installs) who.token.view
-          token.view r.caller.mine r.quiet.resolved went;
-      few =
-          takes_none who (record who { token = token })
-          (taken_keeps who.number (λ event p. (all event p).keeps)
-          (subst (λ x. LaterBy x P who.token.view.log token.view.log) r.caller.mine went.later)) refl;
-    }
+plain_idle P all who token r went = record {
+  on = plain_on P all who token r went;
+  done = plain_done P all who token r went;
+  none = starts_none_went P who.number
+      (λ event p. none_starts_none who.number event (all event p).installs) who.token.view
+      token.view r.caller.mine r.quiet.resolved went;
+  few = takes_none who (record who { token = token })
+      (taken_keeps who.number (λ event p. (all event p).keeps)
+      (subst (λ x. LaterBy x P who.token.view.log token.view.log) r.caller.mine went.later)) refl;
+}
 
 -- a start that only made reservings is idle
 pub begins_idle : (old new : Caller) → StaysReady Rebuilds old new → KeepsDone old new
@@ -152,22 +128,19 @@ other_unstarted v w number answer word is left =
 -- and it only made reservings
 pub other_reserved : (old new : Caller) (answer : Started) (word : ℕ) → answer ≡ Other word
     → LeavesUninstalled old new (Ok answer) → ReservesNeeded old new
-other_reserved old new answer word is left =
-    subst (λ a. LeavesUninstalled old new (Ok a)) is left
+other_reserved old new answer word is left = subst (λ a. LeavesUninstalled old new (Ok a)) is left
 
 -- ---- what was met, over further steps
 
 -- what is met after further steps is met from the beginning
 pub met_more : (a b c : Caller) (site : Site) → StaysReady Rebuilds a b → KeepsDone a b
-    → TakesNeeded a b → HasMet b c site
-    → HasMet a c site
-met_more a b c site on done few m =
-    record {
-      on = ready_more Rebuilds a b c on m.on;
-      is = here site m.is;
-      done = but_more a b c (rebuild_in site) on.gone.number done m.done;
-      few = few_met a b c on m.on few m.few;
-    }
+    → TakesNeeded a b → HasMet b c site → HasMet a c site
+met_more a b c site on done few m = record {
+  on = ready_more Rebuilds a b c on m.on;
+  is = here site m.is;
+  done = but_more a b c (rebuild_in site) on.gone.number done m.done;
+  few = few_met a b c on m.on few m.few;
+}
   where
     lawful : Lawful b.token.view.start b.token.view.words c.token.view.log
     lawful = went_lawful Rebuilds b.token.view c.token.view m.on.gone.went
@@ -192,33 +165,30 @@ may_have_met_more a b c None g m = idle_more a b c g m
 -- a start that is refused after idle steps is refused from the beginning
 pub stopped_more : (a b c : Caller) (words : ℕ) (full : Full) → GoesIdle a b
     → IsFreezeStopped b c words full → IsFreezeStopped a c words full
-stopped_more a b c words full g s =
-    record {
-      idle = idle_more a b c g s.idle;
-      left = s.left;
-      held = by_table Rebuilds a.token.view b.token.view g.on.gone.went
-          (λ pairs words. HeldInnerRow pairs words a.token.view.log c.token.view.log)
-          (held_on b.token.view.start b.token.view.words a.token.view.log b.token.view.log
-          c.token.view.log c.token.view.log (later_by-goes_on g.on.gone.went.later) same_log s.held);
-    }
+stopped_more a b c words full g s = record {
+  idle = idle_more a b c g s.idle;
+  left = s.left;
+  held = by_table Rebuilds a.token.view b.token.view g.on.gone.went
+      (λ pairs words. HeldInnerRow pairs words a.token.view.log c.token.view.log)
+      (held_on b.token.view.start b.token.view.words a.token.view.log b.token.view.log
+      c.token.view.log c.token.view.log (later_by-goes_on g.on.gone.went.later) same_log s.held);
+}
 
 -- a start was refused
 pub start_stopped : (old new : Caller) (words : ℕ) (full : Full) → GoesIdle old new
     → HeldInnerRow old.token.view.start old.token.view.words old.token.view.log old.token.view.log
     → IsStartRefused old.token.view words full new.token.view → LacksKind new full.asked
     → IsFreezeStopped old new words full
-start_stopped old new words full g held r lacks =
-    record {
-      idle = g;
-      left = short_now Begins old.token.view words full new.token.view r (λ start. record {
-        start = start;
-        lacks =
-            lacks_now new g.on.gone.went.sound g.on.gone.caller g.on.gone.refused full.asked lacks;
-        needs = lacks_needed new full.asked lacks start;
-      });
-      held = held_on old.token.view.start old.token.view.words old.token.view.log old.token.view.log
-          old.token.view.log new.token.view.log same_log (later_by-goes_on g.on.gone.went.later) held;
-    }
+start_stopped old new words full g held r lacks = record {
+  idle = g;
+  left = short_now Begins old.token.view words full new.token.view r (λ start. record {
+    start = start;
+    lacks = lacks_now new g.on.gone.went.sound g.on.gone.caller g.on.gone.refused full.asked lacks;
+    needs = lacks_needed new full.asked lacks start;
+  });
+  held = held_on old.token.view.start old.token.view.words old.token.view.log old.token.view.log
+      old.token.view.log new.token.view.log same_log (later_by-goes_on g.on.gone.went.later) held;
+}
 
 -- ---- a rebuild
 
@@ -232,23 +202,20 @@ below_grows t u grow rebuild b =
 -- a rebuild of this target stays one
 pub rebuild_on : (P : Event → Type 0) (v w : View) → WentOn P v w → (rebuild target : ℕ)
     → IsRebuildOf (now v) rebuild target → IsRebuildOf (now w) rebuild target
-rebuild_on P v w g rebuild target r =
-    let grow = went_grow P v w g in
-    record {
-      started = started_grows (now v) (now w) grow rebuild r.started;
-      target_is = target_grows (now v) (now w) grow rebuild target r.target_is;
-      below = below_grows (now v) (now w) grow rebuild r.below;
-    }
+rebuild_on P v w g rebuild target r = let grow = went_grow P v w g in record {
+  started = started_grows (now v) (now w) grow rebuild r.started;
+  target_is = target_grows (now v) (now w) grow rebuild target r.target_is;
+  below = below_grows (now v) (now w) grow rebuild r.below;
+}
 
 -- the one that was started
 pub begun_of : {t : Snapshot} {rebuild index target : ℕ}
     → IsStartedAt t rebuild anchor index target → IsRebuildOf t rebuild target
-begun_of s =
-    record {
-      started = s.started;
-      target_is = record { row = s.row; published = s.published; target_is = s.target_is };
-      below = record { row = s.row; published = s.published; parent_is = s.parent_is };
-    }
+begun_of s = record {
+  started = s.started;
+  target_is = record { row = s.row; published = s.published; target_is = s.target_is };
+  below = record { row = s.row; published = s.published; parent_is = s.parent_is };
+}
 
 -- ---- results
 

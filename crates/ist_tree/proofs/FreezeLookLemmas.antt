@@ -1,45 +1,28 @@
 -- What is below the anchor, by the word in its slot. Serves `look` and what it calls.
 use Rattle.std.proofs.Common.{◌≡◌, ◌≢◌, ℕ, Some, refl, sym, ap, ◌∙◌, subst, inr, arith}
-use Rattle.ist_rows.specs.Taken.{took_few}
+use Rattle.ist_rows.specs.RowTerms.{took_few, IsReady}
+use Rattle.ist_rows.specs.declared.callers.Caller.{Caller}
 use Rattle.ist_core.specs.declared.states.RebuildRow.{RebuildRow}
-use Rattle.ist_core.specs.Links.{Linked, at_anchor}
-use Rattle.ist_core.specs.Logs.{same_log}
-use Rattle.ist_core.specs.Marking.{HasTarget}
-use Rattle.ist_core.specs.Rebuilding.{IsStarted}
-use Rattle.ist_core.specs.References.{ChangeAt, Empty, InnerAt, LeafAt, RebuildAt, Ref, ref_of}
-use Rattle.ist_core.specs.RowLayout.{anchor}
-use Rattle.ist_core.specs.Slots.{SlotHolds, in_anchor, in_row, logical, past_change, past_rebuild, rebuild_reads}
-use Rattle.ist_core.specs.StartLayout.{start}
-use Rattle.ist_core.proofs.GrowingLemmas.{rebuild_there}
-use Rattle.ist_core.proofs.NamingLemmas.{SlotNames, slot_names}
-use Rattle.ist_core.proofs.OrderLemmas.{names}
-use Rattle.ist_core.proofs.PlaceLemmas.{anchor_free}
-use Rattle.ist_core.proofs.ReferenceLemmas.{word_of-ref_of}
-use Rattle.ist_core.proofs.SlotLemmas.{no_row}
-use Rattle.ist_core.proofs.OptionLemmas.{same_rebuild}
-use Rattle.ist_core.proofs.PrefixLemmas.{ever_now}
+use Rattle.ist_core.specs.TreeTerms.{Linked, at_anchor, HasTarget, IsStarted}
+use Rattle.ist_core.specs.LogTerms.{same_log}
+use Rattle.ist_core.specs.WordTerms.{ChangeAt, Empty, InnerAt, LeafAt, RebuildAt, Ref, ref_of, anchor, SlotHolds, in_anchor, in_row, logical, past_change, past_rebuild, rebuild_reads, start}
+use Rattle.ist_core.proofs.AllLogLemmas.{rebuild_there, ever_now}
+use Rattle.ist_core.proofs.AllPlaceLemmas.{SlotNames, slot_names, names, anchor_free, no_row}
+use Rattle.ist_core.proofs.AllWordLemmas.{word_of-ref_of, same_rebuild}
 use Rattle.ist_find.specs.Searches.{SeesChange}
 use Rattle.ist_layout.specs.Meanings.{ref_meant}
 use Rattle.laws_links.proofs.FormLemmas.{started_grows}
 use Rattle.ist_rebuild.specs.Starting.{MayStart}
-use Rattle.ist_dcss.proofs.TargetLemmas.{started_rebuild}
+use Rattle.ist_dcss.proofs.FieldLemmas.{started_rebuild}
 use Rattle.laws_calls.proofs.ReadLemmas.{read_started}
+use Rattle.ist_rule.specs.RuleTerms.{TokenFace, WentOn, GoesOnTo, now, IsSound}
 use Rattle.ist_rule.specs.declared.view.View.{View}
-use Rattle.ist_rule.specs.Faces.{TokenFace}
-use Rattle.ist_rule.specs.Going.{WentOn}
-use Rattle.ist_rule.specs.Learning.{GoesOnTo, now}
-use Rattle.ist_rule.specs.Rule.{IsSound}
 use Rattle.ist_rule.proofs.LaterLemmas.{goes_on_more, later-goes_on}
 use Rattle.ist_rule.proofs.WentOnLemmas.{goes_on_grow, goes_on_went, later_by-goes_on}
-use Rattle.ist_rows.specs.declared.callers.Caller.{Caller}
-use Rattle.ist_tree.specs.declared.freezing.Frozen.{Frozen}
-use Rattle.ist_tree.specs.declared.freezing.Site.TheVariants.{Rebuilt, Still}
-use Rattle.ist_tree.specs.Freezing.{HeldInnerRow, IsStill, WasFrozen, all_keys, no_key, one_key}
-use Rattle.ist_tree.specs.FreezeSteps.{GoesIdle, HasStarted, HasMet, HasNoRow, IsBelowAnchor, WasTop}
-use Rattle.ist_rows.specs.Going.{IsReady}
+use Rattle.ist_tree.specs.CallTerms.{Frozen, Rebuilt, Still, HeldInnerRow, IsStill, WasFrozen, all_keys, no_key, one_key, GoesIdle, HasStarted, HasMet, HasNoRow, IsBelowAnchor, WasTop}
 use Rattle.ist_tree.proofs.FreezeGoingLemmas.{all_but, below_grows, frozen_more, plain_idle}
 use Rattle.ist_tree.proofs.FreezingLemmas.{top_was_frozen}
-use Rattle.ist_tree.proofs.RebuildLemmas.{load_plain, plain_done, plain_on}
+use Rattle.ist_tree.proofs.FurtherLemmas.{load_plain, plain_done, plain_on}
 
 module _ (v : View) (s : IsSound v) (word : ℕ) (holds : SlotHolds (now v) anchor 0 word) where
   -- the word is in the anchor's slot
@@ -55,13 +38,12 @@ module _ (v : View) (s : IsSound v) (word : ℕ) (holds : SlotHolds (now v) anch
   -- a row that it reads as is the anchor's child
   child_top : (target : ℕ) → logical (now v).pieces word ≡ Some (InnerAt target)
       → WasTop v v.log target
-  child_top target reads =
-      record {
-        at = v.log;
-        since = same_log;
-        until = same_log;
-        child = record { word = word; holds = holds; reads = reads };
-      }
+  child_top target reads = record {
+    at = v.log;
+    since = same_log;
+    until = same_log;
+    child = record { word = word; holds = holds; reads = reads };
+  }
 
   -- ---- an inner row
 
@@ -90,15 +72,14 @@ module _ (v : View) (s : IsSound v) (word : ℕ) (holds : SlotHolds (now v) anch
   -- so the anchor's slot holds an inner row
   pub row_held : (target : ℕ) → ref_of word ≡ Some (InnerAt target)
       → HeldInnerRow v.start v.words v.log v.log
-  row_held target is =
-      record {
-        at = v.log;
-        since = same_log;
-        until = same_log;
-        row = target;
-        holds = subst (SlotHolds (now v) anchor 0)
-            (sym (word_of-ref_of word (InnerAt target) is).same_word) holds;
-      }
+  row_held target is = record {
+    at = v.log;
+    since = same_log;
+    until = same_log;
+    row = target;
+    holds = subst (SlotHolds (now v) anchor 0)
+        (sym (word_of-ref_of word (InnerAt target) is).same_word) holds;
+  }
 
   -- ---- a rebuild
 
@@ -121,8 +102,7 @@ module _ (v : View) (s : IsSound v) (word : ℕ) (holds : SlotHolds (now v) anch
   -- the target of a rebuild that the word names was the anchor's child
   pub rebuild_top : (rebuild : ℕ) → ref_of word ≡ Some (RebuildAt rebuild) → (target : ℕ)
       → HasTarget (now v) rebuild target → WasTop v v.log target
-  rebuild_top rebuild is target h =
-      child_top target
+  rebuild_top rebuild is target h = child_top target
       (ap (λ o. past_rebuild (now v).pieces (past_change (now v).pieces o)) is
       ∙ ap rebuild_reads h.published ∙ ap (λ n. Some (InnerAt n)) h.target_is)
 
@@ -140,22 +120,18 @@ module _ (v : View) (s : IsSound v) (word : ℕ) (holds : SlotHolds (now v) anch
 
   still_reads : (ref : Ref) (keys : ℕ) → IsStill (now v) ref keys → ref_of word ≡ Some ref
       → logical (now v).pieces (now v).anchor ≡ Some ref
-  still_reads _ _ no_key is =
-      ap (logical (now v).pieces) anchor_is
+  still_reads _ _ no_key is = ap (logical (now v).pieces) anchor_is
       ∙ ap (λ o. past_rebuild (now v).pieces (past_change (now v).pieces o)) is
-  still_reads _ _ (one_key base row e) is =
-      ap (logical (now v).pieces) anchor_is
+  still_reads _ _ (one_key base row e) is = ap (logical (now v).pieces) anchor_is
       ∙ ap (λ o. past_rebuild (now v).pieces (past_change (now v).pieces o)) is
-  still_reads _ _ (all_keys base keys f) is =
-      ap (logical (now v).pieces) anchor_is
+  still_reads _ _ (all_keys base keys f) is = ap (logical (now v).pieces) anchor_is
       ∙ ap (λ o. past_rebuild (now v).pieces (past_change (now v).pieces o)) is
 
   -- a tree that the word names is frozen now if no step changes it
   pub still_top : (frozen : Frozen) → ref_of word ≡ Some (ref_meant frozen.root)
       → IsStill (now v) (ref_meant frozen.root) frozen.keys
       → WasFrozen v.start v.words v.log v.log frozen
-  still_top frozen is still =
-      top_was_frozen v.start v.words v.log s.lawful frozen
+  still_top frozen is still = top_was_frozen v.start v.words v.log s.lawful frozen
       (still_reads (ref_meant frozen.root) frozen.keys still is) still
 
   -- a leaf that the word names is a frozen tree with one key
@@ -180,17 +156,16 @@ module _ (who : Caller) (token : TokenFace) (ready : IsReady who)
   pub looked_still : (frozen : Frozen)
       → WasFrozen token.view.start token.view.words token.view.log token.view.log frozen
       → HasNoRow frozen → HasMet who (record who { token = token }) (Still frozen)
-  looked_still frozen was none =
-      record {
-        on = looked_idle.on;
-        is = (
-          frozen_more (λ event. ⊥) who.token.view token.view token.view.log went frozen
-              seen.sound.lawful was,
-          none,
-        );
-        done = looked_idle.done;
-        few = let few = looked_idle.few in took_few (omega arith);
-      }
+  looked_still frozen was none = record {
+    on = looked_idle.on;
+    is = (
+      frozen_more (λ event. ⊥) who.token.view token.view token.view.log went frozen
+          seen.sound.lawful was,
+      none,
+    );
+    done = looked_idle.done;
+    few = let few = looked_idle.few in took_few (omega arith);
+  }
 
 -- a leaf is no inner row
 pub leaf_no_row : (base row : ℕ) → LeafAt base ≢ InnerAt row
@@ -206,21 +181,20 @@ empty_no_row row e = cc
 pub begun_met : (old new : Caller) (target rebuild : ℕ)
     → WasTop old.token.view old.token.view.log target → HasStarted old new target (Some rebuild)
     → HasMet old new (Rebuilt rebuild target)
-begun_met old new target rebuild top b =
+begun_met old new target rebuild top b = record {
+  on = b.0;
+  is = (
+    b.1,
     record {
-      on = b.0;
-      is = (
-        b.1,
-        record {
-          at = top.at;
-          since = top.since;
-          until = goes_on_more top.until (later_by-goes_on b.0.gone.went.later);
-          child = top.child;
-        },
-      );
-      done = b.2;
-      few = b.3;
-    }
+      at = top.at;
+      since = top.since;
+      until = goes_on_more top.until (later_by-goes_on b.0.gone.went.later);
+      child = top.child;
+    },
+  );
+  done = b.2;
+  few = b.3;
+}
 
 -- one that stood there
 pub stood_met : (who : Caller) (token : TokenFace) (rebuild target : ℕ) → IsSound who.token.view
@@ -229,12 +203,9 @@ pub stood_met : (who : Caller) (token : TokenFace) (rebuild target : ℕ) → Is
     → ((n : ℕ) → HasTarget (now who.token.view) rebuild n
     → WasTop who.token.view who.token.view.log n)
     → HasMet who (record who { token = token }) (Rebuilt rebuild target)
-stood_met who token rebuild target s ready seen started h below top =
-    let v = who.token.view in
-    let w = token.view in
-    let went = goes_on_went (λ event. ⊥) v w seen in
-    let grow = goes_on_grow v w seen in
-    let row = started_rebuild v s rebuild started in
+stood_met who token rebuild target s ready seen started h below top = let v = who.token.view in
+    let w = token.view in let went = goes_on_went (λ event. ⊥) v w seen in
+    let grow = goes_on_grow v w seen in let row = started_rebuild v s rebuild started in
     let later = rebuild_there (now v).pieces (now w).pieces grow rebuild row.row row.published in
     let one = same_rebuild ((now w).pieces rebuild) later.0 h.row later.1 h.published in
     let target_was : HasTarget (now v) rebuild target =
@@ -243,8 +214,7 @@ stood_met who token rebuild target s ready seen started h below top =
       published = row.published;
       target_is = sym later.2.target ∙ ap (λ (x : RebuildRow). x.target) one ∙ h.target_is;
     } in
-    let was = top target target_was in
-    record {
+    let was = top target target_was in record {
       on = plain_on (λ event. ⊥) load_plain who token ready went;
       is = (
         record {

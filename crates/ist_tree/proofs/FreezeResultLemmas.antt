@@ -2,38 +2,24 @@
 use Rattle.std.proofs.Common.{◌≡◌, ℕ, ◌⊎◌, Option, Some, None, IfSome, refl, sym, ap, subst, inl, inr}
 use Rattle.std.specs.Option.{option_or}
 use Rattle.ist_core.specs.declared.ports.Full.{Full}
-use Rattle.ist_core.specs.Marking.{HasTarget}
-use Rattle.ist_core.specs.Rebuilding.{IsReplaced, IsStarted}
+use Rattle.ist_core.specs.TreeTerms.{HasTarget, IsReplaced, IsStarted}
 use Rattle.laws_links.proofs.FinishedLemmas.{target_grows}
 use Rattle.laws_links.proofs.FormLemmas.{replaced_grows, started_grows}
-use Rattle.ist_core.specs.Lawful.{state_of}
-use Rattle.ist_rule.specs.Faces.{TokenFace}
+use Rattle.ist_core.specs.LogTerms.{state_of}
+use Rattle.ist_rule.specs.RuleTerms.{TokenFace, CanGiveUp, TurnedAt, beginning, giving_up, now, IsSound}
 use Rattle.ist_rule.specs.declared.view.View.{View}
-use Rattle.ist_rule.specs.Conditions.{CanGiveUp}
-use Rattle.ist_rule.specs.Learning.{TurnedAt, beginning, giving_up, now}
-use Rattle.ist_rule.specs.Rule.{IsSound}
+use Rattle.ist_rows.specs.RowTerms.{IsReady, StaysReady}
 use Rattle.ist_rows.specs.declared.callers.Caller.{Caller}
-use Rattle.ist_rows.specs.Going.{IsReady, StaysReady}
 use Rattle.ist_updates.specs.Further.{HasWalkedFew}
-use Rattle.ist_tree.specs.declared.freezing.Frozen.{Frozen}
-use Rattle.ist_tree.specs.declared.freezing.FreezeOutcome.{FreezeOutcome}
-use Rattle.ist_tree.specs.DueRows.{FinishesFreeze, all_done}
-use Rattle.ist_tree.specs.FreezeSteps.{Freezes, HasTakenFewUnless, counted_as, IsFreezeStopped, IsTargetShort, IsTopShort}
-use Rattle.ist_tree.specs.Calls.{BeginsFewWalks, HasSeenMore}
-use Rattle.ist_tree.specs.Faces.{PassFace, TreeFace}
-use Rattle.ist_tree.specs.Freezing.{FreezesInFew, words_of_freeze, HasFrozen, HasStartedNone, IsFreezeRefused, IsFrozenFor, IsLeftShort, LeavesRebuilt}
-use Rattle.ist_tree.specs.Insides.{IsPassWith, face_as, pass_face}
-use Rattle.ist_tree.specs.Refusals.{HasStartsDone, IsTopRefused, KeepsRefusal}
-use Rattle.ist_tree.specs.Working.{Rebuilds}
+use Rattle.ist_tree.specs.CallTerms.{Frozen, FreezeOutcome, FinishesFreeze, all_done, Freezes, HasTakenFewUnless, counted_as, IsFreezeStopped, IsTargetShort, IsTopShort, BeginsFewWalks, HasSeenMore, PassFace, TreeFace, FreezesInFew, words_of_freeze, HasFrozen, HasStartedNone, IsFreezeRefused, IsFrozenFor, IsLeftShort, LeavesRebuilt, IsPassWith, face_as, pass_face, HasStartsDone, IsTopRefused, KeepsRefusal, Rebuilds}
 use Rattle.ist_tree.proofs.FinishLemmas.{finishes, first_kept}
 use Rattle.ist_tree.proofs.FreezeCallLemmas.{IsFreezeCall}
 use Rattle.ist_tree.proofs.FreezeCallLemmas as way
 use Rattle.ist_tree.proofs.FewFreezeCallLemmas.{few_in_call, out_in_call}
 use Rattle.ist_tree.proofs.FreezeEndLemmas.{freeze_refused, frozen_for, has_frozen, has_started_none, in_last, keeps_refusal, started_since, top_refused}
 use Rattle.ist_tree.proofs.GoingLemmas.{words_are}
-use Rattle.ist_tree.proofs.SearchCountLemmas.{ready_counted, turned_counted}
+use Rattle.ist_tree.proofs.SearchCountLemmas.{ready_counted, turned_counted, walks_end}
 use Rattle.ist_tree.proofs.ShortLemmas.{some_is}
-use Rattle.ist_tree.proofs.WalkCountLemmas.{walks_end}
 
 -- the tree was frozen in the call, with the map's pairs of that moment, and stays so; its rebuild
 -- was replaced, or refused in the call
@@ -85,8 +71,7 @@ freeze_ends who began new token it r q all words same outcome f is old view =
             had.was.frozen_is;
         pairs = had;
         rebuilt = λ row e.
-            (let k = f.rebuilt row e in
-            record {
+            (let k = f.rebuilt row e in record {
               rebuild = k.rebuild;
               started = in_last who began new token it (λ t. IsStarted t k.rebuild)
                   (λ t u g. started_grows t u g k.rebuild) k.of.started;
@@ -117,11 +102,8 @@ freeze_ends who began new token it r q all words same outcome f is old view =
     in_few : (o : Option Full) → outcome.refused ≡ o
         → HasTakenFewUnless o (words_of_freeze outcome.frozen.keys) began new
         → FreezesInFew (pass_face who r) (face_as token new.number (option_or r o)) outcome.frozen
-    in_few None e h =
-        few_in_call who began new token it r (option_or r None) outcome.frozen
-        (λ row is.
-        let k = f.rebuilt row is in
-        record {
+    in_few None e h = few_in_call who began new token it r (option_or r None) outcome.frozen
+        (λ row is. let k = f.rebuilt row is in record {
           rebuild = k.rebuild;
           started = in_last who began new token it (λ t. IsStarted t k.rebuild)
               (λ t u g. started_grows t u g k.rebuild) k.of.started;
@@ -144,14 +126,13 @@ freeze_ends who began new token it r q all words same outcome f is old view =
     either row rebuild None replaced s =
         inl (in_last who began new token it (λ t. IsReplaced t rebuild)
         (λ t u g. replaced_grows t u g rebuild) (replaced refl))
-    either row rebuild (Some full) replaced s =
-        inr record {
-          full = full;
-          cause = top_refused who began new token it r (option_or r (Some full)) words full same s.top;
-          row_is = s.row_is;
-          rebuild_is = s.rebuild_is;
-          kept = first_kept r full;
-        }
+    either row rebuild (Some full) replaced s = inr record {
+      full = full;
+      cause = top_refused who began new token it r (option_or r (Some full)) words full same s.top;
+      row_is = s.row_is;
+      rebuild_is = s.rebuild_is;
+      kept = first_kept r full;
+    }
 
 -- it was refused
 pub record StopEnds (old : PassFace) (new : Caller) (token : TokenFace) (r : Option Full) (full : Full)
@@ -214,17 +195,16 @@ module _ {who began : Caller} {r : Option Full} (b : BeginsFreeze who began r) (
       (given : TurnedAt new.token.view (giving_up new.token.view) token.view)
       (few : HasWalkedFew began.token.view new.token.view) where
     its_way : StaysReady Rebuilds was new → IsFreezeCall who was new token
-    its_way on =
-        record {
-          sound = b.sound;
-          pass = b.pass.pass;
-          began_number = b.number;
-          n = new.token.view.searches;
-          begun = turned_counted who.token.view began.token.view new.token.view.searches b.begun;
-          ready = ready_counted began new.token.view.searches b.ready;
-          on = on;
-          given = given;
-        }
+    its_way on = record {
+      sound = b.sound;
+      pass = b.pass.pass;
+      began_number = b.number;
+      n = new.token.view.searches;
+      begun = turned_counted who.token.view began.token.view new.token.view.searches b.begun;
+      ready = ready_counted began new.token.view.searches b.ready;
+      on = on;
+      given = given;
+    }
 
     few_walks : (q : Option Full) (old : PassFace) → pass_face who r ≡ old
         → BeginsFewWalks old (face_as token new.number q)

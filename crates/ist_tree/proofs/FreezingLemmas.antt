@@ -5,33 +5,20 @@ use Rattle.std.specs.List.Sorted.{IsStrictlyIncreasing}
 use Rattle.std.proofs.Math.Seq.{take-length}
 use Rattle.std.proofs.lemmas.List.{length-map}
 use Rattle.ist_core.specs.declared.pairs.Pair.{Pair}
-use Rattle.ist_core.specs.Changes.{changes_of, map_after_entries}
-use Rattle.ist_core.specs.Growing.{AllGrow}
-use Rattle.ist_core.specs.Lawful.{Lawful, state_of}
-use Rattle.ist_core.specs.Leaves.{HasLeaves, PlacedLeaf, leaf_here, none_here, pair_of}
-use Rattle.ist_core.specs.Links.{IsChild}
-use Rattle.ist_core.specs.Logs.{GoesOn, Log}
-use Rattle.ist_core.specs.Map.{map_of, pairs_of}
-use Rattle.ist_core.specs.Rebuilding.{IsFinishedWith}
-use Rattle.ist_core.specs.References.{Ref, Empty, LeafAt}
-use Rattle.ist_core.specs.RowLayout.{anchor}
-use Rattle.ist_core.specs.Slots.{logical}
-use Rattle.ist_core.specs.Snapshots.{Snapshot}
-use Rattle.ist_core.proofs.FateLemmas.{grow_between}
-use Rattle.ist_core.proofs.GrowingLemmas.{leaf_there}
-use Rattle.ist_core.proofs.KeepingLemmas.{finished_leaves_stay}
-use Rattle.ist_core.proofs.LeafLemmas.{reached, same_leaves}
-use Rattle.laws_calls.proofs.FinishLemmas.{finished_rise}
-use Rattle.laws_calls.proofs.FreezeLemmas.{frozen_pairs}
+use Rattle.ist_core.specs.TreeTerms.{changes_of, map_after_entries, AllGrow, HasLeaves, PlacedLeaf, leaf_here, none_here, pair_of, IsChild, map_of, pairs_of, IsFinishedWith}
+use Rattle.ist_core.specs.LogTerms.{Lawful, state_of, GoesOn, Log, Snapshot}
+use Rattle.ist_core.specs.WordTerms.{Ref, Empty, LeafAt, anchor, logical}
+use Rattle.ist_core.proofs.AllLogLemmas.{grow_between, leaf_there, finished_leaves_stay}
+use Rattle.ist_core.proofs.AllPlaceLemmas.{reached, same_leaves}
+use Rattle.laws_calls.proofs.FinishLemmas.{finished_rise, frozen_pairs}
 use Rattle.laws_histories.specs.Telling.{map_now}
 use Rattle.laws_histories.proofs.ContentLemmas.{contents_at}
 use Rattle.ist_layout.specs.Meanings.{ref_meant}
 use Rattle.ist_layout.specs.declared.references.Ref.TheVariants.{Inner}
 use Rattle.laws_links.proofs.FormLemmas.{finished_with_grows}
-use Rattle.laws_links.proofs.FinishedLeafLemmas.{finished_leaves}
-use Rattle.ist_tree.specs.declared.freezing.Frozen.{Frozen}
-use Rattle.ist_tree.specs.Freezing.{HasFrozenPairs, HasItsPairs, IsFrozenIn, IsStill, WasFrozen, all_keys, no_key, one_key}
-use Rattle.laws_histories.proofs.PositionOnLemmas.{map_at_on}
+use Rattle.laws_links.proofs.ContentLemmas.{finished_leaves}
+use Rattle.ist_tree.specs.CallTerms.{Frozen, HasFrozenPairs, HasItsPairs, IsFrozenIn, IsStill, WasFrozen, all_keys, no_key, one_key}
+use Rattle.laws_histories.proofs.ChangeLemmas.{map_at_on}
 use Rattle.ist_tree.proofs.FindingLemmas.{changes_rise}
 
 -- ---- what is frozen stays so
@@ -62,8 +49,7 @@ still_leaves_stay pairs words earlier log l on _ _ no_key leaves has =
     subst (HasLeaves (state_of pairs words log).pieces (Some Empty))
     (sym (reached (state_of pairs words earlier).pieces (Some Empty) leaves has)) none_here
 still_leaves_stay pairs words earlier log l on _ _ (one_key base row e) leaves has =
-    let ps = (state_of pairs words earlier).pieces in
-    let qs = (state_of pairs words log).pieces in
+    let ps = (state_of pairs words earlier).pieces in let qs = (state_of pairs words log).pieces in
     let grow = grow_between pairs words earlier log l.enabled on in
     let it = reached ps (Some (LeafAt base)) leaves has in
     subst (HasLeaves qs (Some (LeafAt base))) (sym it.2)
@@ -76,13 +62,12 @@ pub frozen_pairs_stay : (pairs : List Pair) (words : ℕ) (earlier log : Log)
     → Lawful pairs words log → GoesOn earlier log → (frozen : Frozen) (found : List Pair)
     → IsFrozenIn pairs words earlier frozen → HasFrozenPairs pairs words earlier frozen found
     → HasFrozenPairs pairs words log frozen found
-frozen_pairs_stay pairs words earlier log l on frozen found f h =
-    record {
-      leaves = h.leaves;
-      reached = still_leaves_stay pairs words earlier log l on (ref_meant frozen.root) frozen.keys f
-          h.leaves h.reached;
-      pairs_are = h.pairs_are;
-    }
+frozen_pairs_stay pairs words earlier log l on frozen found f h = record {
+  leaves = h.leaves;
+  reached = still_leaves_stay pairs words earlier log l on (ref_meant frozen.root) frozen.keys f
+      h.leaves h.reached;
+  pairs_are = h.pairs_are;
+}
 
 -- ---- its pairs
 
@@ -108,16 +93,14 @@ pub still_leaves : (pairs : List Pair) (words : ℕ) (log : Log) → Lawful pair
     → HasItsLeaves (state_of pairs words log) ref keys
 still_leaves pairs words log l _ _ no_key =
     record { leaves = []; below = none_here; number = refl; rising = none_rise }
-still_leaves pairs words log l _ _ (one_key base row e) =
-    record {
-      leaves = record { base = base; row = row } ∷ [];
-      below = leaf_here row e;
-      number = refl;
-      rising = λ k less. absurd (omega arith);
-    }
+still_leaves pairs words log l _ _ (one_key base row e) = record {
+  leaves = record { base = base; row = row } ∷ [];
+  below = leaf_here row e;
+  number = refl;
+  rising = λ k less. absurd (omega arith);
+}
 still_leaves pairs words log l _ _ (all_keys base keys f) =
-    let it = finished_leaves pairs words l.opens log l.enabled base keys f in
-    record {
+    let it = finished_leaves pairs words l.opens log l.enabled base keys f in record {
       leaves = it.0;
       below = it.1;
       number = it.2;
@@ -128,16 +111,14 @@ still_leaves pairs words log l _ _ (all_keys base keys f) =
 pub pairs_rise : (leaves : List PlacedLeaf)
     → IsStrictlyIncreasing (map (λ leaf. leaf.row.key) leaves)
     → IsStrictlyIncreasing (map (λ (pair : Pair). pair.key) (map pair_of leaves))
-pairs_rise leaves rise =
-    subst (λ keys. IsStrictlyIncreasing keys)
+pairs_rise leaves rise = subst (λ keys. IsStrictlyIncreasing keys)
     (sym (map_twice pair_of (λ (pair : Pair). pair.key) leaves)) rise
 
 -- a frozen tree has pairs
 pub has_its_pairs : (pairs : List Pair) (words : ℕ) (log : Log) → Lawful pairs words log
     → (frozen : Frozen) → IsFrozenIn pairs words log frozen → HasItsPairs pairs words log frozen
 has_its_pairs pairs words log l frozen f =
-    let it = still_leaves pairs words log l (ref_meant frozen.root) frozen.keys f in
-    record {
+    let it = still_leaves pairs words log l (ref_meant frozen.root) frozen.keys f in record {
       found = map pair_of it.leaves;
       has = record { leaves = it.leaves; reached = it.below; pairs_are = refl };
       number = length-map it.leaves pair_of ∙ it.number;
@@ -148,9 +129,7 @@ has_its_pairs pairs words log l frozen f =
 pub frozen_pairs_are_one : (pairs : List Pair) (words : ℕ) (log : Log) (frozen : Frozen)
     (found others : List Pair) → HasFrozenPairs pairs words log frozen found
     → HasFrozenPairs pairs words log frozen others → found ≡ others
-frozen_pairs_are_one pairs words log frozen found others a b =
-    a.pairs_are
-    ∙ ap (map pair_of)
+frozen_pairs_are_one pairs words log frozen found others a b = a.pairs_are ∙ ap (map pair_of)
     (same_leaves (state_of pairs words log).pieces (Some (ref_meant frozen.root)) a.leaves b.leaves
     a.reached b.reached)
     ∙ sym b.pairs_are
@@ -163,10 +142,8 @@ pub was_frozen_on : (pairs : List Pair) (words : ℕ) (first earlier log longer 
     → WasFrozen pairs words earlier log frozen → WasFrozen pairs words first longer frozen
 was_frozen_on pairs words first earlier log longer l before following frozen w =
     let low = changes_rise pairs words first earlier before in
-    let high = changes_rise pairs words log longer following in
-    let from = w.were.from in
-    let to = w.were.to in
-    record {
+    let high = changes_rise pairs words log longer following in let from = w.were.from in
+    let to = w.were.to in record {
       frozen_is = frozen_stays pairs words log longer l following frozen w.frozen_is;
       found = w.found;
       has = frozen_pairs_stay pairs words log longer l following frozen w.found w.frozen_is w.has;
@@ -174,8 +151,7 @@ was_frozen_on pairs words first earlier log longer l before following frozen w =
         position = w.were.position;
         from = omega arith;
         to = omega arith;
-        pairs_are =
-            w.were.pairs_are
+        pairs_are = w.were.pairs_are
             ∙ ap pairs_of (sym (map_at_on pairs words log longer w.were.position following w.were.to));
       };
     }
@@ -186,11 +162,9 @@ pub top_was_frozen : (pairs : List Pair) (words : ℕ) (log : Log) → Lawful pa
     → logical (state_of pairs words log).pieces (state_of pairs words log).anchor
     ≡ Some (ref_meant frozen.root)
     → IsFrozenIn pairs words log frozen → WasFrozen pairs words log log frozen
-top_was_frozen pairs words log l frozen reads f =
-    let t = state_of pairs words log in
+top_was_frozen pairs words log l frozen reads f = let t = state_of pairs words log in
     let all = contents_at pairs words l.opens log l.enabled in
-    let entries = changes_of pairs words log in
-    record {
+    let entries = changes_of pairs words log in record {
       frozen_is = f;
       found = pairs_of (map_now pairs words log);
       has = record {
@@ -215,8 +189,7 @@ pub row_was_frozen : (pairs : List Pair) (words : ℕ) (at log : Log) → Lawful
 row_was_frozen pairs words at log l on frozen target child root f =
     let t = state_of pairs words log in
     let it = finished_leaves pairs words l.opens log l.enabled target frozen.keys f in
-    let meant = ap ref_meant root in
-    record {
+    let meant = ap ref_meant root in record {
       frozen_is = subst (λ ref. IsStill t ref frozen.keys) (sym meant)
           (all_keys target frozen.keys f);
       found = map pair_of it.0;

@@ -1,21 +1,16 @@
 -- What a pass has heard of the moments of all calls goes on. Serves all calls.
 use Rattle.std.proofs.Common.{◌≡◌, ◌≤◌, ℕ, ◌∷◌, length, Option, sym, subst, ◌∙◌, refl, arith}
 use Rattle.ist_core.specs.declared.commands.Command.{Command}
-use Rattle.ist_core.specs.Changes.{changes_of}
-use Rattle.ist_core.specs.Elements.{Each}
-use Rattle.ist_core.specs.Logs.{Log, same_log}
-use Rattle.ist_core.specs.Standing.{position_after}
+use Rattle.ist_core.specs.TreeTerms.{changes_of, position_after}
+use Rattle.ist_core.specs.LogTerms.{Each, Log, same_log}
 use Rattle.laws_real_time.specs.declared.moments.Moment.{Moment}
 use Rattle.laws_real_time.specs.Moments.{Moments, ended}
 use Rattle.laws_real_time.specs.Making.{calls_returned}
+use Rattle.ist_rule.specs.RuleTerms.{TurnedAt, MomentsGoOn, same_moments, one_moment}
 use Rattle.ist_rule.specs.declared.view.View.{View}
-use Rattle.ist_rule.specs.Learning.{TurnedAt}
-use Rattle.ist_rule.specs.Speaking.{MomentsGoOn, same_moments, one_moment}
 use Rattle.ist_rule.proofs.LaterLemmas.{goes_on_more}
 use Rattle.ist_rule.proofs.SpeakLemmas.{go_on_more, later_goes_on}
-use Rattle.ist_tree.specs.Calls.{HasSeenMore}
-use Rattle.ist_tree.specs.Faces.{PassFace, TreeFace}
-use Rattle.ist_tree.specs.RealTime.{ReturnsInTime, RunsInTime, StepsIn}
+use Rattle.ist_tree.specs.CallTerms.{HasSeenMore, PassFace, TreeFace, ReturnsInTime, RunsInTime, StepsIn}
 
 -- the same moments go on
 pub heard_same : {a b : Moments} → b ≡ a → MomentsGoOn a b
@@ -29,27 +24,23 @@ heard_turned {v = v} t moment is =
 
 -- a pass that saw more twice saw more
 pub seen_more_then : (p m q : PassFace) → HasSeenMore p m → HasSeenMore m q → HasSeenMore p q
-seen_more_then p m q a b =
-    let low = a.stamp in
-    let high = b.stamp in
-    record {
-      tree = b.tree ∙ a.tree;
-      number = b.number ∙ a.number;
-      seen = goes_on_more a.seen b.seen;
-      heard = go_on_more p.moments m.moments q.moments a.heard b.heard;
-      stamp = omega arith;
-    }
+seen_more_then p m q a b = let low = a.stamp in let high = b.stamp in record {
+  tree = b.tree ∙ a.tree;
+  number = b.number ∙ a.number;
+  seen = goes_on_more a.seen b.seen;
+  heard = go_on_more p.moments m.moments q.moments a.heard b.heard;
+  stamp = omega arith;
+}
 
 -- a pass has seen what it has seen
 pub seen_same : (p : PassFace) → HasSeenMore p p
-seen_same p =
-    record {
-      tree = refl;
-      number = refl;
-      seen = same_log;
-      heard = same_moments;
-      stamp = omega arith;
-    }
+seen_same p = record {
+  tree = refl;
+  number = refl;
+  seen = same_log;
+  heard = same_moments;
+  stamp = omega arith;
+}
 
 -- ---- a call of the pass
 
@@ -64,30 +55,28 @@ runs_at_once p q command reply calls r =
 
 -- a step of a later part of a call is one of the call
 pub steps_from : (p m q : PassFace) (at : Log) → HasSeenMore p m → StepsIn m q at → StepsIn p q at
-steps_from p m q at seen s =
-    record {
-      before = s.before;
-      since = go_on_more p.moments m.moments s.before seen.heard s.since;
-      step = s.step;
-      step_by = s.step_by ∙ seen.number;
-      heard = s.heard;
-      seen = goes_on_more seen.seen s.seen;
-      until = s.until;
-      placed = subst (λ (t : TreeFace).
-          Each (λ x. position_after x.call ≤ length (changes_of t.start t.words at))
-          (ended s.before)) seen.tree s.placed;
-    }
+steps_from p m q at seen s = record {
+  before = s.before;
+  since = go_on_more p.moments m.moments s.before seen.heard s.since;
+  step = s.step;
+  step_by = s.step_by ∙ seen.number;
+  heard = s.heard;
+  seen = goes_on_more seen.seen s.seen;
+  until = s.until;
+  placed = subst (λ (t : TreeFace).
+      Each (λ x. position_after x.call ≤ length (changes_of t.start t.words at))
+      (ended s.before)) seen.tree s.placed;
+}
 
 -- so is a step of an earlier part
 pub steps_until : (p m q : PassFace) (at : Log) → StepsIn p m at → HasSeenMore m q → StepsIn p q at
-steps_until p m q at s seen =
-    record {
-      before = s.before;
-      since = s.since;
-      step = s.step;
-      step_by = s.step_by;
-      heard = go_on_more (s.step ∷ s.before) m.moments q.moments s.heard seen.heard;
-      seen = s.seen;
-      until = goes_on_more s.until seen.seen;
-      placed = s.placed;
-    }
+steps_until p m q at s seen = record {
+  before = s.before;
+  since = s.since;
+  step = s.step;
+  step_by = s.step_by;
+  heard = go_on_more (s.step ∷ s.before) m.moments q.moments s.heard seen.heard;
+  seen = s.seen;
+  until = goes_on_more s.until seen.seen;
+  placed = s.placed;
+}

@@ -3,32 +3,22 @@
 use Rattle.std.proofs.Common.{◌≡◌, ℕ, Option, Some, sym, ap, ◌∙◌, subst, arith}
 use Rattle.ist_core.specs.declared.commands.Command.{Command}
 use Rattle.ist_core.specs.declared.ports.Full.{Full}
+use Rattle.ist_rule.specs.RuleTerms.{IsResolved, TokenFace, TurnedAt, beginning, giving_up, IsSound}
 use Rattle.ist_rule.specs.declared.view.View.{View}
-use Rattle.ist_rule.specs.Conditions.{IsResolved}
-use Rattle.ist_rule.specs.Faces.{TokenFace}
-use Rattle.ist_rule.specs.Learning.{TurnedAt, beginning, giving_up}
-use Rattle.ist_rule.specs.Rule.{IsSound}
 use Rattle.ist_rows.specs.declared.callers.Caller.{Caller}
 use Rattle.ist_updates.specs.declared.updates.When.{When}
 use Rattle.ist_updates.specs.Meeting.{WasMissed}
 use Rattle.ist_updates.specs.Refusals.{WasRefused}
 use Rattle.laws_histories.specs.Searching.{HasPosition}
-use Rattle.laws_histories.proofs.PositionOnLemmas.{position_on}
-use Rattle.ist_tree.specs.Calls.{HasSeenMore}
-use Rattle.ist_tree.specs.DueRows.{CameDue, CountsNowhere, StartsOnlyDue}
-use Rattle.ist_tree.specs.Faces.{HasItsCalls, PassFace}
-use Rattle.ist_tree.specs.Freezing.{HasStartedNone}
-use Rattle.ist_tree.specs.Insides.{IsPassWith, face_as, pass_face}
-use Rattle.ist_tree.specs.Refusals.{IsRefused}
-use Rattle.ist_tree.specs.Rounds.{HadMissed, HasLetGo}
-use Rattle.ist_tree.specs.Working.{IsLetGo, StartsDue}
+use Rattle.laws_histories.proofs.ChangeLemmas.{position_on}
+use Rattle.ist_tree.specs.CallTerms.{HasSeenMore, CameDue, CountsNowhere, StartsOnlyDue, HasItsCalls, PassFace, HasStartedNone, IsPassWith, face_as, pass_face, IsRefused, HadMissed, HasLetGo, IsLetGo, StartsDue}
 use Rattle.ist_tree.proofs.HeardLemmas.{heard_turned}
-use Rattle.ist_tree.proofs.IdleCallerLemmas.{has_its_calls}
+use Rattle.ist_tree.proofs.GoingLemmas.{has_its_calls}
 use Rattle.ist_tree.proofs.CountedLemmas.{way_counted}
 use Rattle.ist_tree.proofs.InstallLemmas.{way_starts}
 use Rattle.ist_tree.proofs.RefusalLemmas.{update_was_refused}
 use Rattle.ist_tree.proofs.UpdateLemmas.{came_nowhere}
-use Rattle.ist_tree.proofs.UpdateSeenLemmas.{IsUpdateCall, final_pass, none_started, seen_more, settled_then, v_to_b, w_start, w_to_x, w_words}
+use Rattle.ist_tree.proofs.FinishLemmas.{IsUpdateCall, final_pass, none_started, seen_more, settled_then, v_to_b, w_start, w_to_x, w_words}
 
 module _ (who began new : Caller) (token : TokenFace) (command : Command) (s : IsSound who.token.view)
     (r : Option Full) (p : IsPassWith who r)
@@ -38,27 +28,26 @@ module _ (who began new : Caller) (token : TokenFace) (command : Command) (s : I
   module _ (d : IsLetGo began new)
       (given : TurnedAt new.token.view (giving_up new.token.view) token.view) where
     stops : IsUpdateCall who began new token command
-    stops =
-        record {
-          sound = s;
-          pass = p.pass;
-          begun = begun;
-          began_number = began_number;
-          went = d.went;
-          number = d.number;
-          caller = d.caller;
-          refused = d.refused;
-          last = record {
-            who_is = ap (λ (y : View). y.who) given.view;
-            start_is = ap (λ (y : View). y.start) given.view;
-            words_is = ap (λ (y : View). y.words) given.view;
-            later = given.later;
-            sound = given.sound;
-          };
-          heard = heard_turned given _ (ap (λ (y : View). y.moments) given.view);
-          none = ap (λ (y : View). y.pending) given.view;
-          table = ap (λ (y : View). y.table) given.view;
-        }
+    stops = record {
+      sound = s;
+      pass = p.pass;
+      begun = begun;
+      began_number = began_number;
+      went = d.went;
+      number = d.number;
+      caller = d.caller;
+      refused = d.refused;
+      last = record {
+        who_is = ap (λ (y : View). y.who) given.view;
+        start_is = ap (λ (y : View). y.start) given.view;
+        words_is = ap (λ (y : View). y.words) given.view;
+        later = given.later;
+        sound = given.sound;
+      };
+      heard = heard_turned given _ (ap (λ (y : View). y.moments) given.view);
+      none = ap (λ (y : View). y.pending) given.view;
+      table = ap (λ (y : View). y.table) given.view;
+    }
 
     -- each change of the caller is resolved
     resolved : IsResolved new.token.view new.number
@@ -67,13 +56,11 @@ module _ (who began new : Caller) (token : TokenFace) (command : Command) (s : I
 
     -- the caller is a pass again
     pub stopped_pass : IsPassWith (record new { token = token }) r
-    stopped_pass =
-        record {
-          pass = final_pass who began new token command stops;
-          settled = λ unrefused.
-              settled_then who began new token command stops resolved d.starts d.due
-              (p.settled unrefused);
-        }
+    stopped_pass = record {
+      pass = final_pass who began new token command stops;
+      settled = λ unrefused. settled_then who began new token command stops resolved d.starts d.due
+          (p.settled unrefused);
+    }
 
     stopped_stamp : token.view.stamp ≡ who.token.view.stamp
     stopped_stamp =
@@ -110,29 +97,27 @@ module _ (who began new : Caller) (token : TokenFace) (command : Command) (s : I
 
     -- its calls are placed in what it has seen then
     pub stopped_placed : HasItsCalls (face_as token new.number r)
-    stopped_placed =
-        has_its_calls token.view new.number given.sound
+    stopped_placed = has_its_calls token.view new.number given.sound
         (ap (λ (y : View). y.who) given.view ∙ d.caller.mine)
         (ap (λ (y : View). y.pending) given.view)
 
     -- for a pass with this face: it is let go
     pub stopped : StartsDue began new → (old : PassFace) → pass_face who r ≡ old
         → HasLetGo old (face_as token new.number r)
-    stopped due old view =
-        record {
-          idle = record {
-            seen = stopped_seen old view;
-            refused = ap (λ (o : PassFace). o.refused) view;
-            none_came = none_came_here old view;
-            uncounted = stopped_counted old view;
-            starts = stopped_starts due old view;
-            unstarted = subst (λ (o : PassFace). HasStartedNone o (face_as token new.number r)) view
-                (none_started who began new token command stops resolved d.unstarted);
-          };
-          calls = ap (λ (y : View). y.calls) given.view ∙ ap (λ (y : View). y.calls) d.went.went.same
-              ∙ ap (λ (y : View). y.calls) begun.view ∙ ap (λ (o : PassFace). o.calls) view;
-          stamp = stopped_stamp ∙ ap (λ (o : PassFace). o.stamp) view;
-        }
+    stopped due old view = record {
+      idle = record {
+        seen = stopped_seen old view;
+        refused = ap (λ (o : PassFace). o.refused) view;
+        none_came = none_came_here old view;
+        uncounted = stopped_counted old view;
+        starts = stopped_starts due old view;
+        unstarted = subst (λ (o : PassFace). HasStartedNone o (face_as token new.number r)) view
+            (none_started who began new token command stops resolved d.unstarted);
+      };
+      calls = ap (λ (y : View). y.calls) given.view ∙ ap (λ (y : View). y.calls) d.went.went.same
+          ∙ ap (λ (y : View). y.calls) begun.view ∙ ap (λ (o : PassFace). o.calls) view;
+      stamp = stopped_stamp ∙ ap (λ (o : PassFace). o.stamp) view;
+    }
 
     -- it was refused
     pub stopped_full : (key : ℕ) (value : Option ℕ) (full : Full)

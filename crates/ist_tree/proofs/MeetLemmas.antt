@@ -1,22 +1,17 @@
 -- What the word in the anchor's slot names is met. Serves `meet`.
 use Rattle.std.proofs.Common.{◌≡◌, ℕ, Option, Some, None, option_map}
-use Rattle.ist_core.specs.References.{ref_of}
-use Rattle.ist_core.specs.RowLayout.{anchor}
-use Rattle.ist_core.specs.Slots.{SlotHolds}
+use Rattle.ist_core.specs.WordTerms.{ref_of, anchor, SlotHolds}
 use Rattle.ist_find.specs.Searches.{SeesChange}
 use Rattle.ist_layout.specs.Meanings.{ref_meant}
 use Rattle.ist_layout.specs.declared.references.Ref.{Ref}
 use Rattle.ist_layout.specs.declared.references.Ref.TheVariants as ref
 use Rattle.ist_layout.proofs.MeaningLemmas.{word_names}
 use Rattle.ist_mark.proofs.BelowLemmas.{read_none}
-use Rattle.ist_rule.specs.Learning.{now}
-use Rattle.ist_rule.specs.Rule.{IsSound}
-use Rattle.ist_rule.proofs.GoingOnLemmas.{goes_on_same}
+use Rattle.ist_rule.specs.RuleTerms.{now, IsSound}
+use Rattle.ist_rule.proofs.EventLemmas.{goes_on_same}
+use Rattle.ist_rows.specs.RowTerms.{IsReady}
 use Rattle.ist_rows.specs.declared.callers.Caller.{Caller}
-use Rattle.ist_rows.specs.Going.{IsReady}
-use Rattle.ist_tree.specs.declared.freezing.Site.TheVariants.{Still}
-use Rattle.ist_tree.specs.Freezing.{no_key}
-use Rattle.ist_tree.specs.FreezeSteps.{HasMet, IsTopRebuild, IsAnchorsRow}
+use Rattle.ist_tree.specs.CallTerms.{Still, no_key, HasMet, IsTopRebuild, IsAnchorsRow}
 use Rattle.ist_tree.proofs.FurtherLemmas.{anchor_names, anchor_set}
 use Rattle.ist_tree.proofs.FreezeLookLemmas.{change_seen, empty_no_row, leaf_no_row, leaf_still, looked_still, rebuild_below, rebuild_started, rebuild_top, row_held, row_may_start, row_top, still_top}
 
@@ -28,21 +23,19 @@ module _ (who : Caller) (s : IsSound who.token.view) {word : ℕ}
 
   -- an inner row that the word names is the anchor's child
   pub top_row : {target : ℕ} → found ≡ ref.Inner target → IsAnchorsRow who.token.view target
-  top_row {target} same =
-      record {
-        top = row_top who.token.view s word holds target (names same);
-        may_start = row_may_start who.token.view s word holds target (names same);
-        held = row_held who.token.view s word holds target (names same);
-      }
+  top_row {target} same = record {
+    top = row_top who.token.view s word holds target (names same);
+    may_start = row_may_start who.token.view s word holds target (names same);
+    held = row_held who.token.view s word holds target (names same);
+  }
 
   -- a rebuild that the word names is below the anchor
   pub top_rebuild : {rebuild : ℕ} → found ≡ ref.Rebuild rebuild → IsTopRebuild who.token.view rebuild
-  top_rebuild {rebuild} same =
-      record {
-        started = rebuild_started who.token.view s word holds rebuild (names same);
-        below = rebuild_below who.token.view s word holds rebuild (names same);
-        top = rebuild_top who.token.view s word holds rebuild (names same);
-      }
+  top_rebuild {rebuild} same = record {
+    started = rebuild_started who.token.view s word holds rebuild (names same);
+    below = rebuild_below who.token.view s word holds rebuild (names same);
+    top = rebuild_top who.token.view s word holds rebuild (names same);
+  }
 
   -- a change that the word names is seen
   pub top_change : {change : ℕ} → found ≡ ref.Change change → SeesChange who.token.view change
@@ -51,8 +44,7 @@ module _ (who : Caller) (s : IsSound who.token.view) {word : ℕ}
   -- a leaf that the word names is met as a frozen tree
   pub met_leaf : IsReady who → {base : ℕ} → found ≡ ref.Leaf base
       → HasMet who who (Still record { root = ref.Leaf base; keys = 1 })
-  met_leaf r {base} same =
-      looked_still who who.token r (goes_on_same who.token.view s)
+  met_leaf r {base} same = looked_still who who.token r (goes_on_same who.token.view s)
       record { root = ref.Leaf base; keys = 1 }
       (still_top who.token.view s word holds record { root = ref.Leaf base; keys = 1 } (names same)
       (leaf_still who.token.view s word holds base (names same))) (λ row e. leaf_no_row base row e)

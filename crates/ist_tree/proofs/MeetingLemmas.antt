@@ -1,27 +1,26 @@
 -- A pass meets a note. Serves `meet`.
-use Rattle.std.proofs.Common.{◌≡◌, ℕ, max, [], ◌∷◌, Option, None, refl, sym, ap, ◌∙◌, subst, arith}
+use Rattle.std.proofs.Common.{◌≡◌, ℕ, max, [], ◌∷◌, Option, None, refl, sym, ap, ◌∙◌, subst, arith, Some, IfSome}
 use Rattle.ist_core.specs.declared.ports.Full.{Full}
-use Rattle.ist_core.specs.Logs.{same_log}
-use Rattle.ist_core.specs.Lawful.{Lawful}
-use Rattle.ist_core.specs.Standing.{StandsIn}
-use Rattle.ist_core.specs.Histories.{StandInPrefixes}
+use Rattle.ist_core.specs.LogTerms.{same_log, Lawful, StandInPrefixes, Later}
+use Rattle.ist_core.specs.TreeTerms.{StandsIn, IsFinishedWith}
 use Rattle.laws_histories.specs.Calls.{HasCalls}
 use Rattle.laws_histories.proofs.ContentLemmas.{told_at}
 use Rattle.laws_histories.proofs.WovenLemmas.{woven_legal}
 use Rattle.laws_histories.proofs.PlacedLemmas.{has_places}
+use Rattle.ist_rule.specs.RuleTerms.{TokenFace, Looked, seeing, joined, MomentsGoOn, now}
 use Rattle.ist_rule.specs.declared.view.View.{View}
-use Rattle.ist_core.specs.Authors.{Later}
-use Rattle.ist_rule.specs.Faces.{TokenFace}
-use Rattle.ist_rule.specs.Learning.{Looked, seeing}
-use Rattle.ist_rule.specs.Seating.{joined}
-use Rattle.ist_rule.specs.Speaking.{MomentsGoOn}
-use Rattle.ist_rule.proofs.LaterLemmas.{later-goes_on}
+use Rattle.ist_rule.proofs.LaterLemmas.{later-goes_on, goes_on_more}
+use Rattle.ist_rows.specs.RowTerms.{StaysReady}
 use Rattle.ist_rows.specs.declared.callers.Caller.{Caller}
-use Rattle.ist_tree.specs.Faces.{TreeFace, PassFace, calls_in, HasItsCalls}
-use Rattle.ist_tree.specs.Calls.{HasSeenMore, HasLearnt, WeavesWith}
-use Rattle.ist_tree.specs.Insides.{tree_of, face_as, pass_face, note_face, noted_number, IsPassWith, IsNote}
-use Rattle.ist_tree.proofs.IdleCallerLemmas.{has_its_calls}
-use Rattle.ist_tree.proofs.GoingLemmas.{IsLaterView, pass_with_later}
+use Rattle.ist_tree.specs.CallTerms.{TreeFace, PassFace, calls_in, HasItsCalls, HasSeenMore, HasLearnt, WeavesWith, tree_of, face_as, pass_face, note_face, noted_number, IsPassWith, IsNote, Frozen, FreezeOutcome, Rebuilt, Still, Freezes, FreezesTarget, HasMet, IsHelpShort, IsRebuiltIn, IsTargetShort, IsTopShort, Rebuilds}
+use Rattle.ist_tree.proofs.GoingLemmas.{has_its_calls, IsLaterView, pass_with_later}
+use Rattle.ist_layout.specs.Meanings.{ref_meant}
+use Rattle.ist_rebuild.specs.Starting.{StartsDoneBut, StartsDoneSince}
+use Rattle.ist_rule.proofs.WentOnLemmas.{later_by-goes_on, went_lawful, went_now}
+use Rattle.ist_tree.proofs.FewFreezeLemmas.{few_helped, few_still}
+use Rattle.ist_tree.proofs.FreezingLemmas.{row_was_frozen, was_frozen_on}
+use Rattle.ist_tree.proofs.FreezeGoingLemmas.{rebuild_on}
+use Rattle.ist_rows.proofs.GoneLemmas.{ready_more}
 
 -- what a meeting results in, for a pass and a note with these faces
 pub record MeetEnds (old note : PassFace) (who : Caller) (refused : Option Full) (token : TokenFace)
@@ -35,14 +34,13 @@ pub record MeetEnds (old note : PassFace) (who : Caller) (refused : Option Full)
 -- two passes of one tree that each have their calls are woven, if one has seen what the other had
 weaves : (p other : PassFace) → Lawful p.tree.start p.tree.words p.seen → HasItsCalls p
     → HasItsCalls other → HasLearnt p other → WeavesWith p other
-weaves p other lawful mine theirs learnt =
-    record {
-      mine = mine;
-      theirs = theirs;
-      legal = woven_legal p.tree.start p.tree.words p.seen (calls_in p ∷ calls_in other ∷ [])
-          (told_at p.tree.start p.tree.words lawful.opens p.seen lawful.enabled).legal prefixes;
-      places = has_places p.tree.start p.tree.words p.seen (calls_in p ∷ calls_in other ∷ []) prefixes;
-    }
+weaves p other lawful mine theirs learnt = record {
+  mine = mine;
+  theirs = theirs;
+  legal = woven_legal p.tree.start p.tree.words p.seen (calls_in p ∷ calls_in other ∷ [])
+      (told_at p.tree.start p.tree.words lawful.opens p.seen lawful.enabled).legal prefixes;
+  places = has_places p.tree.start p.tree.words p.seen (calls_in p ∷ calls_in other ∷ []) prefixes;
+}
   where
     prefixes : StandInPrefixes p.tree.start p.tree.words p.seen (calls_in p ∷ calls_in other ∷ [])
     prefixes = (
@@ -76,14 +74,13 @@ module _ (who : Caller) (n token : TokenFace) (refused : Option Full)
   x_is = l.view
 
   later_view : IsLaterView v x
-  later_view =
-      record {
-        who_is = ap (λ (y : View). y.who) x_is;
-        start_is = ap (λ (y : View). y.start) x_is;
-        words_is = ap (λ (y : View). y.words) x_is;
-        later = later;
-        sound = l.sound;
-      }
+  later_view = record {
+    who_is = ap (λ (y : View). y.who) x_is;
+    start_is = ap (λ (y : View). y.start) x_is;
+    words_is = ap (λ (y : View). y.words) x_is;
+    later = later;
+    sound = l.sound;
+  }
 
   tree_same : tree_of token ≡ tree_of who.token
   tree_same = ap (λ (y : View). record { table = y.table; start = y.start; words = y.words }) x_is
@@ -92,13 +89,11 @@ module _ (who : Caller) (n token : TokenFace) (refused : Option Full)
   none = ap (λ (y : View). y.pending) x_is ∙ p.pass.in_none
 
   learns : HasLearnt (face_as token who.number refused) (note_face n)
-  learns =
-      let up : x.stamp ≡ max v.stamp n.view.stamp = ap (λ (y : View). y.stamp) x_is in
-      record {
-        tree = one_tree ∙ sym tree_same;
-        seen = later-goes_on other_later;
-        stamp = omega arith;
-      }
+  learns = let up : x.stamp ≡ max v.stamp n.view.stamp = ap (λ (y : View). y.stamp) x_is in record {
+    tree = one_tree ∙ sym tree_same;
+    seen = later-goes_on other_later;
+    stamp = omega arith;
+  }
 
   mine : HasItsCalls (face_as token who.number refused)
   mine = has_its_calls x who.number l.sound (later_view.who_is ∙ p.pass.caller.mine) none
@@ -109,8 +104,7 @@ module _ (who : Caller) (n token : TokenFace) (refused : Option Full)
       (sym (ap noted_number note.of_pass)) note.calls
 
   meet_here : MeetEnds (pass_face who refused) (note_face n) who refused token
-  meet_here =
-      let up : x.stamp ≡ max v.stamp n.view.stamp = ap (λ (y : View). y.stamp) x_is in
+  meet_here = let up : x.stamp ≡ max v.stamp n.view.stamp = ap (λ (y : View). y.stamp) x_is in
       record {
         pass = pass_with_later who token refused p later_view none;
         seen = record {
@@ -131,3 +125,85 @@ module _ (who : Caller) (n token : TokenFace) (refused : Option Full)
   meet_ends old other as_old as_other =
       subst (λ (o : PassFace). MeetEnds o other who refused token) as_old
       (subst (λ (o : PassFace). MeetEnds (pass_face who refused) o who refused token) as_other meet_here)
+
+-- ---- what is frozen below the anchor: what was met there as it is, or the target of a rebuild. Serves
+-- `freeze_below`.
+
+-- what was met as it is
+pub still_frozen : (a c : Caller) (words : ℕ) (frozen : Frozen) → HasMet a c (Still frozen)
+    → Freezes a c words record { frozen = frozen; refused = None }
+still_frozen a c words frozen m = record {
+  on = m.on;
+  frozen = m.is.0;
+  done = λ unrefused. m.done;
+  rebuilt = λ row e. absurd (m.is.1 row e);
+  refused = tt;
+  few = few_still a c frozen.keys m.few;
+}
+
+-- the target of a rebuild that was met, and finished
+pub target_frozen : (a b c : Caller) (words rebuild target : ℕ) (outcome : FreezeOutcome)
+    → HasMet a b (Rebuilt rebuild target) → FreezesTarget b c words rebuild target outcome
+    → Freezes a c words outcome
+target_frozen a b c words rebuild target outcome m f = record {
+  on = all;
+  frozen = was_frozen_on v.start v.words v.log m.is.1.at w.log w.log lawful m.is.1.since same_log
+      outcome.frozen
+      (row_was_frozen v.start v.words m.is.1.at w.log lawful
+      (goes_on_more m.is.1.until (later_by-goes_on f.on.gone.went.later)) outcome.frozen target
+      m.is.1.child f.root_is
+      (subst (λ t. IsFinishedWith t target outcome.frozen.keys)
+      (went_now Rebuilds v w all.gone.went)
+      f.finished));
+  done = λ unrefused first done. subst (StartsDoneSince first (now w)) m.on.gone.number
+      (f.done unrefused first
+      (subst (λ n. StartsDoneBut first (now b.token.view) n rebuild) (sym m.on.gone.number)
+      (m.done first done)));
+  rebuilt = λ row e. subst (λ n. IsRebuiltIn v w words n outcome.refused)
+      (cc (sym (ap ref_meant f.root_is) ∙ e))
+      record {
+        rebuild = rebuild;
+        of = rebuild_on Rebuilds b.token.view c.token.view f.on.gone.went rebuild target m.is.0;
+        replaced = f.replaced;
+        short = its outcome.refused f.refused;
+      };
+  refused = cause outcome.refused f.refused;
+  few = few_helped a b c outcome.refused outcome.frozen.keys m.on f.on m.few f.few;
+}
+  where
+    top : (full : Full) → IsHelpShort c.token.view rebuild words full
+        → IsTopShort a.token.view c.token.view words full
+    top full h = record {
+      rebuild = rebuild;
+      target = target;
+      of = rebuild_on Rebuilds b.token.view c.token.view f.on.gone.went rebuild target m.is.0;
+      top = record {
+        at = m.is.1.at;
+        since = m.is.1.since;
+        until = goes_on_more m.is.1.until (later_by-goes_on f.on.gone.went.later);
+        child = m.is.1.child;
+      };
+      help = h;
+    }
+
+    cause : (o : Option Full) → IfSome o (IsHelpShort c.token.view rebuild words)
+        → IfSome o (IsTopShort a.token.view c.token.view words)
+    cause None h = tt
+    cause (Some full) h = top full h
+
+    its : (o : Option Full) → IfSome o (IsHelpShort c.token.view rebuild words)
+        → IfSome o (IsTargetShort a.token.view c.token.view words target rebuild)
+    its None h = tt
+    its (Some full) h = record { top = top full h; row_is = refl; rebuild_is = refl }
+
+    v : View
+    v = a.token.view
+
+    w : View
+    w = c.token.view
+
+    all : StaysReady Rebuilds a c
+    all = ready_more Rebuilds a b c m.on f.on
+
+    lawful : Lawful v.start v.words w.log
+    lawful = went_lawful Rebuilds v w all.gone.went

@@ -1,14 +1,10 @@
 -- A new tree, and its first words. Serves `open_over`.
 use Rattle.std.proofs.Common.{◌≡◌, ◌≤◌, ℕ, List, false, [], ◌∙◌, refl, sym, ap, subst}
 use Rattle.ist_core.specs.declared.pairs.Pair.{Pair}
-use Rattle.ist_core.specs.StartLayout.{start}
+use Rattle.ist_core.specs.WordTerms.{start}
+use Rattle.ist_rule.specs.RuleTerms.{TableFace, TokenFace, opened_view, HasImage, IsNewMaker}
 use Rattle.ist_rule.specs.declared.view.View.{View}
-use Rattle.ist_rule.specs.Faces.{TableFace, TokenFace}
-use Rattle.ist_rule.specs.Rule.{opened_view}
-use Rattle.ist_rule.specs.Seating.{HasImage, IsNewMaker}
-use Rattle.ist_tree.specs.Faces.{TreeFace, MakerFace}
-use Rattle.ist_tree.specs.Insides.{maker_face}
-use Rattle.ist_tree.specs.Opening.{HasWords, IsNewTree, words_for}
+use Rattle.ist_tree.specs.CallTerms.{TreeFace, MakerFace, maker_face, HasWords, IsNewTree, words_for}
 
 module _ (law : (v : View) → IsNewMaker v → HasImage v (start v.start v.words)) where
   -- until a maker makes its first pass, the words are the image of the pairs of its tree

@@ -3,29 +3,21 @@ use Rattle.std.proofs.Common.{◌≡◌, ◌≢◌, ℕ, ◌+◌, ◌≤◌, len
 use Rattle.ist_core.specs.declared.commands.Command.{Command}
 use Rattle.ist_core.specs.declared.commands.Command.TheVariants.{Get, Put, Remove}
 use Rattle.ist_core.specs.declared.ports.Full.{Full}
-use Rattle.ist_core.specs.Logs.{Log}
-use Rattle.ist_core.specs.Replies.{Refused, refusal}
+use Rattle.ist_core.specs.LogTerms.{Log, Refused, refusal}
 use Rattle.ist_rule.proofs.LaterLemmas.{goes_on_more}
 use Rattle.laws_calls.specs.Finishing.{puts_in}
-use Rattle.ist_core.specs.Changes.{changes_of}
+use Rattle.ist_core.specs.TreeTerms.{changes_of}
 use Rattle.ist_updates.specs.Asking.{command_for}
 use Rattle.ist_tree.proofs.HeardLemmas.{seen_more_then, seen_same}
-use Rattle.ist_tree.specs.Calls.{HasSeenMore}
-use Rattle.ist_tree.specs.Faces.{PassFace, TreeFace}
-use Rattle.ist_tree.specs.Insides.{IsPort}
-use Rattle.ist_tree.specs.Updates.{IsTurnedAway}
-use Rattle.ist_tree.specs.Refusals.{IsAskedIn, IsForSomeNode, IsRefused, IsRefusedCall, MayBeAsked, PassWasRefused, for_leaf, for_pair, for_put, for_rebuild, for_remove}
-use Rattle.ist_rows.specs.Shortage.{LeavesTooFew}
-use Rattle.ist_tree.proofs.AskedLemmas.{puts_rise}
-use Rattle.ist_tree.proofs.ShortLemmas.{left_same}
+use Rattle.ist_tree.specs.CallTerms.{HasSeenMore, PassFace, TreeFace, IsPort, IsTurnedAway, IsAskedIn, IsForSomeNode, IsRefused, IsRefusedCall, MayBeAsked, PassWasRefused, for_leaf, for_pair, for_put, for_rebuild, for_remove}
+use Rattle.ist_rows.specs.RowTerms.{LeavesTooFew}
+use Rattle.ist_tree.proofs.ShortLemmas.{puts_rise, left_same}
 
 -- the size of a node is still one for a pass that has seen more
 node_more : (p q : PassFace) (asked : ℕ) → HasSeenMore p q → IsForSomeNode p asked
     → IsForSomeNode q asked
-node_more p q asked m n =
-    let rise = puts_rise p.tree.start p.tree.words p.seen q.seen m.seen in
-    let most = n.most in
-    record {
+node_more p q asked m n = let rise = puts_rise p.tree.start p.tree.words p.seen q.seen m.seen in
+    let most = n.most in record {
       some = n.some;
       least = n.least;
       most =
@@ -38,28 +30,26 @@ node_more p q asked m n =
 left_in : {A B : ℕ → Type 0} (p q : PassFace) {at : Log} (full : Full) → HasSeenMore p q
     → LeavesTooFew A p.tree.start p.tree.words at full → (A full.asked → B full.asked)
     → LeavesTooFew B q.tree.start q.tree.words at full
-left_in p q full m l to =
-    left_same full (ap (λ (t : TreeFace). t.start) (sym m.tree))
+left_in p q full m l to = left_same full (ap (λ (t : TreeFace). t.start) (sym m.tree))
     (ap (λ (t : TreeFace). t.words) (sym m.tree)) l to
 
 -- a refusal that was met before was met by a pass that has seen more
 pub refused_more : (p q : PassFace) (said : Refused) → HasSeenMore p q → PassWasRefused p said
     → PassWasRefused q said
-refused_more p q said m r =
-    record {
-      update = r.update;
-      at = r.at;
-      until = goes_on_more r.until m.seen;
-      left = left_in p q said.full m r.left
-          (⊎_elim (λ a. inl a)
-          (λ b. inr (⊎_elim (λ a. inl a)
-          (λ c. inr (⊎_elim (λ a. inl a) (λ n. inr (node_more p q said.full.asked m n)) c)) b)));
-      began = r.began;
-      ended = r.ended;
-      call = r.call;
-      later = seen_more_then r.ended p q r.later m;
-      cause = r.cause;
-    }
+refused_more p q said m r = record {
+  update = r.update;
+  at = r.at;
+  until = goes_on_more r.until m.seen;
+  left = left_in p q said.full m r.left
+      (⊎_elim (λ a. inl a)
+      (λ b. inr (⊎_elim (λ a. inl a)
+      (λ c. inr (⊎_elim (λ a. inl a) (λ n. inr (node_more p q said.full.asked m n)) c)) b)));
+  began = r.began;
+  ended = r.ended;
+  call = r.call;
+  later = seen_more_then r.ended p q r.later m;
+  cause = r.cause;
+}
 
 -- what was asked for in a call
 asked_then : (p q : PassFace) (at : Log) (key : ℕ) (value : Option ℕ) (asked : ℕ)
@@ -75,18 +65,17 @@ asked_then p q at key value asked (for_rebuild met way a help) =
 pub refused_now : (p q : PassFace) (key : ℕ) (value : Option ℕ) (command : Command) (full : Full)
     → HasSeenMore p q → ((k : ℕ) → command ≢ Get k) → command ≡ command_for key value
     → IsRefused p q key value full → PassWasRefused q (refusal command full)
-refused_now p q key value command full m update is r =
-    record {
-      update = update;
-      at = r.at;
-      until = r.until;
-      left = left_in p q full m r.left (asked_then p q r.at key value full.asked);
-      began = p;
-      ended = q;
-      call = m;
-      later = seen_same q;
-      cause = record { key = key; value = value; command_is = is; cause = r };
-    }
+refused_now p q key value command full m update is r = record {
+  update = update;
+  at = r.at;
+  until = r.until;
+  left = left_in p q full m r.left (asked_then p q r.at key value full.asked);
+  began = p;
+  ended = q;
+  call = m;
+  later = seen_same q;
+  cause = record { key = key; value = value; command_is = is; cause = r };
+}
 
 -- a put and a remove are no get
 pub put_no_get : (key value k : ℕ) → Put key value ≢ Get k
@@ -99,8 +88,7 @@ remove_no_get key k e = cc
 -- a port whose pass has seen more is one still
 pub port_more : (tree : TreeFace) (p q : PassFace) (said : Option Refused) → HasSeenMore p q
     → IsPort tree p said → IsPort tree q said
-port_more tree p q said m i =
-    record { same_tree = m.tree ∙ i.same_tree; cause = keep said i.cause }
+port_more tree p q said m i = record { same_tree = m.tree ∙ i.same_tree; cause = keep said i.cause }
   where
     keep : (o : Option Refused) → IfSome o (PassWasRefused p) → IfSome o (PassWasRefused q)
     keep None c = c

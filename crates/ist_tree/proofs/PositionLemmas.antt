@@ -7,10 +7,9 @@ use Rattle.std.proofs.lemmas.Bool.{false≢true}
 use Rattle.ist_core.specs.declared.calls.Call.{Call}
 use Rattle.ist_core.specs.declared.commands.Command.{Command}
 use Rattle.ist_core.specs.declared.commands.Command.TheVariants.{Get}
-use Rattle.ist_core.specs.Map.{map_of, key_of}
-use Rattle.ist_core.specs.Logs.{Log}
-use Rattle.ist_core.specs.Changes.{changes_of, map_at}
 use Rattle.ist_core.specs.declared.pairs.Pair.{Pair}
+use Rattle.ist_core.specs.TreeTerms.{map_of, key_of, changes_of, map_at}
+use Rattle.ist_core.specs.LogTerms.{Log}
 use Rattle.laws_histories.specs.Loads.{log_at}
 use Rattle.laws_histories.specs.Searching.{HasPosition}
 use Rattle.ist_rule.specs.declared.view.View.{View}
@@ -43,8 +42,7 @@ first_or_more test from more last false is low t rest =
     let above : from + 1 ≤ last =
     ⊎_elim (λ e. absurd (false≢true (sym is ∙ ap test e ∙ t))) (λ lt. lt)
     (at_or_above from last low) in
-    let it = rest above in
-    let least = it.low in
+    let it = rest above in let least = it.low in
     record { low = omega arith; high = it.high; passes = it.passes }
 
 -- if a number passes the test, the first that passes is no greater
@@ -98,21 +96,17 @@ pub record IsPlace (pairs : List Pair) (words : ℕ) (earlier log : Log) (key : 
     (value : Option ℕ) (position : ℕ) : Type 0 where
   pub from : length (changes_of pairs words earlier) ≤ position
   pub to : position ≤ length (changes_of pairs words log)
-  pub value_is : value
-      ≡ fin.get (map_at (map_of pairs) (changes_of pairs words log) position) key
+  pub value_is : value ≡ fin.get (map_at (map_of pairs) (changes_of pairs words log) position) key
 
 -- if there is such a position, the first is one
 pub first_place : (pairs : List Pair) (words : ℕ) (earlier log : Log) (key : ℕ) (value : Option ℕ)
     → HasPosition pairs words earlier log key value
     → IsPlace pairs words earlier log key value (position_of pairs words earlier log key value)
-first_place pairs words earlier log key value h =
-    let from = h.from in
-    let to = h.to in
+first_place pairs words earlier log key value h = let from = h.from in let to = h.to in
     let first = first_is (has_value pairs words log key value)
     (length (changes_of pairs words earlier)) (length (changes_of pairs words log) + 1)
     h.position from (omega arith) (same_reply_of value _ h.value_is) in
-    let high = first.high in
-    record {
+    let high = first.high in record {
       from = first.low;
       to = omega arith;
       value_is = reply_is_same value _ first.passes;
@@ -128,15 +122,12 @@ command_in None = Get 0
 -- the call that the view may end with this reply: at the first position at which it is right
 abbrev pub call_in : View → Option Pending → Option ℕ → Call
 call_in v None reply = record { command = Get 0; reply = reply; position = 0; stamp = 0 }
-call_in v (Some pending) reply =
-    let command = command_in pending.command in
-    record {
-      command = command;
-      reply = reply;
-      position = position_of v.start v.words (log_at v.log pending.length) v.log (key_of command)
-          reply;
-      stamp = v.stamp + 1;
-    }
+call_in v (Some pending) reply = let command = command_in pending.command in record {
+  command = command;
+  reply = reply;
+  position = position_of v.start v.words (log_at v.log pending.length) v.log (key_of command) reply;
+  stamp = v.stamp + 1;
+}
 
 -- the call with which a get ends
 abbrev pub found_call : View → Option ℕ → Call

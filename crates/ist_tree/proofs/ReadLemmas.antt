@@ -1,20 +1,21 @@
 -- A pass that began a read, in no call of its own, and then made only loads. Serves `span` and `sweep`.
-use Rattle.std.proofs.Common.{◌≡◌, ◌+◌, ◌∷◌, Option, None, refl, ap, ◌∙◌, subst, sym, arith}
+use Rattle.std.proofs.Common.{◌≡◌, ◌+◌, ◌∷◌, Option, None, refl, ap, ◌∙◌, subst, sym, arith, ℕ, ◌≤◌}
 use Rattle.ist_core.specs.declared.ports.Full.{Full}
-use Rattle.ist_core.specs.Authors.{Later}
+use Rattle.ist_core.specs.declared.pairs.Pair.{Pair}
+use Rattle.ist_core.specs.LogTerms.{Later}
 use Rattle.laws_real_time.specs.declared.moments.Deed.TheVariants.{Begins, GivesUp}
+use Rattle.ist_rule.specs.RuleTerms.{TokenFace, GoesOnTo, TurnedAt, moment_seen, beginning_read, MomentsGoOn, number_of, one_moment, same_moments, now}
 use Rattle.ist_rule.specs.declared.view.View.{View}
-use Rattle.ist_rule.specs.Faces.{TokenFace}
-use Rattle.ist_rule.specs.Learning.{GoesOnTo, TurnedAt, moment_seen, beginning_read}
-use Rattle.ist_rule.specs.Speaking.{MomentsGoOn, number_of, one_moment, same_moments}
 use Rattle.ist_rule.proofs.LaterLemmas.{later-goes_on, later_more}
 use Rattle.ist_rule.proofs.SpeakLemmas.{later_goes_on}
 use Rattle.ist_rows.specs.declared.callers.Caller.{Caller}
-use Rattle.ist_tree.specs.Calls.{HasSeenMore}
-use Rattle.ist_tree.specs.Faces.{PassFace}
-use Rattle.ist_tree.specs.Insides.{IsPassWith, face_as, pass_face}
-use Rattle.ist_tree.specs.RealTime.{StepsIn}
+use Rattle.ist_tree.specs.CallTerms.{HasSeenMore, PassFace, IsPassWith, face_as, pass_face, StepsIn}
 use Rattle.ist_tree.proofs.GoingLemmas.{IsLaterView, pass_with_later}
+use Rattle.ist_core.proofs.AllLogLemmas.{goes_on_length}
+use Rattle.laws_histories.specs.Searching.{HasPosition}
+use Rattle.ist_find.specs.Searches.{HasBegunSearch}
+use Rattle.ist_find.specs.Spans.{pair_value, HasFewSpanLoads, EndAtEdges}
+use Rattle.ist_tree.specs.Spans.{AllHave, HasLoadedFewOver, state_seen}
 
 module _ (who : Caller) (refused : Option Full) (b : View) (token : TokenFace)
     (all : IsPassWith who refused) (turned : TurnedAt who.token.view (beginning_read who.token.view) b)
@@ -36,31 +37,27 @@ module _ (who : Caller) (refused : Option Full) (b : View) (token : TokenFace)
     loads = w.loads;
     loaded = w.loaded;
   }
-  w_is =
-      on.same ∙ ap (λ (y : View). record y { log = w.log; loads = w.loads; loaded = w.loaded })
+  w_is = on.same ∙ ap (λ (y : View). record y { log = w.log; loads = w.loads; loaded = w.loaded })
       turned.view
 
   -- others made the events
   pub read_later : Later v.who v.log w.log
-  read_later =
-      later_more turned.later
+  read_later = later_more turned.later
       (subst (λ a. Later a b.log w.log) (ap (λ (y : View). y.who) turned.view) on.later)
 
   -- it is the view of the same caller, later
   pub read_view : IsLaterView v w
-  read_view =
-      record {
-        who_is = ap (λ (y : View). y.who) w_is;
-        start_is = ap (λ (y : View). y.start) w_is;
-        words_is = ap (λ (y : View). y.words) w_is;
-        later = read_later;
-        sound = on.sound;
-      }
+  read_view = record {
+    who_is = ap (λ (y : View). y.who) w_is;
+    start_is = ap (λ (y : View). y.start) w_is;
+    words_is = ap (λ (y : View). y.words) w_is;
+    later = read_later;
+    sound = on.sound;
+  }
 
   -- it is a pass still
   pub read_pass : IsPassWith (record who { token = token }) refused
-  read_pass =
-      pass_with_later who token refused all read_view
+  read_pass = pass_with_later who token refused all read_view
       (ap (λ (y : View). y.pending) w_is ∙ all.pass.in_none)
 
   -- whose calls are the same
@@ -80,35 +77,95 @@ module _ (who : Caller) (refused : Option Full) (b : View) (token : TokenFace)
   read_began = ap (λ (y : View). y.loaded) turned.view
 
   w_heard : MomentsGoOn (moment_seen v b.log (Begins None) ∷ turned.before) w.moments
-  w_heard =
-      subst (MomentsGoOn (moment_seen v b.log (Begins None) ∷ turned.before))
+  w_heard = subst (MomentsGoOn (moment_seen v b.log (Begins None) ∷ turned.before))
       (sym (ap (λ (y : View). y.moments) w_is))
       (one_moment (moment_seen v b.log GivesUp) same_moments)
 
   -- it has seen more
   pub read_seen : HasSeenMore (pass_face who refused) following
-  read_seen =
-      let stamps = read_stamp in
-      record {
-        tree = ap (λ (y : View). record { table = y.table; start = y.start; words = y.words }) w_is;
-        number = refl;
-        seen = later-goes_on read_later;
-        heard = subst (MomentsGoOn v.moments) (sym (ap (λ (y : View). y.moments) w_is))
-            (one_moment (moment_seen v b.log GivesUp)
-            (one_moment (moment_seen v b.log (Begins None)) (later_goes_on turned.since)));
-        stamp = omega arith;
-      }
+  read_seen = let stamps = read_stamp in record {
+    tree = ap (λ (y : View). record { table = y.table; start = y.start; words = y.words }) w_is;
+    number = refl;
+    seen = later-goes_on read_later;
+    heard = subst (MomentsGoOn v.moments) (sym (ap (λ (y : View). y.moments) w_is))
+        (one_moment (moment_seen v b.log GivesUp)
+        (one_moment (moment_seen v b.log (Begins None)) (later_goes_on turned.since)));
+    stamp = omega arith;
+  }
 
   -- since a step in this call
   pub read_step : StepsIn (pass_face who refused) following b.log
-  read_step =
-      record {
-        before = turned.before;
-        since = later_goes_on turned.since;
-        step = moment_seen v b.log (Begins None);
-        step_by = ap number_of all.pass.caller.mine;
-        heard = w_heard;
-        seen = later-goes_on turned.later;
-        until = later-goes_on on.later;
-        placed = turned.placed;
-      }
+  read_step = record {
+    before = turned.before;
+    since = later_goes_on turned.since;
+    step = moment_seen v b.log (Begins None);
+    step_by = ap number_of all.pass.caller.mine;
+    heard = w_heard;
+    seen = later-goes_on turned.later;
+    until = later-goes_on on.later;
+    placed = turned.placed;
+  }
+
+-- ---- a pass that searched, in no call of its own. Serves `span`.
+
+-- what it results in, for a pass with this face
+pub record SpanEnds (old : PassFace) (who : Caller) (refused : Option Full) (token : TokenFace)
+    (key first last : ℕ) (pair : Option Pair) : Type 0 where
+  pub pass : IsPassWith (record who { token = token }) refused
+  pub seen : HasSeenMore old (face_as token who.number refused)
+  pub values : AllHave old (face_as token who.number refused) first last pair
+  pub calls : token.view.calls ≡ old.calls
+  pub stamp : token.view.stamp ≡ old.stamp
+  pub edges : EndAtEdges (state_seen (face_as token who.number refused)) first last
+  pub loads : HasLoadedFewOver old (face_as token who.number refused) key (pair_value pair key)
+
+-- a read begins with a search that was begun
+pub read_begun : (v b : View) → TurnedAt v (beginning_read v) b → HasBegunSearch b
+read_begun v b t = ap (λ (y : View). y.loads.since) t.view
+
+-- a search for a range ends so
+pub span_ends : (who : Caller) (refused : Option Full) (b : View) (token : TokenFace)
+    → IsPassWith who refused → TurnedAt who.token.view (beginning_read who.token.view) b
+    → GoesOnTo b token.view → (key first last : ℕ) (pair : Option Pair)
+    → HasFewSpanLoads b token.view key (pair_value pair key)
+    → EndAtEdges (now token.view) first last → ((k : ℕ) → first ≤ k → k ≤ last → HasPosition token.view.start token.view.words
+    b.log token.view.log k (pair_value pair k))
+    → (old : PassFace) → pass_face who refused ≡ old → SpanEnds old who refused token key first last pair
+span_ends who refused b token all t g key first last pair few edges values old view =
+    subst (λ (o : PassFace). SpanEnds o who refused token key first last pair) view from
+  where
+    v : View
+    v = who.token.view
+
+    w : View
+    w = token.view
+
+    from : SpanEnds (pass_face who refused) who refused token key first last pair
+    from = let later = read_view who refused b token all t g in
+        let one = read_began who refused b token all t g in
+        let begun = g.since ∙ read_begun v b t in
+        let long = goes_on_length (later-goes_on t.later) in let little = few.few in record {
+          pass = read_pass who refused b token all t g;
+          seen = read_seen who refused b token all t g;
+          values = record {
+            at = b.log;
+            step = read_step who refused b token all t g;
+            values = λ k low high.
+                subst (λ p. HasPosition p v.words b.log w.log k (pair_value pair k)) later.start_is
+                (subst (λ n. HasPosition w.start n b.log w.log k (pair_value pair k)) later.words_is
+                (values k low high));
+          };
+          calls = read_calls who refused b token all t g;
+          stamp = read_stamp who refused b token all t g;
+          edges = edges;
+          loads = record {
+            once = read_once who refused b token all t g;
+            began = w.loads.since;
+            since = omega arith;
+            node = few.node;
+            searched = few.found.searched;
+            rows = few.rows;
+            chain = few.chain;
+            few = omega arith;
+          };
+        }

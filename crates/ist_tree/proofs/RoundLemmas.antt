@@ -5,29 +5,24 @@ use Rattle.std.proofs.Math.Nat.{le_trans}
 use Rattle.ist_core.specs.declared.commands.Command.{Command}
 use Rattle.ist_core.specs.declared.events.Event.TheVariants.{Count, Install}
 use Rattle.ist_core.specs.declared.ports.Full.{Full}
-use Rattle.ist_core.specs.Lawful.{Lawful, state_of}
-use Rattle.ist_core.specs.Logs.{GoesOn, Log, same_log}
-use Rattle.ist_core.specs.StartLayout.{start}
+use Rattle.ist_core.specs.LogTerms.{Lawful, state_of, GoesOn, Log, same_log}
+use Rattle.ist_core.specs.WordTerms.{start}
 use Rattle.laws_histories.proofs.ChangeLemmas.{changes_rise}
 use Rattle.laws_histories.proofs.DecisionLemmas.{prefixes}
-use Rattle.ist_rule.specs.Speaking.{MomentsGoOn}
+use Rattle.ist_rule.specs.RuleTerms.{MomentsGoOn}
 use Rattle.ist_rule.proofs.LaterLemmas.{goes_on_more}
 use Rattle.ist_rule.proofs.SpeakLemmas.{go_on_more}
 use Rattle.ist_rebuild.specs.Starting.{StartsNone}
-use Rattle.ist_tree.specs.Calls.{AddsCall, HasSeenMore}
+use Rattle.ist_tree.specs.CallTerms.{AddsCall, HasSeenMore, CameDue, CountsNowhere, HasCountedInCall, IsTopmostDue, LeavesNoneDue, StartsOnlyDue, is_closed, none_came, was_refused, PassFace, IsRefused, IsRowRefused, KeepsRowRefusal, HasLetGo, HasNoEffect}
 use Rattle.ist_updates.specs.Counting.{CountedNowhere}
-use Rattle.ist_tree.specs.DueRows.{CameDue, CountsNowhere, HasCountedInCall, IsTopmostDue, LeavesNoneDue, StartsOnlyDue, is_closed, none_came, was_refused}
 use Rattle.laws_real_time.specs.Moments.{Moments}
-use Rattle.ist_tree.specs.Faces.{PassFace}
-use Rattle.ist_tree.specs.Refusals.{IsRefused, IsRowRefused, KeepsRowRefusal}
-use Rattle.ist_tree.specs.Rounds.{HasLetGo, HasNoEffect}
 use Rattle.ist_tree.proofs.RowAtLimitLemmas.{whole_or_before}
 use Rattle.ist_tree.proofs.CountedLemmas.{counted_more}
 use Rattle.ist_tree.proofs.HeardLemmas.{seen_more_then, seen_same}
 use Rattle.ist_tree.proofs.InstallLemmas.{due_more, not_before}
-use Rattle.ist_tree.proofs.StartLemmas.{starts_none_more}
+use Rattle.ist_tree.proofs.GoingLemmas.{starts_none_more}
 use Rattle.ist_tree.proofs.UpdateKeptLemmas.{not_yes_before}
-use Rattle.ist_tree.proofs.RoundRefusalLemmas.{keeps_since, let_go_at, refused_since, row_since}
+use Rattle.ist_tree.proofs.LoadingLemmas.{keeps_since, let_go_at, refused_since, row_since}
 
 module _ (p : PassFace) (seen : Log) (loaded searches : ℕ) (moments : Moments) (g : GoesOn p.seen seen) (q : PassFace) where
   -- the pass between the two parts
@@ -38,54 +33,51 @@ module _ (p : PassFace) (seen : Log) (loaded searches : ℕ) (moments : Moments)
 
   adds_since : MomentsGoOn p.moments moments → (command : Command) (reply : Option ℕ)
       → AddsCall m q command reply → AddsCall p q command reply
-  adds_since heard command reply a =
-      record {
-        call = a.call;
-        command_is = a.command_is;
-        reply_is = a.reply_is;
-        stamp_is = a.stamp_is;
-        calls_are = a.calls_are;
-        timed = record {
-          tried = a.timed.tried;
-          goes_on = go_on_more p.moments moments a.timed.tried heard a.timed.goes_on;
-          unreturned = a.timed.unreturned;
-          returns = a.timed.returns;
-        };
-        added = record {
-          has_calls = a.added.has_calls;
-          fresh = record {
-            position = le_trans (changes_rise (start p.tree.start p.tree.words) p.seen seen g)
-                a.added.fresh.position;
-            later = a.added.fresh.later;
-          };
-        };
-        learnt = λ other l h. a.learnt other
-            record { tree = l.tree; seen = goes_on_more l.seen g; stamp = l.stamp } h;
-      }
+  adds_since heard command reply a = record {
+    call = a.call;
+    command_is = a.command_is;
+    reply_is = a.reply_is;
+    stamp_is = a.stamp_is;
+    calls_are = a.calls_are;
+    timed = record {
+      tried = a.timed.tried;
+      goes_on = go_on_more p.moments moments a.timed.tried heard a.timed.goes_on;
+      unreturned = a.timed.unreturned;
+      returns = a.timed.returns;
+    };
+    added = record {
+      has_calls = a.added.has_calls;
+      fresh = record {
+        position = le_trans (changes_rise (start p.tree.start p.tree.words) p.seen seen g)
+            a.added.fresh.position;
+        later = a.added.fresh.later;
+      };
+    };
+    learnt = λ other l h. a.learnt other
+        record { tree = l.tree; seen = goes_on_more l.seen g; stamp = l.stamp } h;
+  }
 
   counted_since : Lawful p.tree.start p.tree.words seen → (command : Command)
       → HasCountedInCall m q command → HasCountedInCall p q command
-  counted_since lawful command c =
-      record {
-        base = c.base;
-        change = c.change;
-        published = c.published;
-        owned = c.owned;
-        command_is = c.command_is;
-        decision = c.decision;
-        since = not_yes_before p.tree.start p.tree.words p.seen seen g lawful.enabled c.base c.since;
-        rows = c.rows;
-        chain = c.chain;
-        counted = λ row i. let it = c.counted row i in
-            record { at = it.at; since = goes_on_more g it.since; until = it.until };
-      }
+  counted_since lawful command c = record {
+    base = c.base;
+    change = c.change;
+    published = c.published;
+    owned = c.owned;
+    command_is = c.command_is;
+    decision = c.decision;
+    since = not_yes_before p.tree.start p.tree.words p.seen seen g lawful.enabled c.base c.since;
+    rows = c.rows;
+    chain = c.chain;
+    counted = λ row i. let it = c.counted row i in
+        record { at = it.at; since = goes_on_more g it.since; until = it.until };
+  }
 
   -- ---- rows that reached their limits
 
   module _ (none : (row : ℕ) → ¬ (CameDue p m row)) (longer : GoesOn seen q.seen) where
     came_then : (row : ℕ) → CameDue p q row → CameDue m q row
-    came_then row c =
-        ⊎_elim (λ before. absurd (none row (early before)))
+    came_then row c = ⊎_elim (λ before. absurd (none row (early before)))
         (λ since. ⊎_elim
         (λ whole. absurd (none row (early (subst (GoesOn (Count p.number row ∷ c.at)) (sym whole) same_log))))
         (λ on. record {
@@ -100,36 +92,33 @@ module _ (p : PassFace) (seen : Log) (loaded searches : ℕ) (moments : Moments)
         (prefixes _ _ _ c.until longer)
       where
         early : GoesOn (Count p.number row ∷ c.at) seen → CameDue p m row
-        early before =
-            record {
-              at = c.at;
-              since = c.since;
-              until = before;
-              row = c.row;
-              published = c.published;
-              reached = c.reached;
-            }
-
-    came_since : (row : ℕ) → CameDue m q row → CameDue p q row
-    came_since row c =
-        record {
+        early before = record {
           at = c.at;
-          since = goes_on_more g c.since;
-          until = c.until;
+          since = c.since;
+          until = before;
           row = c.row;
           published = c.published;
           reached = c.reached;
         }
 
+    came_since : (row : ℕ) → CameDue m q row → CameDue p q row
+    came_since row c = record {
+      at = c.at;
+      since = goes_on_more g c.since;
+      until = c.until;
+      row = c.row;
+      published = c.published;
+      reached = c.reached;
+    }
+
     none_since : ((row : ℕ) → ¬ (CameDue m q row)) → (row : ℕ) → ¬ (CameDue p q row)
     none_since quiet row c = quiet row (came_then row c)
 
     top_since : (row : ℕ) → IsTopmostDue m q row → IsTopmostDue p q row
-    top_since row t =
-        record {
-          came = came_since row t.came;
-          above = λ other c. t.above other (came_then other c);
-        }
+    top_since row t = record {
+      came = came_since row t.came;
+      above = λ other c. t.above other (came_then other c);
+    }
 
     due_since : Lawful p.tree.start p.tree.words seen → LeavesNoneDue m q → LeavesNoneDue p q
     due_since lawful (none_came quiet) = none_came (none_since quiet)
@@ -149,8 +138,7 @@ module _ (p m : PassFace) (h : HasLetGo p m) where
 
   -- the pass differs by its log, its loads and its walks only
   pub is_let_go : m ≡ let_go_at p m.seen m.loaded m.searches m.moments
-  is_let_go =
-      ap (λ t. record m { tree = t }) h.idle.seen.tree
+  is_let_go = ap (λ t. record m { tree = t }) h.idle.seen.tree
       ∙ ap (λ n. record m { tree = p.tree; number = n }) h.idle.seen.number
       ∙ ap (λ n. record m { tree = p.tree; number = p.number; stamp = n }) h.stamp
       ∙ ap (λ calls. record m { tree = p.tree; number = p.number; stamp = p.stamp; calls = calls })
@@ -182,16 +170,14 @@ module _ (p m : PassFace) (h : HasLetGo p m) where
     -- what the second part counted is counted since the first part
     pub counted_from : Lawful m.tree.start m.tree.words m.seen → (command : Command)
         → HasCountedInCall m q command → HasCountedInCall p q command
-    counted_from lawful command c =
-        counted_since p m.seen m.loaded m.searches m.moments g q
+    counted_from lawful command c = counted_since p m.seen m.loaded m.searches m.moments g q
         (back (λ (x : PassFace). Lawful x.tree.start x.tree.words m.seen) lawful) command
         (back (λ (x : PassFace). HasCountedInCall x q command) c)
 
     -- if the second part leaves no row due, none is left due since the first part
     pub due_from : Lawful m.tree.start m.tree.words m.seen → GoesOn m.seen q.seen
         → LeavesNoneDue m q → LeavesNoneDue p q
-    due_from lawful longer d =
-        due_since p m.seen m.loaded m.searches m.moments g q none longer
+    due_from lawful longer d = due_since p m.seen m.loaded m.searches m.moments g q none longer
         (back (λ (x : PassFace). Lawful x.tree.start x.tree.words m.seen) lawful) (back (λ (x : PassFace). LeavesNoneDue x q) d)
 
     -- rebuilds started since the first part were of rows at their limits
@@ -202,72 +188,65 @@ module _ (p m : PassFace) (h : HasLetGo p m) where
     -- a refusal in the second part is one since the first part
     pub refused_from : Lawful m.tree.start m.tree.words m.seen → (key : ℕ) (value : Option ℕ)
         (full : Full) → IsRefused m q key value full → IsRefused p q key value full
-    refused_from lawful key value full r =
-        refused_since p m.seen m.loaded m.searches m.moments g q
+    refused_from lawful key value full r = refused_since p m.seen m.loaded m.searches m.moments g q
         (back (λ (x : PassFace). Lawful x.tree.start x.tree.words m.seen) lawful) key value full
         (back (λ (x : PassFace). IsRefused x q key value full) r)
 
     -- a refusal of a rebuild is kept since the first part
     pub keeps_from : Lawful m.tree.start m.tree.words m.seen → KeepsRowRefusal m q
         → KeepsRowRefusal p q
-    keeps_from lawful k =
-        keeps_since p m.seen m.loaded m.searches m.moments g q
+    keeps_from lawful k = keeps_since p m.seen m.loaded m.searches m.moments g q
         (back (λ (x : PassFace). Lawful x.tree.start x.tree.words m.seen) lawful)
         (back (λ (x : PassFace). KeepsRowRefusal x q) k)
 
     -- a refusal to rebuild a row in the second part is one since the first part
     pub row_from : Lawful m.tree.start m.tree.words m.seen → (row : ℕ) (full : Full)
         → IsRowRefused m q row full → IsRowRefused p q row full
-    row_from lawful row full r =
-        row_since p m.seen m.loaded m.searches m.moments g q
+    row_from lawful row full r = row_since p m.seen m.loaded m.searches m.moments g q
         (back (λ (x : PassFace). Lawful x.tree.start x.tree.words m.seen) lawful) row full
         (back (λ (x : PassFace). IsRowRefused x q row full) r)
 
     -- if the second part counted nowhere, nothing was counted since the first part
     pub nowhere_from : GoesOn m.seen q.seen → CountsNowhere m q → CountsNowhere p q
-    nowhere_from longer none =
-        counted_more p.number p.seen m.seen q.seen longer h.idle.uncounted
+    nowhere_from longer none = counted_more p.number p.seen m.seen q.seen longer h.idle.uncounted
         (subst (λ n. CountedNowhere m.seen q.seen n) h.idle.seen.number none)
 
     -- what had no effect had none since the beginning
     pub idle_from : HasNoEffect m q → HasNoEffect p q
-    idle_from i =
-        record {
-          seen = seen_from i.seen;
-          refused = i.refused ∙ h.idle.refused;
-          none_came = none_since p m.seen m.loaded m.searches m.moments g q none i.seen.seen
-              (back (λ (x : PassFace). (row : ℕ) → ¬ (CameDue x q row)) i.none_came);
-          uncounted = nowhere_from i.seen.seen i.uncounted;
-          starts = starts_from i.seen.seen i.starts;
-          unstarted = starts_none_more (state_of p.tree.start p.tree.words p.seen)
-              (state_of m.tree.start m.tree.words m.seen)
-              (state_of q.tree.start q.tree.words q.seen) p.number h.idle.unstarted
-              (subst (StartsNone (state_of m.tree.start m.tree.words m.seen)
-              (state_of q.tree.start q.tree.words q.seen)) h.idle.seen.number i.unstarted);
-        }
+    idle_from i = record {
+      seen = seen_from i.seen;
+      refused = i.refused ∙ h.idle.refused;
+      none_came = none_since p m.seen m.loaded m.searches m.moments g q none i.seen.seen
+          (back (λ (x : PassFace). (row : ℕ) → ¬ (CameDue x q row)) i.none_came);
+      uncounted = nowhere_from i.seen.seen i.uncounted;
+      starts = starts_from i.seen.seen i.starts;
+      unstarted = starts_none_more (state_of p.tree.start p.tree.words p.seen)
+          (state_of m.tree.start m.tree.words m.seen)
+          (state_of q.tree.start q.tree.words q.seen) p.number h.idle.unstarted
+          (subst (StartsNone (state_of m.tree.start m.tree.words m.seen)
+          (state_of q.tree.start q.tree.words q.seen)) h.idle.seen.number i.unstarted);
+    }
 
     -- if the second part is given up too, nothing took effect since the first part
     pub let_go_from : HasLetGo m q → HasLetGo p q
-    let_go_from l =
-        record {
-          idle = idle_from l.idle;
-          calls = l.calls ∙ h.calls;
-          stamp = l.stamp ∙ h.stamp;
-        }
+    let_go_from l = record {
+      idle = idle_from l.idle;
+      calls = l.calls ∙ h.calls;
+      stamp = l.stamp ∙ h.stamp;
+    }
 
 -- a pass that did nothing has let go
 pub let_go_none : (p : PassFace) → HasLetGo p p
-let_go_none p =
-    record {
-      idle = record {
-        seen = seen_same p;
-        refused = refl;
-        none_came = λ row c. not_before p.tree.start p.tree.words p.number (Count p.number row) p.seen c.at c.since c.until;
-        uncounted = λ row c. not_before p.tree.start p.tree.words p.number (Count p.number row) p.seen c.at c.since c.until;
-        starts = λ at base rows change since until is kind.
-            absurd (not_before p.tree.start p.tree.words p.number (Install p.number base rows) p.seen at since until);
-        unstarted = λ base change e own kind said. e;
-      };
-      calls = refl;
-      stamp = refl;
-    }
+let_go_none p = record {
+  idle = record {
+    seen = seen_same p;
+    refused = refl;
+    none_came = λ row c. not_before p.tree.start p.tree.words p.number (Count p.number row) p.seen c.at c.since c.until;
+    uncounted = λ row c. not_before p.tree.start p.tree.words p.number (Count p.number row) p.seen c.at c.since c.until;
+    starts = λ at base rows change since until is kind.
+        absurd (not_before p.tree.start p.tree.words p.number (Install p.number base rows) p.seen at since until);
+    unstarted = λ base change e own kind said. e;
+  };
+  calls = refl;
+  stamp = refl;
+}

@@ -4,25 +4,18 @@ use Rattle.std.proofs.Common.{◌≡◌, ℕ, ◌⊎◌, List, [], ◌∷◌, �
 use Rattle.ist_core.specs.declared.events.Event.{Event}
 use Rattle.ist_core.specs.declared.events.Event.TheVariants.{Count}
 use Rattle.ist_core.specs.declared.pairs.Pair.{Pair}
-use Rattle.ist_core.specs.Authors.{GoesOnBy, no_more, one_more}
-use Rattle.ist_core.specs.Elements.{Among}
-use Rattle.ist_core.specs.Lawful.{CanOpen, EachEnabled, Lawful, state_of}
-use Rattle.ist_core.specs.Links.{Chain, IsChild, WasOnChain, no_row, one_row}
-use Rattle.ist_core.specs.Logs.{Ever, GoesOn, Log, one_event, same_log}
-use Rattle.ist_core.specs.RowLayout.{anchor}
-use Rattle.ist_core.specs.Slots.{anchor_is}
-use Rattle.ist_core.specs.Snapshots.{Snapshot}
-use Rattle.ist_core.specs.StartLayout.{start}
-use Rattle.ist_core.proofs.ElementLemmas.{among-append, among_left, among_right}
-use Rattle.ist_core.proofs.FateLemmas.{enabled_before}
-use Rattle.ist_core.proofs.MentionLemmas.{one_parent}
-use Rattle.ist_core.proofs.PrefixLemmas.{ever_from, ever_now}
+use Rattle.ist_core.specs.LogTerms.{GoesOnBy, no_more, one_more, Among, CanOpen, EachEnabled, Lawful, state_of, Ever, GoesOn, Log, one_event, same_log, Snapshot}
+use Rattle.ist_core.specs.TreeTerms.{Chain, IsChild, WasOnChain, no_row, one_row}
+use Rattle.ist_core.specs.WordTerms.{anchor, anchor_is, start}
+use Rattle.ist_core.proofs.AllWordLemmas.{among-append, among_left, among_right}
+use Rattle.ist_core.proofs.AllLogLemmas.{enabled_before, ever_from, ever_now}
+use Rattle.ist_core.proofs.AllPlaceLemmas.{one_parent}
 use Rattle.laws_calls.specs.Settling.{CountsNothing, DueRowsAreClosed, HasClosedAbove, MadeDue, due_before, due_now}
-use Rattle.laws_calls.proofs.DoneLemmas.{closed_above_stays}
+use Rattle.laws_calls.proofs.ClosedLemmas.{closed_above_stays}
 use Rattle.laws_stability.proofs.LaterLemmas.{ever_later}
 use Rattle.ist_rule.proofs.LaterLemmas.{goes_on_length, goes_on_more}
 use Rattle.ist_updates.specs.Counting.{CameToLimit}
-use Rattle.ist_tree.specs.Working.{IsShut}
+use Rattle.ist_tree.specs.CallTerms.{IsShut}
 use Rattle.laws_histories.proofs.DecisionLemmas.{prefixes}
 
 -- ---- prefixes
@@ -38,8 +31,7 @@ pub event_since : (P : Event → Type 0) (event : Event) (w at : Log) (x : Log) 
     → GoesOn (event ∷ at) x → GoesOn (event ∷ at) w ⊎ P event
 event_since P event w at _ no_more on = inl on
 event_since P event w at _ (one_more {log = log} other later p) on =
-    ⊎_elim (λ e. inr (subst P (cc) p))
-    (λ more. event_since P event w at log later more)
+    ⊎_elim (λ e. inr (subst P (cc) p)) (λ more. event_since P event w at log later more)
     (whole_or_before (event ∷ at) other log on)
 
 -- a prefix of a log with one event more that doesn't have that event is one of the log
@@ -56,44 +48,39 @@ module _ (pairs : List Pair) (words number : ℕ) where
   pub came_within : (earlier before log longer : Log) → GoesOn earlier before → GoesOn log longer
       → (node : ℕ) → CameToLimit pairs words before log number node
       → CameToLimit pairs words earlier longer number node
-  came_within earlier before log longer g h node c =
-      record {
-        at = c.at;
-        since = goes_on_more g c.since;
-        until = goes_on_more c.until h;
-        row = c.row;
-        published = c.published;
-        reached = c.reached;
-      }
+  came_within earlier before log longer g h node c = record {
+    at = c.at;
+    since = goes_on_more g c.since;
+    until = goes_on_more c.until h;
+    row = c.row;
+    published = c.published;
+    reached = c.reached;
+  }
 
   -- and the other way round, if nothing was counted before and after
   pub came_inside : (P Q : Event → Type 0) → ((event : Event) → P event → CountsNothing number event)
       → ((event : Event) → Q event → CountsNothing number event)
       → (earlier before log longer : Log) → GoesOnBy P earlier before → GoesOn before log
-      → GoesOnBy Q log longer
-      → (node : ℕ) → CameToLimit pairs words earlier longer number node
+      → GoesOnBy Q log longer → (node : ℕ) → CameToLimit pairs words earlier longer number node
       → CameToLimit pairs words before log number node
-  came_inside P Q none nothing earlier before log longer g on h node c =
-      record {
-        at = c.at;
-        since = begun (prefixes _ _ _ inside on);
-        until = inside;
-        row = c.row;
-        published = c.published;
-        reached = c.reached;
-      }
+  came_inside P Q none nothing earlier before log longer g on h node c = record {
+    at = c.at;
+    since = begun (prefixes _ _ _ inside on);
+    until = inside;
+    row = c.row;
+    published = c.published;
+    reached = c.reached;
+  }
     where
       inside : GoesOn (Count number node ∷ c.at) log
-      inside =
-          ⊎_elim (λ k. k) (λ q. absurd (nothing (Count number node) q node (refl, refl)))
+      inside = ⊎_elim (λ k. k) (λ q. absurd (nothing (Count number node) q node (refl, refl)))
           (event_since Q (Count number node) log c.at longer h c.until)
 
       low : GoesOn earlier c.at → GoesOn (Count number node ∷ c.at) earlier → ⊥
       low a b = let x = goes_on_length a in let y = goes_on_length b in omega arith
 
       later : GoesOn (Count number node ∷ c.at) before → ⊥
-      later k =
-          ⊎_elim (λ e. low c.since e) (λ p. none (Count number node) p node (refl, refl))
+      later k = ⊎_elim (λ e. low c.since e) (λ p. none (Count number node) p node (refl, refl))
           (event_since P (Count number node) earlier c.at before g k)
 
       begun : GoesOn (Count number node ∷ c.at) before ⊎ GoesOn before (Count number node ∷ c.at)
@@ -121,17 +108,15 @@ module _ (pairs : List Pair) (words number : ℕ) where
           ⊎ CameToLimit pairs words earlier log number node)
           → MadeDue (start pairs words) number node earlier
           ⊎ CameToLimit pairs words earlier (event ∷ log) number node
-      at _ (due_now row e reached) before =
-          inr record {
-            at = log;
-            since = on;
-            until = same_log;
-            row = row;
-            published = e;
-            reached = reached;
-          }
-      at event (due_before _ m) before =
-          ⊎_elim (λ k. inl k) (λ c. inr (more event c)) (before m)
+      at _ (due_now row e reached) before = inr record {
+        at = log;
+        since = on;
+        until = same_log;
+        row = row;
+        published = e;
+        reached = reached;
+      }
+      at event (due_before _ m) before = ⊎_elim (λ k. inl k) (λ c. inr (more event c)) (before m)
 
   -- so all rows that were made due have a closed row above, if each that reached its limit since
   -- has one
@@ -140,8 +125,7 @@ module _ (pairs : List Pair) (words number : ℕ) where
       → HasClosedAbove (start pairs words) log node)
       → DueRowsAreClosed (start pairs words) earlier number
       → DueRowsAreClosed (start pairs words) log number
-  due_since earlier log l on came closed node made =
-      ⊎_elim
+  due_since earlier log l on came closed node made = ⊎_elim
       (λ m. closed_above_stays pairs words l.opens earlier log on l.enabled node (closed node m))
       (came node) (made_or_came earlier log on node made)
 
@@ -160,8 +144,7 @@ module _ (pairs : List Pair) (words : ℕ) (l : CanOpen pairs words) (log : Log)
   same_parent : (m p : Log) → GoesOn m log → GoesOn p log → (a i b j child : ℕ)
       → IsChild (state_of pairs words m) a i child → IsChild (state_of pairs words p) b j child
       → a ≡ b
-  same_parent m p on to a i b j child c d =
-      ⊎_elim
+  same_parent m p on to a i b j child c d = ⊎_elim
       (λ g. (one_parent pairs words l m p g (enabled_before (start pairs words) p log to enabled)
       a i b j child c d).0)
       (λ g. sym (one_parent pairs words l p m g (enabled_before (start pairs words) m log on enabled)
@@ -183,13 +166,11 @@ module _ (pairs : List Pair) (words : ℕ) (l : CanOpen pairs words) (log : Log)
       (among-append row rows (child ∷ []) among)
     where
       at_child : row ≡ child → above ≡ parent
-      at_child e =
-          same_parent m p on to above i parent index child c
+      at_child e = same_parent m p on to above i parent index child c
           (subst (λ n. IsChild (state_of pairs words p) parent index n) e d)
 
       top : above ≡ parent → (parent ≡ anchor) ⊎ Among parent (rows ++ child ∷ [])
-      top e =
-          ⊎_elim (λ a. inl (sym e ∙ a))
+      top e = ⊎_elim (λ a. inl (sym e ∙ a))
           (λ b. inr (among_left parent rows (child ∷ []) (subst (λ n. Among n rows) e b)))
           (on_own_chain (state_of pairs words m) above rows chain)
 
@@ -202,8 +183,7 @@ module _ (pairs : List Pair) (words : ℕ) (l : CanOpen pairs words) (log : Log)
   closed_above node row parent index on_chain child (inr shut) =
       let m = ever_from (start pairs words) (λ t. (rows : List ℕ) × Chain t node rows × Among row
       rows) log on_chain in
-      let p = ever_from (start pairs words) (λ t. IsChild t parent index row) log child in
-      record {
+      let p = ever_from (start pairs words) (λ t. IsChild t parent index row) log child in record {
         row = parent;
         on_chain =
             ever_later (start pairs words) (λ t. (rows : List ℕ) × Chain t node rows × Among parent

@@ -1,101 +1,94 @@
 -- A caller as if it had begun another number of searches, and what it does each time that it begins one.
 -- Serves `look_below` and `freeze`.
-use Rattle.std.proofs.Common.{◌≡◌, ℕ, ◌+◌, ◌-◌, ◌<◌, ◌≤◌, None, Result, IfErr, IsErrAnd, sym, ap, subst, arith}
+use Rattle.std.proofs.Common.{◌≡◌, ℕ, ◌+◌, ◌-◌, ◌<◌, ◌≤◌, None, Result, IfErr, IsErrAnd, sym, ap, subst, arith, ◌*◌, ⊎_elim, List, [], ◌∷◌, length, Option}
 use Rattle.ist_core.specs.declared.events.Event.{Event}
 use Rattle.ist_core.specs.declared.ports.Full.{Full}
-use Rattle.ist_core.proofs.PrefixLemmas.{goes_on_more}
+use Rattle.ist_core.specs.declared.commands.Command.{Command}
+use Rattle.ist_core.proofs.AllLogLemmas.{goes_on_more}
+use Rattle.ist_rule.specs.RuleTerms.{TokenFace, WentOn, Turned, TurnedAt, beginning, searching, IsSound}
 use Rattle.ist_rule.specs.declared.view.View.{View}
-use Rattle.ist_rule.specs.Faces.{TokenFace}
-use Rattle.ist_rule.specs.Going.{WentOn}
-use Rattle.ist_rule.specs.Learning.{Turned, TurnedAt, beginning, searching}
-use Rattle.ist_rule.specs.Rule.{IsSound}
 use Rattle.ist_rule.proofs.LaterLemmas.{later-goes_on}
 use Rattle.ist_rule.proofs.SearchedOnLemmas.{searching_on}
 use Rattle.ist_rule.proofs.WentOnLemmas.{later_by-goes_on}
+use Rattle.ist_rows.specs.RowTerms.{IsReady, StaysReady}
 use Rattle.ist_rows.specs.declared.callers.Caller.{Caller}
-use Rattle.ist_rows.specs.Going.{IsReady, StaysReady}
 use Rattle.ist_rows.proofs.GoneLemmas.{still_ready}
 use Rattle.laws_coming.specs.Further.{CameFurther}
 use Rattle.laws_coming.proofs.FurtherLemmas.{fewer_left}
 use Rattle.laws_stability.specs.Progress.{most_progress, progress}
-use Rattle.laws_stability.proofs.ProgressLemmas.{never_falls}
+use Rattle.laws_stability.proofs.OwnLemmas.{never_falls}
 use Rattle.ist_rebuild.proofs.RefusalLemmas.{passed_on}
 use Rattle.ist_updates.specs.Further.{HasWalkedFew}
-use Rattle.ist_tree.specs.declared.freezing.FreezeOutcome.{FreezeOutcome}
-use Rattle.ist_tree.specs.declared.freezing.Site.{Site}
-use Rattle.ist_tree.specs.FreezeSteps.{Freezes, GoesIdle, HasMet, IsFreezeStopped, counted_as}
-use Rattle.ist_tree.specs.Working.{Rebuilds}
+use Rattle.ist_tree.specs.CallTerms.{FreezeOutcome, Site, Freezes, GoesIdle, HasMet, IsFreezeStopped, counted_as, Rebuilds, BeginsFewWalks, PassFace, changes_seen, BeginsFewRounds, face_as, pass_face}
 use Rattle.ist_tree.proofs.FreezeGoingLemmas.{idle_more, met_more, plain_idle, stopped_more}
-use Rattle.ist_tree.proofs.RebuildLemmas.{load_plain}
+use Rattle.ist_tree.proofs.FurtherLemmas.{load_plain}
+use Rattle.ist_core.specs.LogTerms.{Log}
+use Rattle.laws_stability.proofs.BoundLemmas.{within_words}
+use Rattle.laws_real_time.specs.Moments.{Moments}
+use Rattle.ist_tree.specs.Walks.{GoesInRounds, GoesThrough, OneWalkIsFew, RoundsAddUp, WalksAddUp, last_of}
+use Rattle.ist_tree.proofs.CountedLemmas.{changes_more}
 
 -- ---- another number of searches
 
 -- a view is as sound whatever the number
 sound_counted : (v : View) (n : ℕ) → IsSound v → IsSound (record v { searches = n })
-sound_counted v n s =
-    let m = s.well_made in
-    let t = s.is_true in
-    record {
-      lawful = s.lawful;
-      live = s.live;
-      well_made = record {
-        stands = m.stands;
-        stamps = m.stamps;
-        recalls = m.recalls;
-        in_order = m.in_order;
-        since = m.since;
-        olds = m.olds;
-        taken_stand = m.taken_stand;
-        taken_seen = m.taken_seen;
-        taken_once = m.taken_once;
-        taken_given = m.taken_given;
-        maker_takes = m.maker_takes;
-        in_none = m.in_none;
-        moments = m.moments;
-      };
-      is_true = record {
-        low = t.low;
-        made = t.made;
-        idle = t.idle;
-        fresh = t.fresh;
-        call = t.call;
-        taken = t.taken;
-      };
-    }
+sound_counted v n s = let m = s.well_made in let t = s.is_true in record {
+  lawful = s.lawful;
+  live = s.live;
+  well_made = record {
+    stands = m.stands;
+    stamps = m.stamps;
+    recalls = m.recalls;
+    in_order = m.in_order;
+    since = m.since;
+    olds = m.olds;
+    taken_stand = m.taken_stand;
+    taken_seen = m.taken_seen;
+    taken_once = m.taken_once;
+    taken_given = m.taken_given;
+    maker_takes = m.maker_takes;
+    in_none = m.in_none;
+    moments = m.moments;
+  };
+  is_true = record {
+    low = t.low;
+    made = t.made;
+    idle = t.idle;
+    fresh = t.fresh;
+    call = t.call;
+    taken = t.taken;
+  };
+}
 
 -- a call begins in the same way
 pub turned_counted : (v b : View) (n : ℕ) → TurnedAt v (beginning v None) b
     → TurnedAt v (beginning (record v { searches = n }) None) (record b { searches = n })
-turned_counted v b n t =
-    record {
-      later = t.later;
-      before = t.before;
-      since = t.since;
-      placed = t.placed;
-      view = ap (λ (y : View). record y { searches = n }) t.view;
-      sound = sound_counted b n t.sound;
-    }
+turned_counted v b n t = record {
+  later = t.later;
+  before = t.before;
+  since = t.since;
+  placed = t.placed;
+  view = ap (λ (y : View). record y { searches = n }) t.view;
+  sound = sound_counted b n t.sound;
+}
 
 -- a caller is as ready
 pub ready_counted : (who : Caller) (n : ℕ) → IsReady who → IsReady (counted_as who n)
-ready_counted who n r =
-    record {
-      caller = record { mine = r.caller.mine; rows = r.caller.rows; builds = r.caller.builds };
-      refused = r.refused;
-      quiet = record {
-        pending = r.quiet.pending;
-        in_call = r.quiet.in_call;
-        resolved = r.quiet.resolved;
-      };
-    }
+ready_counted who n r = record {
+  caller = record { mine = r.caller.mine; rows = r.caller.rows; builds = r.caller.builds };
+  refused = r.refused;
+  quiet = record {
+    pending = r.quiet.pending;
+    in_call = r.quiet.in_call;
+    resolved = r.quiet.resolved;
+  };
+}
 
 -- and goes on in the same way
 idle_counted : (a b : Caller) (n : ℕ) → GoesIdle (counted_as a b.token.view.searches) b
     → GoesIdle (counted_as a n) (counted_as b n)
-idle_counted a b n g =
-    let ready = ready_counted b n (still_ready g.on) in
-    let went = g.on.gone.went in
-    record {
+idle_counted a b n g = let ready = ready_counted b n (still_ready g.on) in
+    let went = g.on.gone.went in record {
       on = record {
         gone = record {
           caller = ready.caller;
@@ -121,8 +114,7 @@ idle_counted a b n g =
 pub idle_begun : (a b : Caller) (token : TokenFace) → GoesIdle (counted_as a b.token.view.searches) b
     → Turned b.token.view (searching b.token.view) token.view
     → GoesIdle (counted_as a token.view.searches) (record b { token = token })
-idle_begun a b token g t =
-    let n = token.view.searches in
+idle_begun a b token g t = let n = token.view.searches in
     idle_more (counted_as a n) (counted_as b n) (record b { token = token }) (idle_counted a b n g)
     (plain_idle (λ event. ⊥) load_plain (counted_as b n) token (ready_counted b n (still_ready g.on))
     (searching_on (λ event. ⊥) b.token.view token.view t).went)
@@ -162,8 +154,7 @@ module _ (a : Caller) {b : Caller} {token : TokenFace} (i : GoesIdle (counted_as
     -- what it meets it meets from the beginning on
     pub look_met : {site : Site} → HasMet there c site
         → HasMet (counted_as a c.token.view.searches) c site
-    look_met {site} m =
-        subst (λ n. HasMet (counted_as a n) c site) (none_begun there c m.on)
+    look_met {site} m = subst (λ n. HasMet (counted_as a n) c site) (none_begun there c m.on)
         (met_more (counted_as a token.view.searches) there c site begun.on begun.done begun.few m)
 
     -- so is a refusal one from the beginning on
@@ -177,8 +168,7 @@ module _ (a : Caller) {b : Caller} {token : TokenFace} (i : GoesIdle (counted_as
 
     -- few searches began
     pub look_few : StaysReady Rebuilds there c → HasWalkedFew a.token.view c.token.view
-    look_few on =
-        let is = one in let paid = i.1 in let none = none_begun there c on in
+    look_few on = let is = one in let paid = i.1 in let none = none_begun there c on in
         let more = never_falls b.token.view.log c.token.view.log (goes_on_more (later-goes_on t.later)
         (later_by-goes_on on.gone.went.later)) in
         omega arith
@@ -188,8 +178,7 @@ module _ (a : Caller) {b : Caller} {token : TokenFace} (i : GoesIdle (counted_as
         → GoesIdle (counted_as a c.token.view.searches) c
         × (c.token.view.searches + progress a.token.view.log
         ≤ a.token.view.searches + progress c.token.view.log)
-    look_on idle k =
-        let is = one in let paid = i.1 in let none = none_begun there c idle.on in
+    look_on idle k = let is = one in let paid = i.1 in let none = none_begun there c idle.on in
         let rise = never_falls b.token.view.log token.view.log (later-goes_on t.later) in
         let more = k.more in (
           subst (λ n. GoesIdle (counted_as a n) c) none
@@ -212,5 +201,56 @@ pub few_after : (P : Event → Type 0) (u w x : View) → HasWalkedFew u w → W
     → HasWalkedFew u x
 few_after P u w x few g =
     let none : x.searches ≡ w.searches = ap (λ (y : View). y.searches) g.same in
-    let more = never_falls w.log x.log (later_by-goes_on g.later) in
+    let more = never_falls w.log x.log (later_by-goes_on g.later) in omega arith
+
+-- ---- how many walks a put or a remove begins. Serves `update`.
+
+-- the begin and the end of a call begin no walk
+pub walks_end : (who began new : Caller) (token : TokenFace) (command : Option Command)
+    (turn : Log → Moments → View) (r q : Option Full) (old : PassFace)
+    → TurnedAt who.token.view (beginning who.token.view command) began.token.view
+    → HasWalkedFew began.token.view new.token.view → TurnedAt new.token.view turn token.view
+    → token.view.searches ≡ new.token.view.searches → pass_face who r ≡ old
+    → BeginsFewWalks old (face_as token new.number q)
+walks_end who began new token command turn r q old begun few ended same view =
+    let first : began.token.view.searches ≡ who.token.view.searches =
+    ap (λ (y : View). y.searches) begun.view in
+    let before = never_falls who.token.view.log began.token.view.log (later-goes_on begun.later) in
+    let after = never_falls new.token.view.log token.view.log (later-goes_on ended.later) in
+    let here : BeginsFewWalks (pass_face who r) (face_as token new.number q) = omega arith in
+    subst (λ (o : PassFace). BeginsFewWalks o (face_as token new.number q)) view here
+
+-- the walks of calls one after another
+walks_sum : (p : PassFace) (steps : List PassFace) → GoesThrough p steps
+    → (last_of p steps).searches + progress p.seen
+    ≤ p.searches + length steps + progress (last_of p steps).seen
+walks_sum p [] through = omega arith
+walks_sum p (q ∷ more) through = let first = through.0 in let rest = walks_sum q more through.1 in
+    omega arith
+
+-- and progress is bounded
+pub walks_bounded : WalksAddUp
+walks_bounded p steps through lawful = let all = walks_sum p steps through in
+    let q = last_of p steps in
+    let most = within_words q.tree.start q.tree.words lawful.opens q.seen lawful.enabled in
+    omega arith
+
+-- one walk is few
+pub one_walk_is_few : OneWalkIsFew
+one_walk_is_few p q more one = let rise = never_falls p.seen q.seen more.seen in omega arith
+
+-- the walks of calls one after another, of which each may begin rounds
+rounds_sum : (p : PassFace) (steps : List PassFace) → GoesInRounds p steps
+    → (last_of p steps).searches + (progress p.seen + 2 * length (changes_seen p))
+    ≤ p.searches + 2 * length steps
+    + (progress (last_of p steps).seen + 2 * length (changes_seen (last_of p steps)))
+rounds_sum p [] through = omega arith
+rounds_sum p (q ∷ more) through = let rise = changes_more p q through.0 in
+    let first : BeginsFewRounds p q = ⊎_elim (λ few. omega arith) (λ few. few) through.1 in
+    let rest = rounds_sum q more through.2 in omega arith
+
+pub rounds_bounded : RoundsAddUp
+rounds_bounded p steps through lawful = let all = rounds_sum p steps through in
+    let q = last_of p steps in
+    let most = within_words q.tree.start q.tree.words lawful.opens q.seen lawful.enabled in
     omega arith

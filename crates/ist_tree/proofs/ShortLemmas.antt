@@ -1,38 +1,40 @@
 -- Starts and helps that were refused because too few words were left. Serves `rebuild_due` and
 -- `freeze`.
-use Rattle.std.proofs.Common.{◌≡◌, ℕ, ◌+◌, ◌<◌, List, Option, Some, sym, ap, ◌∙◌, subst}
-use Rattle.std.specs.Prelude.{IfSome}
+use Rattle.std.proofs.Common.{◌≡◌, ℕ, ◌+◌, ◌<◌, List, Option, Some, sym, ap, ◌∙◌, subst, ◌≤◌, length, filter, arith, length-append, Result, Ok, Err}
+use Rattle.std.specs.Prelude.{IfSome, OnOk}
 use Rattle.ist_core.specs.declared.events.Event.{Event}
 use Rattle.ist_core.specs.declared.pairs.Pair.{Pair}
 use Rattle.ist_core.specs.declared.ports.Full.{Full}
-use Rattle.ist_core.specs.Growing.{AllGrow}
-use Rattle.ist_core.specs.Logs.{Log}
-use Rattle.ist_core.specs.References.{RebuildAt, ref_of}
-use Rattle.ist_core.specs.Shown.{shown_next}
-use Rattle.ist_core.specs.Slots.{SlotHolds, past_change}
-use Rattle.ist_core.specs.Snapshots.{Snapshot}
-use Rattle.ist_core.specs.Spending.{spent}
-use Rattle.ist_core.proofs.GrowingLemmas.{rebuild_there}
-use Rattle.ist_core.proofs.NamingLemmas.{IsRebuildFor, SlotNames, slot_names}
-use Rattle.ist_core.proofs.OrderLemmas.{names}
+use Rattle.ist_core.specs.TreeTerms.{AllGrow, Entry, changes_of, IsFinishedWith}
+use Rattle.ist_core.specs.LogTerms.{Log, shown_next, Snapshot, spent, state_of, GoesOn}
+use Rattle.ist_core.specs.WordTerms.{RebuildAt, ref_of, SlotHolds, past_change, start, anchor}
+use Rattle.ist_core.proofs.AllLogLemmas.{rebuild_there, words_are_spent}
+use Rattle.ist_core.proofs.AllPlaceLemmas.{IsRebuildFor, SlotNames, slot_names, names}
 use Rattle.laws_links.proofs.FinishedLemmas.{target_grows}
-use Rattle.laws_links.proofs.FormLemmas.{replaced_grows, started_grows}
+use Rattle.laws_links.proofs.FormLemmas.{replaced_grows, started_grows, finished_with_grows}
 use Rattle.laws_links.proofs.RebuiltLemmas.{read_unreplaced}
-use Rattle.ist_rule.specs.Going.{WentOn}
-use Rattle.ist_rule.proofs.WentOnLemmas.{went_grow}
-use Rattle.ist_core.proofs.SpendingLemmas.{words_are_spent}
+use Rattle.ist_rule.specs.RuleTerms.{WentOn, now, IsSound, TokenFace, number_of, GoesOnTo, TurnedAt, beginning_read}
 use Rattle.ist_rule.specs.declared.view.View.{View}
-use Rattle.ist_rule.specs.Learning.{now}
-use Rattle.ist_rule.specs.Rule.{IsSound}
+use Rattle.ist_rule.proofs.WentOnLemmas.{went_grow}
 use Rattle.ist_rebuild.specs.Going.{Begins, ServesRebuild}
-use Rattle.ist_rows.specs.Shortage.{LeavesTooFew, RanShort}
+use Rattle.ist_rows.specs.RowTerms.{LeavesTooFew, RanShort, IsCaller}
+use Rattle.ist_rows.specs.declared.callers.Caller.{Caller}
 use Rattle.ist_rows.proofs.ShortLemmas.{left_as}
-use Rattle.ist_rebuild.specs.Helping.{IsHelpRefused}
-use Rattle.ist_rebuild.specs.Lacking.{LacksNow}
+use Rattle.ist_rebuild.specs.Helping.{IsHelpRefused, IsAskedFor, for_change, for_node}
+use Rattle.ist_rebuild.specs.Lacking.{LacksNow, LacksRow}
 use Rattle.ist_rebuild.specs.Starting.{IsStartRefused, IsStartedAt, StoodInstead}
 use Rattle.ist_updates.specs.declared.updates.Due.{Due}
-use Rattle.ist_tree.specs.Working.{IsAskedToRebuild, IsDueRefused, IsInDueSlot, for_other, for_own, for_start}
-use Rattle.ist_tree.proofs.HelpedRebuildLemmas.{other_started}
+use Rattle.ist_tree.specs.Working.{for_other, for_own, for_start}
+use Rattle.ist_tree.specs.CallTerms.{IsAskedToRebuild, IsDueRefused, IsInDueSlot, HeldInnerRow, face_as, LackedAt, HasSeenMore, PassFace, IsPassWith, pass_face}
+use Rattle.ist_tree.proofs.FurtherLemmas.{other_started}
+use Rattle.std.proofs.lemmas.List.Elements.{filter-append}
+use Rattle.laws_calls.specs.Finishing.{is_put, puts_in}
+use Rattle.laws_histories.proofs.ChangeLemmas.{changes_on}
+use Rattle.ist_rule.proofs.LaterLemmas.{goes_on_more}
+use Rattle.ist_tree.proofs.GoingLemmas.{IsLaterView}
+use Rattle.ist_find.specs.Sweeps.{Swept, SweptBetween}
+use Rattle.ist_tree.specs.Sweeps.{HasSweptOver}
+use Rattle.ist_tree.proofs.ReadLemmas.{read_began, read_calls, read_once, read_pass, read_seen, read_stamp, read_step, read_view}
 
 -- ---- too few words
 
@@ -40,8 +42,7 @@ use Rattle.ist_tree.proofs.HelpedRebuildLemmas.{other_started}
 pub short_now : (P : Event → Type 0) {A B : ℕ → Type 0} (v : View) (words : ℕ) (full : Full)
     (w : View) → RanShort (WentOn P) A v words full w → (A full.asked → B full.asked)
     → LeavesTooFew B w.start words w.log full
-short_now P v words full w s to =
-    left_as full
+short_now P v words full w s to = left_as full
     record {
       next_is = s.looked.stood (now w).next shown_next
           ∙ words_are_spent w.start w.words w.log s.looked.sound.lawful;
@@ -53,15 +54,14 @@ short_now P v words full w s to =
 abbrev pub left_same : {A B : ℕ → Type 0} {pairs others : List Pair} {words more : ℕ} {at : Log}
     (full : Full) → pairs ≡ others → words ≡ more → LeavesTooFew A pairs words at full
     → (A full.asked → B full.asked) → LeavesTooFew B others more at full
-left_same {at = at} full start all l to =
-    record {
-      next_is = l.next_is ∙ ap (λ p. spent p at) start;
-      few = record {
-        words_is = l.few.words_is ∙ all;
-        small = subst (λ n. n < full.next + full.asked) all l.few.small;
-        asked = to l.few.asked;
-      };
-    }
+left_same {at = at} full start all l to = record {
+  next_is = l.next_is ∙ ap (λ p. spent p at) start;
+  few = record {
+    words_is = l.few.words_is ∙ all;
+    small = subst (λ n. n < full.next + full.asked) all l.few.small;
+    asked = to l.few.asked;
+  };
+}
 
 -- a start was refused
 pub start_refused : (s : Snapshot) (v : View) (due : Due) (words : ℕ) (full : Full) (w : View)
@@ -73,8 +73,7 @@ start_refused s v due words full w r lacks =
 pub own_refused : (s : Snapshot) (v w : View) (rebuild : ℕ) (due : Due) (words : ℕ) (full : Full)
     → IsStartedAt (now v) rebuild due.parent due.index due.target → WentOn ServesRebuild v w
     → IsHelpRefused v rebuild words full w → IsDueRefused s w due words full
-own_refused s v w rebuild due words full at went r =
-    let grow = went_grow ServesRebuild v w went in
+own_refused s v w rebuild due words full at went r = let grow = went_grow ServesRebuild v w went in
     short_now ServesRebuild v words full w r
     (for_own rebuild (started_grows (now v) (now w) grow rebuild at.started)
     (target_grows (now v) (now w) grow rebuild due.target
@@ -84,8 +83,7 @@ own_refused s v w rebuild due words full at went r =
 pub due_slot_grows : (t u : Snapshot) → AllGrow t.pieces u.pieces → (rebuild : ℕ) (due : Due)
     → IsInDueSlot t rebuild due → IsInDueSlot u rebuild due
 due_slot_grows t u grow rebuild due b =
-    let it = rebuild_there t.pieces u.pieces grow rebuild b.site b.published in
-    record {
+    let it = rebuild_there t.pieces u.pieces grow rebuild b.site b.published in record {
       site = it.0;
       published = it.1;
       parent_is = it.2.parent ∙ b.parent_is;
@@ -119,8 +117,7 @@ other_refused v w s due word rebuild words full stood is went r =
     }))
   where
     named : IsRebuildFor (now v).pieces due.parent due.index rebuild
-    named =
-        subst (SlotNames (now v).pieces due.parent due.index) is
+    named = subst (SlotNames (now v).pieces due.parent due.index) is
         (slot_names (now v) due.parent due.index word
         (names v.start v.words s.lawful.opens v.log s.lawful.enabled) stood.holds)
 
@@ -141,3 +138,114 @@ due_refused_more s t grow w due words full d = left_as full d asked
 -- what is true of a value, if there is one, is true of the value that there is
 pub some_is : {A : Type 0} (o : Option A) (a : A) (P : A → Type 0) → o ≡ Some a → IfSome o P → P a
 some_is o a P is h = subst (λ o. IfSome o P) is h
+
+-- ---- what helping a rebuild asks for stays so as rows grow; what was in the anchor's slot, and how many
+-- puts there were, over longer logs. Serves `apply_in_call` and `freeze`.
+
+-- what helping a rebuild asked for is what it asks for as rows grow
+pub asked_grows : (L M : ℕ → Type 0) (t u : Snapshot) → AllGrow t.pieces u.pieces
+    → (rebuild asked : ℕ) → (L asked → M asked) → IsAskedFor L t rebuild asked
+    → IsAskedFor M u rebuild asked
+asked_grows L M t u grow rebuild asked same (for_change e lacks) = for_change e (same lacks)
+asked_grows L M t u grow rebuild asked same (for_node row k e f node) =
+    let it = rebuild_there t.pieces u.pieces grow rebuild row e in for_node it.0 k it.1
+    (subst (λ n. IsFinishedWith u n k) (sym it.2.target)
+    (finished_with_grows t u grow row.target k f)) node
+
+-- the same of one state
+pub asked_same : (L M : ℕ → Type 0) (t : Snapshot) (rebuild asked : ℕ) → (L asked → M asked)
+    → IsAskedFor L t rebuild asked → IsAskedFor M t rebuild asked
+asked_same L M t rebuild asked same (for_change e lacks) = for_change e (same lacks)
+asked_same L M t rebuild asked same (for_node row k e f node) = for_node row k e f node
+
+-- a row that a caller lacked at the end of its work was lacked then by its pass, whatever others did
+-- since
+pub lacked_then : (new : Caller) (token : TokenFace) → IsCaller new
+    → IsLaterView new.token.view token.view → (q : Option Full) (asked : ℕ)
+    → LacksNow new.token.view asked → LackedAt (face_as token new.number q) new.token.view.log asked
+lacked_then new token c l q asked lacks =
+    subst (λ n. LacksRow (state_of token.view.start n new.token.view.log) new.number asked)
+    (sym l.words_is)
+    (subst (λ pairs. LacksRow (state_of pairs new.token.view.words new.token.view.log) new.number asked)
+    (sym l.start_is)
+    (subst (λ n. LacksRow (now new.token.view) n asked) (ap number_of c.mine) lacks))
+
+-- an inner row that the anchor's slot held between two logs it held between two wider ones
+pub held_on : (pairs : List Pair) (words : ℕ) (a b c d : Log) → GoesOn a b → GoesOn c d
+    → HeldInnerRow pairs words b c → HeldInnerRow pairs words a d
+held_on pairs words a b c d g h k = record {
+  at = k.at;
+  since = goes_on_more g k.since;
+  until = goes_on_more k.until h;
+  row = k.row;
+  holds = k.holds;
+}
+
+-- a longer log has no fewer puts
+pub puts_rise : (pairs : List Pair) (words : ℕ) (earlier log : Log) → GoesOn earlier log
+    → puts_in (changes_of pairs words earlier) ≤ puts_in (changes_of pairs words log)
+puts_rise pairs words earlier log g = let on = changes_on (start pairs words) earlier log g in
+    let same = ap puts_in on.1
+    ∙ ap length (filter-append (λ (e : Entry). is_put e.command) (changes_of pairs words earlier) on.0)
+    ∙ length-append (filter (λ (e : Entry). is_put e.command) (changes_of pairs words earlier))
+    (filter (λ (e : Entry). is_put e.command) on.0) in
+    omega arith
+
+-- ---- a pass that swept a range of keys, in no call of its own. Serves `sweeping`.
+
+-- what it results in, for a pass with this face
+pub record SweepEnds {A E : Type 0} (old : PassFace) (who : Caller) (refused : Option Full)
+    (token : TokenFace) (first last : ℕ) (before after : List Pair) (r : Result A E) : Type 0 where
+  pub pass : IsPassWith (record who { token = token }) refused
+  pub seen : HasSeenMore old (face_as token who.number refused)
+  pub swept : OnOk r (HasSweptOver old (face_as token who.number refused) first last before after)
+  pub once : token.view.searches ≡ old.searches + 1
+  pub calls : token.view.calls ≡ old.calls
+  pub stamp : token.view.stamp ≡ old.stamp
+
+-- a sweep ends so
+pub sweep_ends : {A E : Type 0} (who : Caller) (refused : Option Full) (b : View) (token : TokenFace)
+    → IsPassWith who refused → TurnedAt who.token.view (beginning_read who.token.view) b
+    → GoesOnTo b token.view → (first last : ℕ) (before after : List Pair) (r : Result A E)
+    → OnOk r (SweptBetween b token.view first last before after)
+    → (old : PassFace) → pass_face who refused ≡ old
+    → SweepEnds old who refused token first last before after r
+sweep_ends {A} {E} who refused b token all t g first last before after r swept old view =
+    subst (λ (o : PassFace). SweepEnds o who refused token first last before after r) view from
+  where
+    v : View
+    v = who.token.view
+
+    w : View
+    w = token.view
+
+    over : (s : Result A E) → OnOk s (SweptBetween b w first last before after)
+        → OnOk s (HasSweptOver (pass_face who refused) (face_as token who.number refused) first last
+        before after)
+    over (Err e) h = tt
+    over (Ok x) h = let later = read_view who refused b token all t g in
+        let one = read_began who refused b token all t g in let few = h.few in record {
+          began = b.log;
+          step = read_step who refused b token all t g;
+          once = read_once who refused b token all t g;
+          found = h.found;
+          are = h.are;
+          at = h.at;
+          until = h.until;
+          loads = h.loads;
+          few = omega arith;
+          swept = subst (λ p. Swept p v.words first anchor b.log h.at (last + 1) 0 h.loads h.found)
+              later.start_is
+              (subst (λ n. Swept w.start n first anchor b.log h.at (last + 1) 0 h.loads h.found)
+              later.words_is h.swept);
+        }
+
+    from : SweepEnds (pass_face who refused) who refused token first last before after r
+    from = record {
+      pass = read_pass who refused b token all t g;
+      seen = read_seen who refused b token all t g;
+      swept = over r swept;
+      once = read_once who refused b token all t g;
+      calls = read_calls who refused b token all t g;
+      stamp = read_stamp who refused b token all t g;
+    }

@@ -2,87 +2,69 @@
 use Rattle.std.proofs.Common.{◌≡◌, ℕ, ◌+◌, ◌≤◌, ◌&&◌, ◌||◌, max, not, Bool, true, false, if◌then◌else◌, List, [], ◌∷◌, length, map, filter, is_some, Option, Some, None, refl, sym, ap, ◌∙◌, subst, nat_lt, suc, arith}
 use Rattle.ist_core.specs.declared.lists.HeldRow.{HeldRow}
 use Rattle.ist_core.specs.declared.ports.Full.{Full}
-use Rattle.ist_core.specs.Elements.{Each}
-use Rattle.ist_core.specs.Enabled.{caller_limit}
-use Rattle.ist_core.specs.Histories.{PassCalls}
-use Rattle.ist_core.specs.Logs.{GoesOn, one_event}
 use Rattle.ist_core.specs.declared.events.Event.TheVariants.{Enter}
-use Rattle.ist_rule.specs.declared.view.Taken.{Taken}
-use Rattle.ist_rule.specs.declared.view.View.{View}
 use Rattle.ist_core.specs.declared.events.Who.{Who}
 use Rattle.ist_core.specs.declared.events.Who.TheVariants.{Maker, Caller as CallerOf, Note}
-use Rattle.ist_core.specs.Authors.{IsIdleIn}
-use Rattle.ist_rule.specs.Faces.{TokenFace}
-use Rattle.ist_rule.specs.Rule.{IsSound}
-use Rattle.ist_rule.specs.Speaking.{MomentsGoOn}
-use Rattle.ist_rule.specs.Learning.{now, Looked}
-use Rattle.ist_rule.specs.Seating.{awaits_seat, is_maker, joined, noted_by, plain, split_right, with_taken}
+use Rattle.ist_core.specs.LogTerms.{Each, caller_limit, PassCalls, GoesOn, one_event, IsIdleIn}
+use Rattle.ist_rule.specs.RuleTerms.{TokenFace, IsSound, MomentsGoOn, now, Looked, awaits_seat, is_maker, joined, noted_by, plain, split_right, with_taken}
+use Rattle.ist_rule.specs.declared.view.Taken.{Taken}
+use Rattle.ist_rule.specs.declared.view.View.{View}
 use Rattle.ist_rule.proofs.LaterLemmas.{later-goes_on}
+use Rattle.ist_rows.specs.RowTerms.{spares_of, is_spare, held_by, IsCaller, AreStuck, none_stuck, HasEntered}
 use Rattle.ist_rows.specs.declared.callers.Caller.{Caller}
-use Rattle.ist_rows.specs.Rows.{spares_of, is_spare, held_by, IsCaller}
-use Rattle.ist_rows.specs.Building.{AreStuck, none_stuck}
-use Rattle.ist_rows.specs.Entering.{HasEntered}
-use Rattle.ist_tree.specs.Faces.{TreeFace, PassFace, MakerFace, calls_in, with_back}
-use Rattle.ist_tree.specs.Calls.{MakerHasLearnt, MakerHasSeenMore}
-use Rattle.ist_tree.specs.Insides.{IsPass, IsPassWith, IsMaker, IsMakerWith, IsMakerCounted, HasSettled, IsNote, maker_face, pass_face, taken_pass, tree_of}
-use Rattle.ist_tree.proofs.IdleCallerLemmas.{has_its_calls}
-use Rattle.ist_tree.proofs.SettlingLemmas.{idle_settled}
-use Rattle.ist_tree.proofs.TakenLemmas.{taken_few}
+use Rattle.ist_tree.specs.CallTerms.{TreeFace, PassFace, MakerFace, calls_in, with_back, MakerHasLearnt, MakerHasSeenMore, IsPass, IsPassWith, IsMaker, IsMakerWith, IsMakerCounted, HasSettled, IsNote, maker_face, pass_face, taken_pass, tree_of}
+use Rattle.ist_tree.proofs.GoingLemmas.{has_its_calls, idle_settled}
+use Rattle.ist_tree.proofs.FewChangesLemmas.{taken_few}
 
 -- a caller that holds no row has no build that goes on
 pub new_pass : (who : Caller) → IsCaller who → held_by (now who.token.view) who.number ≡ []
     → who.token.view.pending ≡ None → IsPass who
-new_pass who c holds none =
-    record {
-      caller = c;
-      refused = subst (λ (held : List HeldRow). AreStuck (now who.token.view)
-          (map (λ (h : HeldRow). h.size)
-          (filter (λ (h : HeldRow). not (is_spare (spares_of who) h.base)) held))) (sym holds)
-          none_stuck;
-      in_none = none;
-    }
+new_pass who c holds none = record {
+  caller = c;
+  refused = subst (λ (held : List HeldRow). AreStuck (now who.token.view)
+      (map (λ (h : HeldRow). h.size)
+      (filter (λ (h : HeldRow). not (is_spare (spares_of who) h.base)) held))) (sym holds)
+      none_stuck;
+  in_none = none;
+}
 
 -- a new caller is a pass's caller: it started and made due nothing
 pub new_pass_with : (who : Caller) → IsCaller who → held_by (now who.token.view) who.number ≡ []
     → who.token.view.pending ≡ None → IsSound who.token.view
     → IsIdleIn (CallerOf who.number) who.token.view.log → IsPassWith who None
-new_pass_with who c holds none s idle =
-    record {
-      pass = new_pass who c holds none;
-      settled = λ unrefused.
-          idle_settled who.token.view.start who.token.view.words who.token.view.log s.lawful who.number
-          idle;
-    }
+new_pass_with who c holds none s idle = record {
+  pass = new_pass who c holds none;
+  settled = λ unrefused.
+      idle_settled who.token.view.start who.token.view.words who.token.view.log s.lawful who.number
+      idle;
+}
 
 -- the maker that entered a caller has seen what it had seen
 pub entered_goes_on : (v : View) (number : ℕ) (w : View) → HasEntered v number w
     → GoesOn v.log w.log
-entered_goes_on v number w h =
-    subst (GoesOn v.log) (sym (ap (λ (x : View). x.log) h.view))
+entered_goes_on v number w h = subst (GoesOn v.log) (sym (ap (λ (x : View). x.log) h.view))
     (one_event (Enter number) (later-goes_on h.later))
 
 -- a maker that enters a caller keeps the passes that it took back
 pub entered_maker : (v : View) (number : ℕ) (w : View) (refused : Bool) → HasEntered v number w
     → w.who ≡ Maker → w.given ≡ w.made → IsMakerWith v refused → IsMakerWith w refused
-entered_maker v number w refused h maker given m =
-    record {
-      maker = record { maker = maker; given = given };
-      settled = λ unrefused.
-          subst (λ (x : View). Each (λ (t : Taken). HasSettled x.start x.words t.log t.number) x.taken)
-          (sym h.view) (m.settled unrefused);
-    }
+entered_maker v number w refused h maker given m = record {
+  maker = record { maker = maker; given = given };
+  settled = λ unrefused.
+      subst (λ (x : View). Each (λ (t : Taken). HasSettled x.start x.words t.log t.number) x.taken)
+      (sym h.view) (m.settled unrefused);
+}
 
 -- and counts the new one
 pub entered_counted : (v : View) (number : ℕ) (w : View) (refused : Bool) → HasEntered v number w
     → w.who ≡ Maker → w.made ≡ v.made + 1 → w.given ≡ w.made → (made taken_back : ℕ)
     → IsMakerCounted v refused made taken_back → (more : ℕ) → more ≡ v.made + 1
     → IsMakerCounted w refused more taken_back
-entered_counted v number w refused h maker one given made taken_back m more is =
-    record {
-      with = entered_maker v number w refused h maker given m.with;
-      made_is = is ∙ sym one;
-      taken_is = m.taken_is ∙ sym (ap (λ (x : View). length (map taken_pass x.taken)) h.view);
-    }
+entered_counted v number w refused h maker one given made taken_back m more is = record {
+  with = entered_maker v number w refused h maker given m.with;
+  made_is = is ∙ sym one;
+  taken_is = m.taken_is ∙ sym (ap (λ (x : View). length (map taken_pass x.taken)) h.view);
+}
 
 -- ---- passes that come back
 
@@ -109,8 +91,7 @@ taken_back v w x number word before refused m mine its start_is words_is l =
         given = ap (λ (y : View). y.given) l.view ∙ m.maker.given
             ∙ sym (ap (λ (y : View). y.made) l.view);
       };
-      settled = λ unrefused.
-          let both = none_refused before refused unrefused in
+      settled = λ unrefused. let both = none_refused before refused unrefused in
           subst (λ (y : View). Each (λ (t : Taken). HasSettled y.start y.words t.log t.number) x.taken)
           (sym l.view)
           (subst (Each (λ (t : Taken). HasSettled v.start v.words t.log t.number)) (sym taken_is) (
@@ -140,8 +121,7 @@ back_few v w x number word refused made back m mine l =
       given = ap (λ (y : View). y.given) l.view ∙ m.with.maker.given
           ∙ sym (ap (λ (y : View). y.made) l.view);
     } in
-    let few = taken_few x l.sound maker in
-    let long = back_long v w x number word mine l in
+    let few = taken_few x l.sound maker in let long = back_long v w x number word mine l in
     omega (arith, few.0, few.1, long, m.taken_is)
 
 -- and counts all that it took back
@@ -152,8 +132,7 @@ pub back_counted : {v x : View} (w : View) {number word : ℕ} {before said : Bo
     → Looked (joined v w) 0 word x → said ≡ is_some refused
     → IsMakerCounted x (before || said) made (back + 1)
 back_counted {v} {x} w {number} {word} {before} {said} {refused} m mine its same a b c d l is =
-    let long = back_long v w x number word mine l in
-    record {
+    let long = back_long v w x number word mine l in record {
       with = subst (λ said. IsMakerWith x (before || said)) (sym is)
           (taken_back v w x number word before refused m.with mine its
           (sym a ∙ ap (λ (t : TreeFace). t.start) same ∙ c)
@@ -201,8 +180,7 @@ note_is v number mine =
 -- a note of a pass keeps the pass's calls
 pub new_note : (who : Caller) (w : View) → IsSound who.token.view → IsPass who
     → w ≡ split_right who.token.view → IsNote w
-new_note who w s p is =
-    let v = who.token.view in
+new_note who w s p is = let v = who.token.view in
     subst IsNote (sym (is ∙ note_is v who.number p.caller.mine)) record {
       number = who.number;
       of_pass = refl;
@@ -256,8 +234,7 @@ pub maker_back : (old new : TokenFace) (who : Caller) (word : ℕ)
     → who.token.view.who ≡ CallerOf who.number → GoesOn old.view.log new.view.log
     → MomentsGoOn old.view.moments new.view.moments → {before said : Bool} {refused : Option Full}
     → said ≡ is_some refused → {p : PassFace} → pass_face who refused ≡ p → {m : MakerFace}
-    → maker_face old before ≡ m
-    → MakerHasSeenMore (with_back p m) (maker_face new (before || said))
+    → maker_face old before ≡ m → MakerHasSeenMore (with_back p m) (maker_face new (before || said))
 maker_back old new who word l mine on heard {before} {said} {refused} is {p} pass {m} maker =
     let w = who.token.view in let after = maker_face new (before || said) in
     let back : new.view.taken ≡ with_taken (CallerOf who.number) w.calls w.log old.view.taken =

@@ -1,46 +1,38 @@
 -- What an update knows stays so while its caller rebuilds: its call may end still, and its change
 -- is counted. Serves `update`.
-use Rattle.std.proofs.Common.{◌≡◌, ◌≢◌, ℕ, ◌⊎◌, List, [], ◌∷◌, ◌++◌, Option, Some, sym, ap, ◌∙◌, subst, inl, inr, arith}
+use Rattle.std.proofs.Common.{◌≡◌, ◌≢◌, ℕ, ◌⊎◌, List, [], ◌∷◌, ◌++◌, Option, Some, sym, ap, ◌∙◌, subst, inl, inr, arith, length, refl}
 use Rattle.ist_core.specs.declared.calls.Call.{Call}
 use Rattle.ist_core.specs.declared.commands.Command.{Command}
 use Rattle.ist_core.specs.declared.events.Event.{Event}
 use Rattle.ist_core.specs.declared.events.Event.TheVariants.{Install}
 use Rattle.ist_core.specs.declared.pairs.Pair.{Pair}
 use Rattle.ist_core.specs.declared.states.ChangeRow.{ChangeRow}
-use Rattle.ist_core.specs.Authors.{GoesOnBy, no_more, one_more, whose, LaterBy}
-use Rattle.ist_core.specs.Changes.{command_of}
-use Rattle.ist_core.specs.Deciding.{AllResolvedOf}
-use Rattle.ist_core.specs.Lawful.{EachEnabled, Lawful, state_of}
-use Rattle.ist_core.specs.Logs.{GoesOn, Log}
-use Rattle.ist_core.specs.Pieces.{Change}
-use Rattle.ist_core.specs.Rebuilding.{IsUpdate}
-use Rattle.ist_core.specs.StartLayout.{start}
-use Rattle.ist_core.specs.Writing.{first_change}
-use Rattle.ist_core.specs.Statuses.{decided_yes}
-use Rattle.ist_core.proofs.FateLemmas.{enabled_before, grow_between}
-use Rattle.ist_core.proofs.GrowingLemmas.{change_there}
+use Rattle.ist_core.specs.declared.events.Who.TheVariants.{Caller as CallerOf}
+use Rattle.ist_core.specs.LogTerms.{GoesOnBy, no_more, one_more, whose, LaterBy, EachEnabled, Lawful, state_of, GoesOn, Log, same_log, Later}
+use Rattle.ist_core.specs.TreeTerms.{command_of, AllResolvedOf, IsUpdate, first_change}
+use Rattle.ist_core.specs.WordTerms.{Change, start, decided_yes}
+use Rattle.ist_core.proofs.AllLogLemmas.{enabled_before, grow_between, change_there}
 use Rattle.laws_links.proofs.ComesLemmas.{change_comes}
-use Rattle.laws_links.proofs.OriginLemmas.{ChangeComes, change_was, is_decided, is_installed}
-use Rattle.laws_histories.specs.Calls.{MadeNoEntry}
-use Rattle.laws_histories.proofs.CallLemmas.{stand_on}
+use Rattle.laws_links.proofs.PassLemmas.{ChangeComes, change_was, is_decided, is_installed}
+use Rattle.laws_histories.specs.Calls.{MadeNoEntry, HasCalls}
+use Rattle.laws_histories.proofs.CallLemmas.{stand_on, keep_calls}
 use Rattle.laws_calls.proofs.AcceptedLemmas.{resolved_no_entry}
 use Rattle.laws_calls.specs.Accepting.{NoneAcceptedSince}
+use Rattle.ist_rule.specs.RuleTerms.{CanEnd, IsResolved, WentOn, now, TokenFace, TurnedAt, beginning, IsSound, HasMade}
 use Rattle.ist_rule.specs.declared.view.View.{View}
-use Rattle.ist_core.specs.declared.events.Who.TheVariants.{Caller as CallerOf}
-use Rattle.ist_core.proofs.OptionLemmas.{no_value}
+use Rattle.ist_core.proofs.AllWordLemmas.{no_value}
 use Rattle.ist_core.proofs.CommandLemmas.{command_update}
-use Rattle.ist_rule.specs.Conditions.{CanEnd, IsResolved}
-use Rattle.ist_rule.specs.Going.{WentOn}
-use Rattle.ist_rule.specs.Learning.{now}
-use Rattle.ist_rule.proofs.LaterLemmas.{goes_on_more}
+use Rattle.ist_rule.proofs.LaterLemmas.{goes_on_more, later-goes_on}
 use Rattle.ist_rule.proofs.WentOnLemmas.{later_by-goes_on, went_lawful}
+use Rattle.ist_rows.specs.RowTerms.{StaysReady}
 use Rattle.ist_rows.specs.declared.callers.Caller.{Caller}
 use Rattle.laws_calls.specs.Walking.{IsChainOf}
-use Rattle.ist_updates.specs.Asking.{MayEnd}
+use Rattle.ist_updates.specs.Asking.{MayEnd, IsAsked}
 use Rattle.ist_updates.specs.Counting.{IsCounted}
-use Rattle.ist_tree.specs.Working.{Rebuilds}
-use Rattle.ist_rows.specs.Going.{StaysReady}
+use Rattle.ist_tree.specs.CallTerms.{Rebuilds, IsPass}
 use Rattle.ist_tree.proofs.LoadingLemmas.{chain_on}
+use Rattle.ist_tree.proofs.GoingLemmas.{between_after, has_its_calls, no_entry_after, IsLaterView, caller_on, lawful_after}
+use Rattle.std.proofs.Math.Nat.{le_refl}
 
 -- ---- no entries
 
@@ -78,8 +70,7 @@ module _ (pairs : List Pair) (words : ℕ) where
           → (z : ChangeRow) × ((state_of pairs words earlier).pieces base ≡ Some (Change z)))
           → (z : ChangeRow) × ((state_of pairs words earlier).pieces base ≡ Some (Change z))
       at event nothing (change_was old) before = before x old own up
-      at _ nothing (is_installed {caller = by} can is) before =
-          absurd
+      at _ nothing (is_installed {caller = by} can is) before = absurd
           (nothing (sym can.owned ∙ ap (λ y. y.owner) (sym is) ∙ own) can.change
           (ap first_change can.rows_are)
           (subst (λ k. IsUpdate k) (ap (λ (y : ChangeRow). y.kind) is) up))
@@ -90,14 +81,12 @@ module _ (pairs : List Pair) (words : ℕ) where
 -- a caller makes no entry while it rebuilds
 pub rebuilt_no_entry : (v w : View) (number : ℕ) → v.who ≡ CallerOf number → IsResolved v number
     → WentOn Rebuilds v w → MadeNoEntry v.start v.words number v.log w.log
-rebuilt_no_entry v w number mine resolved went =
-    let lawful = went_lawful Rebuilds v w went in
+rebuilt_no_entry v w number mine resolved went = let lawful = went_lawful Rebuilds v w went in
     resolved_no_entry v.start v.words lawful.opens v.log w.log (later_by-goes_on went.later)
     lawful.enabled number resolved none
   where
     none : NoneAcceptedSince v.start v.words number v.log w.log
-    none base change command fresh e own is said =
-        let lawful = went_lawful Rebuilds v w went in
+    none base change command fresh e own is said = let lawful = went_lawful Rebuilds v w went in
         let it = update_was v.start v.words
         (λ event. (whose event ≢ CallerOf number) ⊎ Rebuilds event) v.log number
         (installs_no_update number) w.log
@@ -110,8 +99,7 @@ rebuilt_no_entry v w number mine resolved went =
 -- so a call that may end may so still
 pub can_end_on : (v w : View) (number : ℕ) (call : Call) → v.who ≡ CallerOf number
     → WentOn Rebuilds v w → IsResolved w number → CanEnd v call → CanEnd w call
-can_end_on v w number call mine went resolved c =
-    let on = later_by-goes_on went.later in
+can_end_on v w number call mine went resolved c = let on = later_by-goes_on went.later in
     let same : c.number ≡ number = cc (sym c.mine ∙ mine) in
     let none = rebuilt_no_entry v w c.number c.mine c.resolved went in
     let still = subst (IsResolved w) (sym same) resolved in
@@ -125,8 +113,7 @@ can_end_on v w number call mine went resolved c =
       resolved =
           subst (λ (x : View). AllResolvedOf (state_of x.start x.words w.log) w.log c.number) went.same
           still;
-      stand =
-          stand_on v.start v.words v.log w.log c.number (v.calls ++ call ∷ []) on none c.stand;
+      stand = stand_on v.start v.words v.log w.log c.number (v.calls ++ call ∷ []) on none c.stand;
       seen = c.seen;
       goes_on = goes_on_more c.goes_on on;
       length_is = c.length_is;
@@ -136,17 +123,14 @@ can_end_on v w number call mine went resolved c =
 -- a command that may end with a reply may do so after steps of rebuilding too
 pub may_end_on : (old new : Caller) (command : Command) (reply : Option ℕ)
     → old.token.view.who ≡ CallerOf old.number → StaysReady Rebuilds old new
-    → MayEnd old command reply
-    → MayEnd new command reply
-may_end_on old new command reply mine on m =
-    record {
-      call = m.call;
-      command_is = m.command_is;
-      reply_is = m.reply_is;
-      can =
-          can_end_on old.token.view new.token.view old.number m.call mine on.gone.went
-          (subst (IsResolved new.token.view) on.gone.number on.quiet.resolved) m.can;
-    }
+    → MayEnd old command reply → MayEnd new command reply
+may_end_on old new command reply mine on m = record {
+  call = m.call;
+  command_is = m.command_is;
+  reply_is = m.reply_is;
+  can = can_end_on old.token.view new.token.view old.number m.call mine on.gone.went
+      (subst (IsResolved new.token.view) on.gone.number on.quiet.resolved) m.can;
+}
 
 -- ---- a change that was counted
 
@@ -165,15 +149,12 @@ not_yes_before pairs words earlier before g enabled base none change there said 
 -- what was counted in a part of a log was counted in all of it
 pub counted_on : (pairs : List Pair) (words : ℕ) (earlier before log longer : Log)
     → GoesOn earlier before → GoesOn before log → GoesOn log longer → Lawful pairs words longer
-    → (number : ℕ)
-    (command : Command) → IsCounted pairs words before log number command
+    → (number : ℕ) (command : Command) → IsCounted pairs words before log number command
     → IsCounted pairs words earlier longer number command
 counted_on pairs words earlier before log longer g on h lawful number command c =
     let it = change_there (state_of pairs words log).pieces (state_of pairs words longer).pieces
     (grow_between pairs words log longer lawful.enabled h) c.base c.change c.published in
-    let same = it.2.others in
-    let yes = c.decision in
-    record {
+    let same = it.2.others in let yes = c.decision in record {
       base = c.base;
       change = it.0;
       published = it.1;
@@ -184,10 +165,66 @@ counted_on pairs words earlier before log longer g on h lawful number command c 
           (enabled_before (start pairs words) before longer (goes_on_more on h) lawful.enabled)
           c.base c.since;
       rows = c.rows;
-      chain =
-          subst (λ node. IsChainOf pairs words longer node c.rows) (sym (ap (λ x. x.node) same))
+      chain = subst (λ node. IsChainOf pairs words longer node c.rows) (sym (ap (λ x. x.node) same))
           (chain_on pairs words log longer lawful h c.change.node c.rows c.chain);
       counted = λ row i.
           (let w = c.counted row i in
           record { at = w.at; since = goes_on_more g w.since; until = goes_on_more w.until h });
     }
+
+-- ---- a put or a remove begins: nothing of it took effect yet. Serves `update`.
+
+module _ (who : Caller) (token : TokenFace) (command : Command) (s : IsSound who.token.view)
+    (p : IsPass who)
+    (begun : TurnedAt who.token.view (beginning who.token.view (Some command)) token.view) where
+  -- the view before the call
+  abbrev v : View
+  v = who.token.view
+
+  -- the view when the call has begun
+  abbrev b : View
+  b = token.view
+
+  later : Later (CallerOf who.number) v.log b.log
+  later = subst (λ x. Later x v.log b.log) p.caller.mine begun.later
+
+  -- the begun view is a later one
+  pub begun_view : IsLaterView v b
+  begun_view = record {
+    who_is = ap (λ (y : View). y.who) begun.view;
+    start_is = ap (λ (y : View). y.start) begun.view;
+    words_is = ap (λ (y : View). y.words) begun.view;
+    later = begun.later;
+    sound = begun.sound;
+  }
+
+  -- its calls are placed in the log that it has seen by then
+  pub begun_calls : HasCalls b.start b.words b.log who.number b.stamp b.calls
+  begun_calls = subst (λ (y : View). HasCalls y.start y.words b.log who.number y.stamp y.calls)
+      (sym begun.view)
+      (keep_calls v.start v.words v.log b.log who.number v.stamp v.stamp v.calls (later-goes_on later)
+      (no_entry_after v who.number s p.caller.mine p.in_none b.log (lawful_after v b begun_view)
+      later) (le_refl v.stamp) (has_its_calls v who.number s p.caller.mine p.in_none))
+
+  -- the caller was asked
+  pub begun_asked : IsAsked (record who { token = token }) command
+  begun_asked = let it = caller_on who token p.caller p.refused begun_view in
+      let between = between_after v who.number s p.caller.mine p.in_none b.log
+      (lawful_after v b begun_view) later in
+      record {
+        caller = it.caller;
+        refused = it.refused;
+        pending = record { command = Some command; length = length b.log };
+        in_call = ap (λ (y : View). y.pending) begun.view;
+        command_is = refl;
+        seen = b.log;
+        goes_on = same_log;
+        length_is = refl;
+        had = begun_calls;
+        resolved =
+            subst (λ (y : View). AllResolvedOf (state_of y.start y.words b.log) b.log who.number)
+            (sym begun.view) between.resolved;
+        none_yet =
+            subst (λ (y : View). HasMade y.start y.words b.log who.number y.calls) (sym begun.view)
+            between.made;
+      }

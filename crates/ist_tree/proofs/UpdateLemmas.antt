@@ -5,49 +5,32 @@ use Rattle.ist_core.specs.declared.calls.Call.{Call}
 use Rattle.ist_core.specs.declared.commands.Command.{Command}
 use Rattle.ist_core.specs.declared.events.Event.TheVariants.{Count}
 use Rattle.ist_core.specs.declared.ports.Full.{Full}
-use Rattle.ist_core.specs.Elements.{Among}
-use Rattle.ist_core.specs.Lawful.{state_of}
-use Rattle.ist_core.specs.Links.{Chain, IsChild, WasOnChain}
-use Rattle.ist_core.specs.Logs.{Ever, GoesOn, Log, one_event, same_log}
-use Rattle.ist_core.specs.Slots.{IsOpen, SlotHolds, in_anchor, in_row}
-use Rattle.ist_core.specs.Snapshots.{Snapshot}
-use Rattle.ist_core.specs.Standing.{IsFresh}
-use Rattle.ist_core.specs.StartLayout.{start}
-use Rattle.ist_core.proofs.FateLemmas.{grow_between}
-use Rattle.ist_core.proofs.GrowingLemmas.{inner_there}
-use Rattle.ist_core.proofs.PrefixLemmas.{ever_from}
-use Rattle.ist_dcss.proofs.OpeningLemmas.{closed_node_stays}
+use Rattle.ist_core.specs.declared.events.Who.TheVariants.{Caller as CallerOf}
+use Rattle.ist_core.specs.LogTerms.{Among, state_of, Ever, GoesOn, Log, one_event, same_log, Snapshot, whose}
+use Rattle.ist_core.specs.TreeTerms.{Chain, IsChild, WasOnChain, IsFresh}
+use Rattle.ist_core.specs.WordTerms.{IsOpen, SlotHolds, in_anchor, in_row, start}
+use Rattle.ist_core.proofs.AllLogLemmas.{grow_between, inner_there, ever_from}
+use Rattle.ist_dcss.proofs.DecideLemmas.{closed_node_stays}
 use Rattle.laws_histories.specs.Calls.{HasCalls}
 use Rattle.laws_histories.proofs.WovenLemmas.{learnt_first}
-use Rattle.laws_calls.proofs.DoneLemmas.{others_count_nothing}
+use Rattle.laws_calls.proofs.ClosedLemmas.{others_count_nothing}
 use Rattle.laws_stability.proofs.LaterLemmas.{ever_later}
+use Rattle.ist_rule.specs.RuleTerms.{CanEnd, TokenFace, number_of, MomentsLater, moment_seen, TurnedAt, beginning, ending, now, IsNode, is_anchor, is_inner}
 use Rattle.ist_rule.specs.declared.view.View.{View}
-use Rattle.ist_core.specs.declared.events.Who.TheVariants.{Caller as CallerOf}
-use Rattle.ist_core.specs.Authors.{whose}
-use Rattle.ist_rule.specs.Conditions.{CanEnd}
-use Rattle.ist_rule.specs.Faces.{TokenFace}
 use Rattle.laws_real_time.specs.declared.moments.Deed.TheVariants.{Begins, Returns}
-use Rattle.ist_rule.specs.Speaking.{number_of, MomentsLater}
-use Rattle.ist_tree.specs.RealTime.{ReturnsInTime}
-use Rattle.ist_rule.specs.Learning.{moment_seen, TurnedAt, beginning, ending, now}
-use Rattle.ist_rule.specs.Watching.{IsNode, is_anchor, is_inner}
+use Rattle.ist_tree.specs.CallTerms.{ReturnsInTime, AddsCall, CameDue, HasCountedInCall, IsClosedAt, IsTopmostDue, LeavesNoneDue, kept_refusal, is_closed, none_came, was_refused, PassFace, face_as, pass_face, IsRowRefused}
 use Rattle.ist_rule.proofs.LaterLemmas.{between, goes_on_length, goes_on_more}
 use Rattle.ist_rows.specs.declared.callers.Caller.{Caller}
 use Rattle.ist_updates.specs.declared.updates.Due.{Due}
 use Rattle.ist_updates.specs.Counting.{CameToLimit, IsCounted}
-use Rattle.ist_tree.specs.Calls.{AddsCall}
-use Rattle.ist_tree.specs.DueRows.{CameDue, HasCountedInCall, IsClosedAt, IsTopmostDue, LeavesNoneDue, kept_refusal, is_closed, none_came, was_refused}
-use Rattle.ist_tree.specs.Faces.{PassFace}
-use Rattle.ist_tree.specs.Insides.{face_as, pass_face}
-use Rattle.ist_tree.specs.Refusals.{IsRowRefused}
 use Rattle.ist_tree.specs.Working as working
 use Rattle.ist_tree.proofs.HeardLemmas.{runs_at_once}
-use Rattle.ist_tree.proofs.IdleCallerLemmas.{has_its_calls}
+use Rattle.ist_tree.proofs.GoingLemmas.{has_its_calls}
 use Rattle.ist_tree.proofs.RowAtLimitLemmas.{came_inside, came_within}
 use Rattle.ist_tree.proofs.UpdateKeptLemmas.{counted_on}
 use Rattle.ist_tree.proofs.FindingLemmas.{changes_rise}
 use Rattle.ist_tree.proofs.RefusalLemmas.{row_was_refused}
-use Rattle.ist_tree.proofs.UpdateSeenLemmas as way
+use Rattle.ist_tree.proofs.FinishLemmas as way
 
 module _ (who began new : Caller) (token : TokenFace) (command : Command)
     (it : way.IsUpdateCall who began new token command) (r q : Option Full) where
@@ -104,8 +87,7 @@ module _ (who began new : Caller) (token : TokenFace) (command : Command)
   -- and the other way round
   came_in_call : (row : ℕ) → CameToLimit v.start v.words b.log w.log began.number row
       → CameToLimit v.start v.words v.log x.log who.number row
-  came_in_call row c =
-      came_within v.start v.words who.number v.log b.log w.log x.log
+  came_in_call row c = came_within v.start v.words who.number v.log b.log w.log x.log
       (way.v_to_b who began new token command it) (way.w_to_x who began new token command it) row
       (subst (λ n. CameToLimit v.start v.words b.log w.log n row) it.began_number c)
 
@@ -120,8 +102,7 @@ module _ (who began new : Caller) (token : TokenFace) (command : Command)
       at (in_anchor a e f) = is_anchor a
       at (in_row s e f) = is_inner s e
 
-  stays_shut : (m : Log) → GoesOn m w.log → (node : ℕ)
-      → IsNode (state_of v.start v.words m) node
+  stays_shut : (m : Log) → GoesOn m w.log → (node : ℕ) → IsNode (state_of v.start v.words m) node
       → ¬ (IsOpen (state_of v.start v.words w.log) node)
       → ¬ (IsOpen (state_of v.start v.words x.log) node)
   stays_shut m on node is =
@@ -141,14 +122,13 @@ module _ (who began new : Caller) (token : TokenFace) (command : Command)
       → ((other : ℕ) → CameToLimit v.start v.words b.log w.log began.number other
       → WasOnChain (start v.start v.words) w.log other row)
       → IsTopmostDue before following row
-  topmost row came top =
-      record {
-        came = came_in_call row came;
-        above = λ other c.
-            ever_later (start v.start v.words) (λ s. (rows : List ℕ) × Chain s other rows
-            × Among row rows) (way.w_to_x who began new token command it)
-            (top other (came_at_work other c));
-      }
+  topmost row came top = record {
+    came = came_in_call row came;
+    above = λ other c.
+        ever_later (start v.start v.words) (λ s. (rows : List ℕ) × Chain s other rows
+        × Among row rows) (way.w_to_x who began new token command it)
+        (top other (came_at_work other c));
+  }
 
   -- the topmost row that reached its limit, or its parent, isn't open
   top_is_shut : (row : ℕ) → working.IsTopShut (record (beginning v (Some command) b.log it.begun.before) {
@@ -162,11 +142,9 @@ module _ (who began new : Caller) (token : TokenFace) (command : Command)
       (in_view record {
         parent = t.parent;
         index = t.index;
-        was_child =
-            ever_later (start v.start v.words) (λ s. IsChild s t.parent t.index row)
+        was_child = ever_later (start v.start v.words) (λ s. IsChild s t.parent t.index row)
             (way.w_to_x who began new token command it) t.was_child;
-        closed =
-            ⊎_elim
+        closed = ⊎_elim
             (λ k. inl (stays_shut t.came.at
             (goes_on_more (one_event (Count began.number row) same_log) t.came.until) row
             (is_inner t.came.row t.came.published) k))
@@ -182,8 +160,7 @@ module _ (who began new : Caller) (token : TokenFace) (command : Command)
   -- if the work brought no row to its limit, the call didn't
   pub came_nowhere : ((row : ℕ) → ¬ (CameToLimit b.start b.words b.log w.log began.number row))
       → (row : ℕ) → ¬ (CameDue before following row)
-  came_nowhere none row c =
-      none row
+  came_nowhere none row c = none row
       (subst (λ (y : View). CameToLimit y.start y.words b.log w.log began.number row)
       (sym it.begun.view) (came_at_work row c))
 
@@ -220,8 +197,7 @@ module _ (who began new : Caller) (token : TokenFace) (command : Command)
       first : (o : Option Full) → option_or o (Some full) ≡ kept_refusal o full
       first None = refl
       first (Some f) = refl
-  leaves_none_due words _ same is (working.is_shut row t) =
-      top_is_shut row
+  leaves_none_due words _ same is (working.is_shut row t) = top_is_shut row
       (subst (λ (y : View). working.IsTopShut (record y { log = b.log }) w began.number row)
       it.begun.view t)
 
@@ -231,9 +207,7 @@ module _ (who began new : Caller) (token : TokenFace) (command : Command)
   module _ (call : Call) (c : CanEnd w call) (command_is : call.command ≡ command)
       (ended : TurnedAt w (ending w call) x) where
     x_calls : x.calls ≡ v.calls ++ call ∷ []
-    x_calls =
-        ap (λ (y : View). y.calls) ended.view
-        ∙ ap (λ (calls : List Call). calls ++ call ∷ [])
+    x_calls = ap (λ (y : View). y.calls) ended.view ∙ ap (λ (calls : List Call). calls ++ call ∷ [])
         (ap (λ (y : View). y.calls) it.went.went.same ∙ ap (λ (y : View). y.calls) it.begun.view)
 
     w_stamp : w.stamp ≡ v.stamp
@@ -244,11 +218,7 @@ module _ (who began new : Caller) (token : TokenFace) (command : Command)
 
     -- the stamp doesn't fall
     pub stamp_up : v.stamp ≤ x.stamp
-    stamp_up =
-        let a = w_stamp in
-        let e = x_stamp in
-        let f = c.stamp_is in
-        omega arith
+    stamp_up = let a = w_stamp in let e = x_stamp in let f = c.stamp_is in omega arith
 
     -- what had been seen when it began is no shorter than what the pass had seen
     seen_before : GoesOn v.log c.seen
@@ -271,52 +241,49 @@ module _ (who began new : Caller) (token : TokenFace) (command : Command)
         (subst (λ words. IsFresh w.start words c.seen v.stamp call)
         (way.w_words who began new token command it)
         (subst (λ stamp. IsFresh w.start w.words c.seen stamp call) w_stamp c.fresh)) in
-        let rise = changes_rise v.start v.words v.log c.seen seen_before in
-        let from = f.position in
+        let rise = changes_rise v.start v.words v.log c.seen seen_before in let from = f.position in
         record { position = omega arith; later = f.later }
 
     -- it was made in real time
     pub in_time : ReturnsInTime before following command call.reply
-    in_time =
-        record {
-          before = it.begun.before;
-          since = subst (λ a. MomentsLater a v.moments it.begun.before) it.pass.caller.mine
-              it.begun.since;
-          began = moment_seen v b.log (Begins (Some command));
-          began_by = ap number_of it.pass.caller.mine;
-          begins = refl;
-          meanwhile = ended.before;
-          during = subst (λ ms. MomentsLater (CallerOf who.number) ms ended.before)
-              (ap (λ (y : View). y.moments) it.went.went.same
-              ∙ ap (λ (y : View). y.moments) it.begun.view)
-              (subst (λ a. MomentsLater a w.moments ended.before)
-              (way.w_mine who began new token command it) ended.since);
-          returned = moment_seen w x.log (Returns call);
-          returned_by = ap number_of (way.w_mine who began new token command it);
-          call = call;
-          returns = refl;
-          command_is = command_is;
-          reply_is = refl;
-          now_is = ap (λ (y : View). y.moments) ended.view;
-        }
+    in_time = record {
+      before = it.begun.before;
+      since = subst (λ a. MomentsLater a v.moments it.begun.before) it.pass.caller.mine
+          it.begun.since;
+      began = moment_seen v b.log (Begins (Some command));
+      began_by = ap number_of it.pass.caller.mine;
+      begins = refl;
+      meanwhile = ended.before;
+      during = subst (λ ms. MomentsLater (CallerOf who.number) ms ended.before)
+          (ap (λ (y : View). y.moments) it.went.went.same
+          ∙ ap (λ (y : View). y.moments) it.begun.view)
+          (subst (λ a. MomentsLater a w.moments ended.before)
+          (way.w_mine who began new token command it) ended.since);
+      returned = moment_seen w x.log (Returns call);
+      returned_by = ap number_of (way.w_mine who began new token command it);
+      call = call;
+      returns = refl;
+      command_is = command_is;
+      reply_is = refl;
+      now_is = ap (λ (y : View). y.moments) ended.view;
+    }
 
     -- it is one call more of the pass
     pub adds_call : AddsCall before following command call.reply
-    adds_call =
-        record {
-          call = call;
-          command_is = command_is;
-          reply_is = refl;
-          stamp_is = sym x_stamp;
-          calls_are = x_calls;
-          timed = runs_at_once before following command call.reply
-              (it.sound.well_made.moments.spoken who.number it.pass.caller.mine).calls_are in_time;
-          added = record { has_calls = has_calls; fresh = fresh };
-          learnt = λ other l h. learnt_first v.start v.words other.seen v.log other.number other.stamp
-              v.stamp other.calls call
-              (subst (λ t. HasCalls t.start t.words other.seen other.number other.stamp other.calls)
-              l.tree h) l.seen l.stamp fresh;
-        }
+    adds_call = record {
+      call = call;
+      command_is = command_is;
+      reply_is = refl;
+      stamp_is = sym x_stamp;
+      calls_are = x_calls;
+      timed = runs_at_once before following command call.reply
+          (it.sound.well_made.moments.spoken who.number it.pass.caller.mine).calls_are in_time;
+      added = record { has_calls = has_calls; fresh = fresh };
+      learnt = λ other l h. learnt_first v.start v.words other.seen v.log other.number other.stamp
+          v.stamp other.calls call
+          (subst (λ t. HasCalls t.start t.words other.seen other.number other.stamp other.calls)
+          l.tree h) l.seen l.stamp fresh;
+    }
       where
         has_calls : HasCalls v.start v.words x.log who.number call.stamp (v.calls ++ call ∷ [])
         has_calls =

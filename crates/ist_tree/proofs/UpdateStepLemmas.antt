@@ -4,38 +4,27 @@ use Rattle.std.specs.Option.{option_or}
 use Rattle.ist_core.specs.declared.calls.Call.{Call}
 use Rattle.ist_core.specs.declared.commands.Command.{Command}
 use Rattle.ist_core.specs.declared.ports.Full.{Full}
-use Rattle.ist_core.specs.Logs.{Log}
-use Rattle.ist_core.specs.Standing.{makes_entry}
+use Rattle.ist_core.specs.declared.events.Who.TheVariants.{Caller as CallerOf}
+use Rattle.ist_core.specs.LogTerms.{Log}
+use Rattle.ist_core.specs.TreeTerms.{makes_entry}
 use Rattle.laws_histories.specs.Calls.{HasCalls}
 use Rattle.laws_histories.specs.Loads.{log_at}
-use Rattle.laws_histories.proofs.LoadOnLemmas.{at_prefix}
+use Rattle.laws_histories.proofs.ChangeLemmas.{at_prefix}
+use Rattle.ist_rule.specs.RuleTerms.{CanEnd, TokenFace, SearchedOn, TurnedAt, beginning, ending, IsSound}
 use Rattle.ist_rule.specs.declared.view.Pending.{Pending}
 use Rattle.ist_rule.specs.declared.view.View.{View}
-use Rattle.ist_core.specs.declared.events.Who.TheVariants.{Caller as CallerOf}
-use Rattle.ist_rule.specs.Conditions.{CanEnd}
-use Rattle.ist_rule.specs.Faces.{TokenFace}
-use Rattle.ist_rule.specs.Going.{SearchedOn}
-use Rattle.ist_rule.specs.Learning.{TurnedAt, beginning, ending}
-use Rattle.ist_rule.specs.Rule.{IsSound}
 use Rattle.ist_rule.proofs.WentOnLemmas.{later_by-goes_on}
 use Rattle.ist_rows.specs.declared.callers.Caller.{Caller}
 use Rattle.ist_updates.specs.Asking.{MayEnd}
-use Rattle.ist_tree.specs.Calls.{AddsCall, HasSeenMore}
-use Rattle.ist_tree.specs.DueRows.{FinishesUpdate, HasCountedInCall, LeavesNoneDue, StartsOnlyDue}
-use Rattle.ist_tree.specs.Faces.{PassFace}
-use Rattle.ist_tree.specs.Insides.{IsPass, IsPassWith, face_as, pass_face}
-use Rattle.ist_tree.specs.Refusals.{IsRowRefused, KeepsRowRefusal}
+use Rattle.ist_tree.specs.CallTerms.{AddsCall, HasSeenMore, FinishesUpdate, HasCountedInCall, LeavesNoneDue, StartsOnlyDue, PassFace, IsPass, IsPassWith, face_as, pass_face, IsRowRefused, KeepsRowRefusal, CarriesOut, Works, StartsDue, ReturnsInTime}
 use Rattle.ist_tree.specs.Working as working
-use Rattle.ist_tree.specs.Working.{CarriesOut, Works, StartsDue}
 use Rattle.ist_tree.proofs.InstallLemmas.{way_starts}
-use Rattle.ist_tree.proofs.BeginningLemmas.{begun_calls}
+use Rattle.ist_tree.proofs.UpdateKeptLemmas.{begun_calls}
 use Rattle.ist_tree.proofs.EndingLemmas.{can_end_so, ended_call, ending_in}
 use Rattle.ist_tree.proofs.HeardLemmas.{heard_turned}
 use Rattle.ist_tree.proofs.RefusalLemmas.{keeps_first}
-use Rattle.ist_tree.specs.RealTime.{ReturnsInTime}
 use Rattle.ist_tree.proofs.UpdateLemmas.{adds_call, in_time, has_counted, leaves_none_due, row_refused, stamp_up}
-use Rattle.ist_tree.proofs.FinishLemmas.{finishes}
-use Rattle.ist_tree.proofs.UpdateSeenLemmas.{IsUpdateCall, final_pass, seen_more, settled_then, started_since}
+use Rattle.ist_tree.proofs.FinishLemmas.{finishes, IsUpdateCall, final_pass, seen_more, settled_then, started_since}
 
 -- ---- the call that ends
 
@@ -57,22 +46,18 @@ module _ (who began new : Caller) (command : Command) (s : IsSound who.token.vie
     (went : SearchedOn Works began.token.view new.token.view) (number : new.number ≡ began.number) where
   pending_is : new.token.view.pending
       ≡ Some record { command = Some command; length = length began.token.view.log }
-  pending_is =
-      ap (λ (y : View). y.pending) went.went.same ∙ ap (λ (y : View). y.pending) begun.view
+  pending_is = ap (λ (y : View). y.pending) went.went.same ∙ ap (λ (y : View). y.pending) begun.view
 
   -- its calls are placed in what it had seen when it began
   had : (call : Call) (c : CanEnd new.token.view call) → new.token.view.who ≡ CallerOf who.number
       → HasCalls new.token.view.start new.token.view.words c.seen c.number new.token.view.stamp
       new.token.view.calls
-  had call c mine =
-      let b = began.token.view in
-      let w = new.token.view in
+  had call c mine = let b = began.token.view in let w = new.token.view in
       let old = begun_calls who began.token command s p begun in
       let same_seen = seen_is w.log c.seen b.log (at_prefix c.seen w.log c.goes_on)
       (at_prefix b.log w.log (later_by-goes_on went.went.later)) (lengths c.pending (sym pending_is
       ∙ c.in_call) c.length_is) in
-      subst (λ n. HasCalls w.start w.words c.seen n w.stamp w.calls)
-      (cc (sym mine ∙ c.mine))
+      subst (λ n. HasCalls w.start w.words c.seen n w.stamp w.calls) (cc (sym mine ∙ c.mine))
       (subst (λ (l : Log). HasCalls w.start w.words l who.number w.stamp w.calls) (sym same_seen)
       (subst (λ (y : View). HasCalls y.start y.words b.log who.number y.stamp y.calls)
       (sym went.went.same) old))
@@ -88,8 +73,7 @@ module _ (who began new : Caller) (command : Command) (s : IsSound who.token.vie
 
   -- so the call that is picked may end
   pub picked_ends : new.token.view.who ≡ CallerOf new.number → (reply : Option ℕ)
-      → MayEnd new command reply
-      → CanEnd new.token.view (ended_call new.token.view reply)
+      → MayEnd new command reply → CanEnd new.token.view (ended_call new.token.view reply)
       × (reply ≡ (ended_call new.token.view reply).reply)
   picked_ends mine reply m = (
     subst (λ r. CanEnd new.token.view (ended_call new.token.view r)) m.reply_is
@@ -124,79 +108,71 @@ module _ (who began new : Caller) (token : TokenFace) (command : Command) (s : I
     (begun : TurnedAt who.token.view (beginning who.token.view (Some command)) began.token.view)
     (began_number : began.number ≡ who.number) (words : ℕ)
     (same_words : words ≡ who.token.view.words) where
-  module _ (reply : Option ℕ) (met : Option Full)
-      (c : CarriesOut began new words command reply met)
+  module _ (reply : Option ℕ) (met : Option Full) (c : CarriesOut began new words command reply met)
       (ended : TurnedAt new.token.view (ending new.token.view (ended_call new.token.view reply)) token.view)
       (q : Option Full) (kept : q ≡ option_or r met) where
     it : IsUpdateCall who began new token command
-    it =
-        record {
-          sound = s;
-          pass = p.pass;
-          begun = begun;
-          began_number = began_number;
-          went = c.went;
-          number = c.number;
-          caller = c.ready.caller;
-          refused = c.ready.refused;
-          last = record {
-            who_is = ap (λ (y : View). y.who) ended.view;
-            start_is = ap (λ (y : View). y.start) ended.view;
-            words_is = ap (λ (y : View). y.words) ended.view;
-            later = ended.later;
-            sound = ended.sound;
-          };
-          heard = heard_turned ended _ (ap (λ (y : View). y.moments) ended.view);
-          none = ap (λ (y : View). y.pending) ended.view;
-          table = ap (λ (y : View). y.table) ended.view;
-        }
+    it = record {
+      sound = s;
+      pass = p.pass;
+      begun = begun;
+      began_number = began_number;
+      went = c.went;
+      number = c.number;
+      caller = c.ready.caller;
+      refused = c.ready.refused;
+      last = record {
+        who_is = ap (λ (y : View). y.who) ended.view;
+        start_is = ap (λ (y : View). y.start) ended.view;
+        words_is = ap (λ (y : View). y.words) ended.view;
+        later = ended.later;
+        sound = ended.sound;
+      };
+      heard = heard_turned ended _ (ap (λ (y : View). y.moments) ended.view);
+      none = ap (λ (y : View). y.pending) ended.view;
+      table = ap (λ (y : View). y.table) ended.view;
+    }
 
     picked : CanEnd new.token.view (ended_call new.token.view reply)
         × (reply ≡ (ended_call new.token.view reply).reply)
-    picked =
-        picked_ends who began new command s p.pass begun began_number c.went c.number
+    picked = picked_ends who began new command s p.pass begun began_number c.went c.number
         c.ready.caller.mine reply c.may
 
     is_command : (ended_call new.token.view reply).command ≡ command
-    is_command =
-        its_command new.token.view (ended_call new.token.view reply) command _ picked.0
+    is_command = its_command new.token.view (ended_call new.token.view reply) command _ picked.0
         (pending_is who began new command s p.pass begun began_number c.went c.number)
 
     ends_here : UpdateEnds (pass_face who r) new token q command reply
-    ends_here =
-        record {
-          pass = record {
-            pass = final_pass who began new token command it;
-            settled = λ unrefused.
-                (let both = none_kept r met (sym kept ∙ unrefused) in
-                settled_then who began new token command it c.ready.quiet.resolved (c.starts both.1)
-                (c.due both.1) (p.settled both.0));
-          };
-          seen =
-              seen_more who began new token command it r q
-              (stamp_up who began new token command it r q (ended_call new.token.view reply) picked.0
-              is_command ended);
-          added =
-              subst (AddsCall (pass_face who r) (face_as token new.number q) command) (sym picked.1)
-              (adds_call who began new token command it r q (ended_call new.token.view reply) picked.0
-              is_command ended);
-          timed =
-              subst (ReturnsInTime (pass_face who r) (face_as token new.number q) command) (sym picked.1)
-              (in_time who began new token command it r q (ended_call new.token.view reply) picked.0
-              is_command ended);
-          counted = λ entry. has_counted who began new token command it r q (c.counted entry);
-          due = leaves_none_due who began new token command it r q words met same_words kept c.shut;
-          refused =
-              keeps_first who began new token command it r q met kept
-              (λ full e. cause met c.shut full e);
-          finished =
-              finishes (λ full. (row : ℕ)
-              × IsRowRefused (pass_face who r) (face_as token new.number q) row full)
-              (pass_face who r) (face_as token new.number q) met kept
-              (λ none. started_since who began new token command it c.ready.quiet.resolved
-              (c.starts none))
-              (λ full e. cause met c.shut full e);
-        }
+    ends_here = record {
+      pass = record {
+        pass = final_pass who began new token command it;
+        settled = λ unrefused.
+            (let both = none_kept r met (sym kept ∙ unrefused) in
+            settled_then who began new token command it c.ready.quiet.resolved (c.starts both.1)
+            (c.due both.1) (p.settled both.0));
+      };
+      seen = seen_more who began new token command it r q
+          (stamp_up who began new token command it r q (ended_call new.token.view reply) picked.0
+          is_command ended);
+      added = subst (AddsCall (pass_face who r) (face_as token new.number q) command) (sym picked.1)
+          (adds_call who began new token command it r q (ended_call new.token.view reply) picked.0
+          is_command ended);
+      timed =
+          subst (ReturnsInTime (pass_face who r) (face_as token new.number q) command) (sym picked.1)
+          (in_time who began new token command it r q (ended_call new.token.view reply) picked.0
+          is_command ended);
+      counted = λ entry. has_counted who began new token command it r q (c.counted entry);
+      due = leaves_none_due who began new token command it r q words met same_words kept c.shut;
+      refused = keeps_first who began new token command it r q met kept
+          (λ full e. cause met c.shut full e);
+      finished =
+          finishes (λ full. (row : ℕ)
+          × IsRowRefused (pass_face who r) (face_as token new.number q) row full)
+          (pass_face who r) (face_as token new.number q) met kept
+          (λ none. started_since who began new token command it c.ready.quiet.resolved
+          (c.starts none))
+          (λ full e. cause met c.shut full e);
+    }
       where
         cause : (o : Option Full)
             → working.LeavesShut began.token.view new.token.view began.number words o

@@ -20,3 +20,4 @@ pub mod Finding
 pub mod Working
 pub mod Attempts
 pub mod FreezeSteps
+pub mod CallTerms

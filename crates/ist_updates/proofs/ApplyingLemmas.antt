@@ -4,21 +4,16 @@ use Rattle.ist_core.specs.declared.commands.Command.{Command}
 use Rattle.ist_core.specs.declared.commands.Command.TheVariants.{Remove}
 use Rattle.ist_core.specs.declared.pairs.Pair.{Pair}
 use Rattle.ist_core.specs.declared.ports.Full.{Full}
-use Rattle.ist_core.specs.Authors.{GoesOnBy}
-use Rattle.ist_core.specs.Pieces.{Inner}
-use Rattle.ist_core.specs.RowLayout.{anchor}
+use Rattle.ist_core.specs.LogTerms.{GoesOnBy}
+use Rattle.ist_core.specs.WordTerms.{Inner, anchor}
+use Rattle.ist_rule.specs.RuleTerms.{TokenFace, SearchedOn, WentOn, Turned, searching, HasMade}
 use Rattle.ist_rule.specs.declared.view.View.{View}
-use Rattle.ist_rule.specs.Faces.{TokenFace}
-use Rattle.ist_rule.specs.Going.{SearchedOn, WentOn}
-use Rattle.ist_rule.specs.Learning.{Turned, searching}
-use Rattle.ist_rule.specs.Standings.{HasMade}
 use Rattle.ist_rule.proofs.LaterLemmas.{goes_on_length}
 use Rattle.ist_rule.proofs.SearchedOnLemmas.{searched_all, searched_more, searching_on, went_searched}
 use Rattle.ist_rule.proofs.WentOnLemmas.{went_all, went_now, went_lawful, went_more, later_by-goes_on}
 use Rattle.laws_calls.proofs.WalkLemmas.{met_chain}
+use Rattle.ist_rows.specs.RowTerms.{IsCaller, IsQuiet}
 use Rattle.ist_rows.specs.declared.callers.Caller.{Caller}
-use Rattle.ist_rows.specs.Rows.{IsCaller}
-use Rattle.ist_rows.specs.Going.{IsQuiet}
 use Rattle.ist_find.specs.Searches.{HasCome}
 use Rattle.ist_find.proofs.SearchLemmas.{begun_comes}
 use Rattle.ist_updates.specs.declared.updates.Applied.{Applied}
@@ -29,8 +24,8 @@ use Rattle.ist_updates.specs.Counting.{CountedNowhere, IsCounted, LeavesDue}
 use Rattle.ist_updates.specs.Refusals.{IsUpdateRefused, WasRefused}
 use Rattle.ist_updates.specs.Trying.{Tries, BeganSince}
 use Rattle.ist_updates.specs.Walking.{HasStood, IsDueBy, HasCounted, HasTriedSince, IsAskedAgain, IsAskedStill, IsNotThere, HasWalked}
-use Rattle.ist_updates.proofs.AskedStillLemmas.{NoEvent, asked_searched, recounted}
-use Rattle.ist_updates.proofs.EndingLemmas.{taken_ends, nothing_ends}
+use Rattle.ist_updates.proofs.WayLemmas.{NoEvent, asked_searched, recounted}
+use Rattle.ist_updates.proofs.MissLemmas.{taken_ends, nothing_ends}
 use Rattle.ist_updates.proofs.OwnCountLemmas.{CountsNone, came_none, counted_nowhere}
 use Rattle.ist_updates.proofs.TriedWalkLemmas.{went_table, tried_by}
 use Rattle.ist_updates.proofs.StepLemmas.{tries_updates}
@@ -50,16 +45,15 @@ pub begun_walk : (old who : Caller) (token : TokenFace) (key : ℕ) (command : C
     → who.number ≡ old.number → IsAskedAgain old who command
     → Turned who.token.view (searching who.token.view) token.view
     → HasBegunWalk old (record who { token = token }) key command
-begun_walk old who token key command number s t =
-    record {
-      number = number;
-      asked = asked_searched who token command s.asked
-          (searching_on NoEvent who.token.view token.view t);
-      went = searched_more Tries old.token.view who.token.view token.view s.went
-          (searching_on Tries who.token.view token.view t);
-      come = begun_comes who.token.view token.view key t;
-      since = ap (λ x. x.loads.since) t.view ∙ ap length (sym (ap (λ x. x.log) t.view));
-    }
+begun_walk old who token key command number s t = record {
+  number = number;
+  asked = asked_searched who token command s.asked
+      (searching_on NoEvent who.token.view token.view t);
+  went = searched_more Tries old.token.view who.token.view token.view s.went
+      (searching_on Tries who.token.view token.view t);
+  come = begun_comes who.token.view token.view key t;
+  since = ap (λ x. x.loads.since) t.view ∙ ap length (sym (ap (λ x. x.log) t.view));
+}
 
 module _ (old who : Caller) (key : ℕ) (value : Option ℕ) (a : IsAsked old (command_for key value))
     (b : HasBegunWalk old who key (command_for key value)) where
@@ -84,20 +78,18 @@ module _ (old who : Caller) (key : ℕ) (value : Option ℕ) (a : IsAsked old (c
   -- apart from the searches that it began
   pub all_searched : (new : Caller) → WentOn Updates v new.token.view
       → SearchedOn Updates old.token.view new.token.view
-  all_searched new g =
-      searched_more Updates old.token.view v new.token.view
+  all_searched new g = searched_more Updates old.token.view v new.token.view
       (searched_all Tries Updates tries_updates old.token.view v b.went)
       (went_searched Updates v new.token.view g)
 
   -- a walk that took no effect leaves the caller as it was asked
   pub still_on : (new : Caller) → IsAskedStill who new (command_for key value)
       → IsAskedAgain old new (command_for key value)
-  still_on new s =
-      record {
-        went = searched_more Tries old.token.view v new.token.view b.went
-            (went_searched Tries v new.token.view s.went);
-        asked = s.asked;
-      }
+  still_on new s = record {
+    went = searched_more Tries old.token.view v new.token.view b.went
+        (went_searched Tries v new.token.view s.went);
+    asked = s.asked;
+  }
 
   -- it was refused since the call began
   pub refused_first : (words : ℕ) (full : Full) (new : Caller)
@@ -105,8 +97,7 @@ module _ (old who : Caller) (key : ℕ) (value : Option ℕ) (a : IsAsked old (c
       → IsUpdateRefused before key value words full new.token.view)
       → WentOn Updates v new.token.view
       → WasRefused old.token.view key value words full new.token.view
-  refused_first words full new h g =
-      let none = ap (λ x. x.searches) g.same in
+  refused_first words full new h g = let none = ap (λ x. x.searches) g.same in
       subst (λ n. IsUpdateRefused (record old.token.view { searches = n }) key value words full
       new.token.view) (sym none)
       (h first record {
@@ -125,16 +116,14 @@ module _ (old who : Caller) (key : ℕ) (value : Option ℕ) (a : IsAsked old (c
   -- walks that took no effect counted nowhere
   pub still_due : (new : Caller) → IsAskedStill who new (command_for key value)
       → LeavesDue first new.token.view old.number None
-  still_due new s =
-      came_none first.start first.words first.log old.number new.token.view.log
+  still_due new s = came_none first.start first.words first.log old.number new.token.view.log
       (subst (λ m. GoesOnBy (CountsNone m) first.log new.token.view.log) b.number
       (tried_by who (command_for key value) b.asked first tried new.token.view s.went))
 
   -- nowhere at all
   pub still_counted : (new : Caller) → IsAskedStill who new (command_for key value)
       → CountedNowhere first.log new.token.view.log old.number
-  still_counted new s =
-      counted_nowhere old.number first.log new.token.view.log
+  still_counted new s = counted_nowhere old.number first.log new.token.view.log
       (subst (λ m. GoesOnBy (CountsNone m) first.log new.token.view.log) b.number
       (tried_by who (command_for key value) b.asked first tried new.token.view s.went))
 
@@ -155,17 +144,14 @@ module _ (old who : Caller) (key : ℕ) (value : Option ℕ) (a : IsAsked old (c
         (h first [] tried b.come))
       where
         back : (Q : List Pair → ℕ → Type 0) → Q v.start v.words → Q first.start first.words
-        back Q y =
-            subst (λ p. Q p first.words) (ap (λ x. x.start) b.went.went.same)
+        back Q y = subst (λ p. Q p first.words) (ap (λ x. x.start) b.went.went.same)
             (subst (Q v.start) (ap (λ x. x.words) b.went.went.same) y)
 
     -- the update was counted at each row on the chain of its change
     pub took_is_counted : IsCounted first.start first.words first.log w.log old.number
         (command_for key value)
-    took_is_counted =
-        let x = took_counted in
-        let lawful = went_lawful Updates first w (all_went new g) in
-        record {
+    took_is_counted = let x = took_counted in
+        let lawful = went_lawful Updates first w (all_went new g) in record {
           base = x.base;
           change = x.update.change;
           published = x.update.published;

@@ -1,19 +1,18 @@
 -- One step down of a walk, and what the walk from there makes of it. Serves `descend`.
-use Rattle.std.proofs.Common.{◌≡◌, ◌≢◌, ℕ, List, [], ◌∷◌, ◌++◌, Option, Some, None, sym, ap, subst}
+use Rattle.std.proofs.Common.{◌≡◌, ◌≢◌, ℕ, List, [], ◌∷◌, ◌++◌, Option, Some, None, sym, ap, subst, Bool, true, false, refl, ◌∙◌}
 use Rattle.std.specs.Prelude.{IfOk, IsErrAnd, Ok, Err, Result}
 use Rattle.ist_core.specs.declared.commands.Command.{Command}
 use Rattle.ist_core.specs.declared.ports.Full.{Full}
-use Rattle.ist_core.specs.Deciding.{CanCount}
-use Rattle.ist_core.specs.Logs.{Log}
-use Rattle.ist_core.specs.References.{InnerAt, Unset, ref_of}
-use Rattle.ist_core.specs.Slots.{IsChildFor, SlotHolds}
-use Rattle.ist_core.specs.StartLayout.{start}
+use Rattle.ist_core.specs.declared.events.Event.{Event}
+use Rattle.ist_core.specs.declared.events.Event.TheVariants.{Count}
+use Rattle.ist_core.specs.TreeTerms.{CanCount}
+use Rattle.ist_core.specs.LogTerms.{Log, Lawful}
+use Rattle.ist_core.specs.WordTerms.{InnerAt, Unset, ref_of, IsChildFor, SlotHolds, start}
+use Rattle.ist_rule.specs.RuleTerms.{TokenFace, now, GoesOnTo, WentOn, number_of}
 use Rattle.ist_rule.specs.declared.view.View.{View}
-use Rattle.ist_rule.specs.Faces.{TokenFace}
-use Rattle.ist_rule.specs.Learning.{now, GoesOnTo}
 use Rattle.laws_coming.specs.Further.{CameFurther}
+use Rattle.ist_rows.specs.RowTerms.{StaysReady, HasRefused, KeepsRows, InstallsNone, IsCaller, IsQuiet}
 use Rattle.ist_rows.specs.declared.callers.Caller.{Caller}
-use Rattle.ist_rows.specs.Going.{StaysReady}
 use Rattle.ist_rows.proofs.GoneLemmas.{ready_more}
 use Rattle.ist_find.specs.Searches.{HasCome, Came, Names}
 use Rattle.ist_updates.specs.declared.updates.Applied.{Applied}
@@ -25,12 +24,15 @@ use Rattle.ist_updates.specs.Ending.{IsWalk}
 use Rattle.ist_updates.specs.Further.{IsFreshNode}
 use Rattle.ist_updates.specs.Meeting.{HasMissed, IsMetBy, IsTryMet}
 use Rattle.ist_updates.specs.Trying.{IsAtSlot}
-use Rattle.ist_updates.specs.Walking.{HasCounted, HasStood, HasWalked}
+use Rattle.ist_updates.specs.Walking.{HasCounted, HasStood, HasWalked, IsCountAt, HasCountedAt}
 use Rattle.ist_updates.proofs.AfterLemmas.{after_loads}
 use Rattle.ist_updates.proofs.FurtherLemmas.{come_linked, down_fresh, fresh_on}
 use Rattle.ist_updates.proofs.MissLemmas.{missed_loads}
 use Rattle.ist_updates.proofs.ResultLemmas.{err_walked}
 use Rattle.ist_updates.proofs.WalkingLemmas.{on_before, walked_here, none_below, may_count_there, stood_there, counted_here}
+use Rattle.ist_rule.proofs.WentOnLemmas.{went_all, went_lawful}
+use Rattle.ist_rows.proofs.CallerLawLemmas.{caller_went, refused_went, resolved_went}
+use Rattle.ist_updates.proofs.NextRowLemmas.{due_before, due_here, counted_more}
 
 -- the caller has gone down by loads to the slot of its key, which holds the word
 pub record IsDown (old : Caller) (token : TokenFace) (key : ℕ) (value : Option ℕ) (node index word : ℕ)
@@ -68,15 +70,14 @@ module _ {old : Caller} {token : TokenFace} {key : ℕ} {value : Option ℕ} {no
   -- if it names no inner row, the walk has come to its end
   pub at_slot : ((base : ℕ) → ref_of word ≢ Some (InnerAt base))
       → IsAtSlot token.view key node index word
-  at_slot low =
-      record {
-        came = (s.came.0, s.stays s.came.0 s.came.1);
-        child = s.child;
-        holds = s.holds;
-        names = s.names;
-        set = s.set;
-        low = low;
-      }
+  at_slot low = record {
+    came = (s.came.0, s.stays s.came.0 s.came.1);
+    child = s.child;
+    holds = s.holds;
+    names = s.names;
+    set = s.set;
+    low = low;
+  }
 
   module _ {when : When} {words : ℕ} where
     -- a walk that ends at the node
@@ -86,43 +87,40 @@ module _ {old : Caller} {token : TokenFace} {key : ℕ} {value : Option ℕ} {no
         → CameFurther first new.token.view)
         → IfOk r (IsTryMet when) → (r ≡ Ok (Some Unmet) → HasMissed token.view new.token.view key when)
         → IsWalk old key value when node words r new
-    here_walk {r} {new} on walked further met missed =
-        record {
-          on = on_before old token s.seen Updates new on;
-          walked = walked_here old token s.seen key value node words r new s.stays walked;
-          further = λ is first fresh. further is first
-              (fresh_on first old.token.view token.view node fresh
-              (after_loads old.token.view token.view s.seen) s.seen.sound);
-          met = met;
-          missed = λ is. missed_loads old.token.view token.view new.token.view key when s.seen
-              (missed is);
-        }
+    here_walk {r} {new} on walked further met missed = record {
+      on = on_before old token s.seen Updates new on;
+      walked = walked_here old token s.seen key value node words r new s.stays walked;
+      further = λ is first fresh. further is first
+          (fresh_on first old.token.view token.view node fresh
+          (after_loads old.token.view token.view s.seen) s.seen.sound);
+      met = met;
+      missed = λ is. missed_loads old.token.view token.view new.token.view key when s.seen
+          (missed is);
+    }
 
     module _ {row : ℕ} (is : ref_of word ≡ Some (InnerAt row)) where
       none_walk : (r : Result (Option Outcome) Full) (new : Caller) → ((done : Applied) → r ≢ Ok (Some (Took done)))
           → IsWalk there key value when row words r new → IsWalk old key value when node words r new
-      none_walk r new none h =
-          record {
-            on = on_before old token s.seen Updates new h.on;
-            walked = none_below old token s.seen key value node row words new r none h.walked;
-            further = λ again first fresh. h.further again first
-                (down_fresh first token.view node index word row
-                (fresh_on first old.token.view token.view node fresh
-                (after_loads old.token.view token.view s.seen) s.seen.sound) s.seen.sound
-                (come_linked token.view s.seen.sound key node s.came.0 (s.stays s.came.0 s.came.1))
-                s.holds is);
-            met = h.met;
-            missed = λ unmet. missed_loads old.token.view token.view new.token.view key when s.seen
-                (h.missed unmet);
-          }
+      none_walk r new none h = record {
+        on = on_before old token s.seen Updates new h.on;
+        walked = none_below old token s.seen key value node row words new r none h.walked;
+        further = λ again first fresh. h.further again first
+            (down_fresh first token.view node index word row
+            (fresh_on first old.token.view token.view node fresh
+            (after_loads old.token.view token.view s.seen) s.seen.sound) s.seen.sound
+            (come_linked token.view s.seen.sound key node s.came.0 (s.stays s.came.0 s.came.1))
+            s.holds is);
+        met = h.met;
+        missed = λ unmet. missed_loads old.token.view token.view new.token.view key when s.seen
+            (h.missed unmet);
+      }
 
       -- a walk that goes on from a row below and takes no effect
       pub below_walk : {x y : Option Outcome} {new : Caller} → x ≡ y
           → ((done : Applied) → y ≢ Some (Took done))
           → IsWalk there key value when row words (Ok x) new
           → IsWalk old key value when node words (Ok y) new
-      below_walk {x} {y} {new} is none h =
-          none_walk (Ok y) new (λ done e. none done (cc))
+      below_walk {x} {y} {new} is none h = none_walk (Ok y) new (λ done e. none done (cc))
           (subst (λ z. IsWalk there key value when row words (Ok z) new) is h)
 
       -- a walk that goes on from a row below and is refused
@@ -160,3 +158,87 @@ module _ {old : Caller} {token : TokenFace} {key : ℕ} {value : Option ℕ} {no
               missed = λ e. absurd (cc);
             };
           }
+
+-- ---- a caller that made one Count is still well-formed, and has counted its update at one row more.
+-- Serves `count_update`.
+
+module _ (who : Caller) (row : ℕ) (c : IsCaller who) (q : IsQuiet who) where
+  abbrev v : View
+  v = who.token.view
+
+  module _ (token : TokenFace) (g : WentOn (IsCountAt (number_of v.who) row) v token.view) where
+    -- what is true of a Count is true of all own events
+    by_count : (P : Event → Type 0) → P (Count (number_of v.who) row) → WentOn P v token.view
+    by_count P is =
+        went_all (IsCountAt (number_of v.who) row) P (λ event e. subst P (sym e) is) v token.view g
+
+    -- the caller went on by steps of an update
+    pub counted_went : WentOn Updates v token.view
+    counted_went = by_count Updates tt
+
+    -- the caller is still well-formed
+    pub counted_caller : IsCaller (record who { token = token })
+    counted_caller = caller_went who token c (by_count KeepsRows tt)
+
+    -- the builds of which it holds rows are still refused
+    pub counted_refused : HasRefused who → HasRefused (record who { token = token })
+    counted_refused r = refused_went who token c r (by_count KeepsRows tt)
+
+    -- the caller is still quiet
+    pub counted_quiet : IsQuiet (record who { token = token })
+    counted_quiet = record {
+      pending = q.pending;
+      in_call = ap (λ x. x.pending) g.same ∙ q.in_call;
+      resolved = resolved_went v token.view who.number c.mine q.resolved (by_count InstallsNone tt);
+    }
+
+    -- so a ready caller stays ready
+    pub counted_on : HasRefused who → StaysReady Updates who (record who { token = token })
+    counted_on r = record {
+      gone = record {
+        caller = counted_caller;
+        number = refl;
+        refused = counted_refused r;
+        went = counted_went;
+      };
+      quiet = counted_quiet;
+    }
+
+    module _ (reached : Bool)
+        (k : HasCountedAt v.start v.words v.log (number_of v.who) row reached token.view.log) where
+      its_count : HasCountedAt v.start v.words v.log who.number row reached token.view.log
+      its_count = subst (λ n. HasCountedAt v.start v.words v.log n row reached token.view.log)
+          (ap number_of c.mine) k
+
+      lawful : Lawful v.start v.words token.view.log
+      lawful = went_lawful (IsCountAt (number_of v.who) row) v token.view g
+
+      module _ (earlier : Log) (command : Command) (rows : List ℕ) (below : Applied)
+          (x : HasCounted v.start v.words earlier v.log who.number command (rows ++ row ∷ []) below)
+        where
+          -- if the count reached the limit, the row is due
+          pub counted_due : reached ≡ true → (parent index : ℕ)
+              → HasStood v.start v.words v.log parent index row
+              → HasCounted v.start v.words earlier token.view.log who.number command rows record {
+                reply = below.reply;
+                due = Some record { parent = parent; index = index; target = row };
+              }
+          counted_due hit parent index stood =
+              counted_more v.start v.words lawful.opens earlier v.log token.view.log lawful.enabled
+              who.number row reached its_count command rows below x q.resolved
+              record {
+                reply = below.reply;
+                due = Some record { parent = parent; index = index; target = row };
+              }
+              refl
+              (due_here v.start v.words lawful.opens earlier v.log token.view.log lawful.enabled
+              who.number row reached its_count command rows below x hit parent index stood)
+
+          -- and else what was due before
+          pub counted_as_before : reached ≡ false
+              → HasCounted v.start v.words earlier token.view.log who.number command rows below
+          counted_as_before miss =
+              counted_more v.start v.words lawful.opens earlier v.log token.view.log lawful.enabled
+              who.number row reached its_count command rows below x q.resolved below refl
+              (due_before v.start v.words lawful.opens earlier v.log token.view.log lawful.enabled
+              who.number row reached its_count miss below.due x.due)

@@ -1,37 +1,22 @@
 -- Each walk that is to begin again has seen the table come further. Serves `try_slot` and `apply`.
-use Rattle.std.proofs.Common.{◌≡◌, ◌≢◌, ℕ, List, Some, sym, ap, ◌∙◌, subst, inl, inr, ⊎_elim, refl}
+use Rattle.std.proofs.Common.{◌≡◌, ◌≢◌, ℕ, List, Some, sym, ap, ◌∙◌, subst, inl, inr, ⊎_elim, refl, ap₂, arith}
 use Rattle.ist_core.specs.declared.events.Event.{Event}
 use Rattle.ist_core.specs.declared.states.ChangeRow.{ChangeRow}
-use Rattle.ist_core.specs.Lawful.{state_of}
-use Rattle.ist_core.specs.Links.{WasLinked}
-use Rattle.ist_core.specs.Logs.{GoesOn, Happened, Resolves, same_log}
-use Rattle.ist_core.specs.Pieces.{Rebuild}
-use Rattle.ist_core.specs.Rebuilding.{IsReplaced}
-use Rattle.ist_core.specs.References.{ChangeAt, InnerAt, RebuildAt, ref_of}
-use Rattle.ist_core.specs.RowLayout.{anchor}
-use Rattle.ist_core.specs.Slots.{IsOpen, SlotHolds, anchor_is, past_change}
-use Rattle.ist_core.specs.Snapshots.{Snapshot}
-use Rattle.ist_core.specs.StartLayout.{start}
-use Rattle.ist_core.proofs.FateLemmas.{grow_between}
-use Rattle.ist_core.proofs.GrowingLemmas.{rebuild_there}
-use Rattle.ist_core.proofs.NamingLemmas.{IsRebuildFor, SlotNames, slot_names}
-use Rattle.ist_core.proofs.OrderLemmas.{names}
-use Rattle.ist_core.proofs.PlaceLemmas.{anchor_free}
-use Rattle.ist_core.proofs.ReferenceLemmas.{ref_of-unset}
-use Rattle.ist_core.proofs.SlotLemmas.{slot_once}
-use Rattle.ist_core.proofs.OptionLemmas.{same_rebuild}
-use Rattle.ist_core.proofs.PrefixLemmas.{goes_on_more}
+use Rattle.ist_core.specs.declared.pairs.Pair.{Pair}
+use Rattle.ist_core.specs.LogTerms.{state_of, GoesOn, Happened, Resolves, same_log, Snapshot, EachEnabled, CanOpen, Log}
+use Rattle.ist_core.specs.TreeTerms.{WasLinked, IsReplaced, reply_of, ChangeGrows}
+use Rattle.ist_core.specs.WordTerms.{Rebuild, ChangeAt, InnerAt, RebuildAt, ref_of, anchor, IsOpen, SlotHolds, anchor_is, past_change, start, Change, decided_yes}
+use Rattle.ist_core.proofs.AllLogLemmas.{grow_between, rebuild_there, goes_on_more, change_there}
+use Rattle.ist_core.proofs.AllPlaceLemmas.{IsRebuildFor, SlotNames, slot_names, names, anchor_free, slot_once}
+use Rattle.ist_core.proofs.AllWordLemmas.{ref_of-unset, same_rebuild}
 use Rattle.laws_links.proofs.LinkLemmas.{open_linked}
 use Rattle.laws_links.proofs.ReadLemmas.{ReadsAs}
 use Rattle.laws_links.proofs.RebuiltLemmas.{read_unreplaced}
+use Rattle.ist_rule.specs.RuleTerms.{WentOn, now, searching, Turned, IsSound}
 use Rattle.ist_rule.specs.declared.view.View.{View}
-use Rattle.ist_rule.specs.Going.{WentOn}
-use Rattle.ist_rule.specs.Learning.{now, searching, Turned}
-use Rattle.ist_rule.specs.Rule.{IsSound}
 use Rattle.ist_rule.proofs.LaterLemmas.{later-goes_on}
 use Rattle.ist_dcss.specs.Installing.{Filling, IsInstalled}
-use Rattle.laws_stability.proofs.ProgressLemmas.{installing}
-use Rattle.laws_stability.proofs.StandstillLemmas.{child_open}
+use Rattle.laws_stability.proofs.OwnLemmas.{installing, child_open}
 use Rattle.laws_coming.specs.Further.{CameFurther}
 use Rattle.ist_rebuild.specs.Helping.{IsLeftToParent}
 use Rattle.laws_coming.proofs.FurtherLemmas.{helped_further}
@@ -44,6 +29,7 @@ use Rattle.laws_calls.proofs.WalkLemmas.{meeting_comes}
 use Rattle.ist_updates.specs.Trying.{IsAtSlot}
 use Rattle.ist_updates.specs.Further.{HasAimed, IsAfter, IsFreshNode}
 use Rattle.ist_updates.proofs.AfterLemmas.{after_more, further_after, further_on, further_or_not, lawful_is, now_is, stands, stays_open}
+use Rattle.laws_histories.proofs.EntryLemmas.{value_stays}
 
 -- ---- the way down
 
@@ -54,28 +40,26 @@ anchor_fresh first v b = record { following = b; is = inl (anchor_is refl) }
 -- a node that was fresh is still fresh
 pub fresh_on : (first v w : View) (node : ℕ) → IsFreshNode first v node → IsAfter v w → IsSound w
     → IsFreshNode first w node
-fresh_on first v w node f b s =
-    record {
-      following = after_more first v w f.following b;
-      is = ⊎_elim
-          (λ is. ⊎_elim (λ k. inr (further_after first v w f.following k))
-          (λ few. inl (stays_open v w b s few node is)) (further_or_not v w))
-          (λ k. inr (further_on first v w k b)) f.is;
-    }
+fresh_on first v w node f b s = record {
+  following = after_more first v w f.following b;
+  is = ⊎_elim
+      (λ is. ⊎_elim (λ k. inr (further_after first v w f.following k))
+      (λ few. inl (stays_open v w b s few node is)) (further_or_not v w))
+      (λ k. inr (further_on first v w k b)) f.is;
+}
 
 -- and so is a row that one of its slots holds
 pub down_fresh : (first w : View) (node i word child : ℕ) → IsFreshNode first w node → IsSound w
     → WasLinked (start w.start w.words) w.log node → SlotHolds (now w) node i word
     → ref_of word ≡ Some (InnerAt child) → IsFreshNode first w child
-down_fresh first w node i word child f s was here is =
-    record {
-      following = f.following;
-      is = ⊎_elim
-          (λ o. inl (child_open w.start w.words s.lawful.opens w.log s.lawful.enabled node i word
-          child (open_linked w.start w.words s.lawful.opens w.log s.lawful.enabled node was o) o here
-          is))
-          (λ k. inr k) f.is;
-    }
+down_fresh first w node i word child f s was here is = record {
+  following = f.following;
+  is = ⊎_elim
+      (λ o. inl (child_open w.start w.words s.lawful.opens w.log s.lawful.enabled node i word
+      child (open_linked w.start w.words s.lawful.opens w.log s.lawful.enabled node was o) o here
+      is))
+      (λ k. inr k) f.is;
+}
 
 -- ---- each cause to begin again
 
@@ -90,16 +74,14 @@ module _ (first v w : View) (node i word : ℕ) (a : HasAimed first v node i wor
 
   -- the node isn't open
   pub shut_further : ¬ (IsOpen (now w) node) → CameFurther first w
-  shut_further shut =
-      ⊎_elim
+  shut_further shut = ⊎_elim
       (λ is. ⊎_elim since
       (λ few. absurd (shut (stays_open a.at w whole s few node is))) (further_or_not a.at w))
       (λ k. further_on first a.at w k whole) a.fresh.is
 
   -- the slot doesn't hold the word
   pub gone_further : ¬ (SlotHolds (now w) node i word) → CameFurther first w
-  gone_further gone =
-      ⊎_elim since
+  gone_further gone = ⊎_elim since
       (λ few. absurd (gone (stands a.at w whole s few node i word a.set a.holds)))
       (further_or_not a.at w)
 
@@ -132,8 +114,7 @@ module _ (first v w : View) (node i word : ℕ) (a : HasAimed first v node i wor
   -- or its parent isn't open
   pub left_further : (rebuild : ℕ) → ref_of word ≡ Some (RebuildAt rebuild)
       → IsLeftToParent (now w) rebuild → CameFurther first w
-  left_further rebuild is left =
-      let l = lawful_is a.at w whole s in
+  left_further rebuild is left = let l = lawful_is a.at w whole s in
       let it : IsRebuildFor (now a.at).pieces node i rebuild =
       subst (SlotNames (now a.at).pieces node i) is
       (slot_names (now a.at) node i word (names a.at.start a.at.words a.sound.lawful.opens a.at.log
@@ -164,22 +145,20 @@ installed_further first v w x node i word base f a k b =
 -- a walk that has aimed has aimed still
 pub aimed_on : (first v w : View) (node i word : ℕ) → HasAimed first v node i word → IsAfter v w
     → HasAimed first w node i word
-aimed_on first v w node i word a b =
-    record {
-      at = a.at;
-      sound = a.sound;
-      fresh = a.fresh;
-      holds = a.holds;
-      set = a.set;
-      following = after_more a.at v w a.following b;
-    }
+aimed_on first v w node i word a b = record {
+  at = a.at;
+  sound = a.sound;
+  fresh = a.fresh;
+  holds = a.holds;
+  set = a.set;
+  following = after_more a.at v w a.following b;
+}
 
 -- the change of a plan has the aim
 pub planned_aim : (first v w : View) (aim : Aim) (row : ChangeRow)
     → HasAimed first v aim.node aim.index aim.word → IsAfter v w → row.node ≡ aim.node
     → row.index ≡ aim.index → row.from ≡ aim.word → HasAimed first w row.node row.index row.from
-planned_aim first v w aim row a b n i f =
-    subst (λ x. HasAimed first w x row.index row.from) (sym n)
+planned_aim first v w aim row a b n i f = subst (λ x. HasAimed first w x row.index row.from) (sym n)
     (subst (λ x. HasAimed first w aim.node x row.from) (sym i)
     (subst (λ x. HasAimed first w aim.node aim.index x) (sym f)
     (aimed_on first v w aim.node aim.index aim.word a b)))
@@ -187,15 +166,14 @@ planned_aim first v w aim row a b n i f =
 -- a walk that has come to a slot has aimed
 pub slot_aimed : (first v : View) (key node i word : ℕ) → IsSound v → IsAtSlot v key node i word
     → IsFreshNode first v node → HasAimed first v node i word
-slot_aimed first v key node i word s at f =
-    record {
-      at = v;
-      sound = s;
-      fresh = f;
-      holds = at.holds;
-      set = λ e. at.set (ap ref_of e ∙ ref_of-unset);
-      following = record { later = same_log; start_is = refl; words_is = refl };
-    }
+slot_aimed first v key node i word s at f = record {
+  at = v;
+  sound = s;
+  fresh = f;
+  holds = at.holds;
+  set = λ e. at.set (ap ref_of e ∙ ref_of-unset);
+  following = record { later = same_log; start_is = refl; words_is = refl };
+}
 
 -- a change that stood in the slot is resolved
 pub change_further : (P : Event → Type 0) (first v w : View) (node i word change : ℕ) → IsSound v
@@ -224,9 +202,39 @@ come_linked v s key node rows h =
 
 -- a walk begins
 pub begun_fresh : (v w : View) → Turned v (searching v) w → IsFreshNode v w anchor
-begun_fresh v w t =
-    anchor_fresh v w record {
-      later = later-goes_on t.later;
-      start_is = ap (λ (x : View). x.start) t.view;
-      words_is = ap (λ (x : View). x.words) t.view;
-    }
+begun_fresh v w t = anchor_fresh v w record {
+  later = later-goes_on t.later;
+  start_is = ap (λ (x : View). x.start) t.view;
+  words_is = ap (λ (x : View). x.words) t.view;
+}
+
+-- ---- the row of an update that was decided yes stays as it is, and its reply the same. Serves the walk and
+-- its Counts.
+
+-- a decided change stays as it is
+same_decided : (old new : ChangeRow) → ChangeGrows old new → old.decision ≡ decided_yes → new ≡ old
+same_decided old new g said = ap₂ (λ (x : ChangeRow) d. record x { decision = d }) g.others
+    (g.decided (λ none. omega arith))
+
+module _ (pairs : List Pair) (words : ℕ) (opens : CanOpen pairs words) (log longer : Log)
+    (h : EachEnabled (start pairs words) longer) (g : GoesOn log longer) where
+  -- the row of a change that was decided yes stays
+  pub yes_stays : (base : ℕ) (change : ChangeRow)
+      → (state_of pairs words log).pieces base ≡ Some (Change change)
+      → change.decision ≡ decided_yes
+      → (state_of pairs words longer).pieces base ≡ Some (Change change)
+  yes_stays base change e said =
+      let it = change_there (state_of pairs words log).pieces (state_of pairs words longer).pieces
+      (grow_between pairs words log longer h g) base change e in
+      it.1 ∙ ap (λ x. Some (Change x)) (same_decided change it.0 it.2 said)
+
+  -- and its reply is the same
+  pub reply_stays : EachEnabled (start pairs words) log → (base : ℕ) (change : ChangeRow)
+      → (state_of pairs words log).pieces base ≡ Some (Change change)
+      → reply_of (state_of pairs words longer).pieces change
+      ≡ reply_of (state_of pairs words log).pieces change
+  reply_stays before base change e = let t = state_of pairs words log in
+      let row = (names pairs words opens log before).rows base (Change change) e in
+      value_stays t.pieces (state_of pairs words longer).pieces
+      (grow_between pairs words log longer h g) change.node change.index (ref_of change.from)
+      change.key row.0

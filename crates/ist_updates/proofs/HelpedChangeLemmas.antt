@@ -4,53 +4,32 @@ use Rattle.ist_core.specs.declared.commands.Command.{Command}
 use Rattle.ist_core.specs.declared.events.Event.{Event}
 use Rattle.ist_core.specs.declared.events.Event.TheVariants.{Install}
 use Rattle.ist_core.specs.declared.states.ChangeRow.{ChangeRow}
-use Rattle.ist_core.specs.Changes.{changes_of, command_of, reply_of}
-use Rattle.ist_core.specs.Growing.{ChangeGrows}
-use Rattle.ist_core.specs.Installing.{CanInstall}
-use Rattle.ist_core.specs.Lawful.{Lawful, state_of}
-use Rattle.ist_core.specs.Pieces.{Change}
-use Rattle.ist_core.specs.Rebuilding.{IsUpdate}
-use Rattle.ist_core.specs.Standing.{entries_by}
-use Rattle.ist_core.specs.StartLayout.{start}
-use Rattle.ist_core.specs.Statuses.{decided_yes}
-use Rattle.ist_core.specs.Writing.{first_change}
-use Rattle.ist_core.specs.After.{decision_word}
-use Rattle.ist_core.proofs.GrowingLemmas.{change_there}
+use Rattle.ist_core.specs.TreeTerms.{changes_of, command_of, reply_of, ChangeGrows, CanInstall, IsUpdate, entries_by, first_change}
+use Rattle.ist_core.specs.LogTerms.{Lawful, state_of, decision_word, LaterBy}
+use Rattle.ist_core.specs.WordTerms.{Change, start, decided_yes}
+use Rattle.ist_core.proofs.AllLogLemmas.{change_there}
+use Rattle.ist_rule.specs.RuleTerms.{IsResolved, TokenFace, WentOn, now, GoesOnTo, IsSound, CallStands, HasMade}
 use Rattle.ist_rule.specs.declared.view.View.{View}
-use Rattle.ist_core.specs.Authors.{LaterBy}
-use Rattle.ist_core.proofs.OptionLemmas.{same_change}
-use Rattle.ist_rule.specs.Conditions.{IsResolved}
-use Rattle.ist_rule.specs.Faces.{TokenFace}
-use Rattle.ist_rule.specs.Going.{WentOn}
-use Rattle.ist_rule.specs.Learning.{now, GoesOnTo}
-use Rattle.ist_rule.specs.Rule.{IsSound}
-use Rattle.ist_rule.specs.Standings.{CallStands, HasMade}
+use Rattle.ist_core.proofs.AllWordLemmas.{same_change}
 use Rattle.ist_rule.proofs.WentOnLemmas.{goes_on_went, logged_went, went_all, went_more, went_grow, went_now, went_lawful, went_who}
+use Rattle.ist_rows.specs.RowTerms.{HasRefused, InstallsNone, IsCaller, IsQuiet, HasGone}
 use Rattle.ist_rows.specs.declared.callers.Caller.{Caller}
 use Rattle.ist_rows.specs.declared.kinds.Kind.TheVariants.{Change as ChangeKind}
-use Rattle.ist_rows.specs.Building.{HasRefused}
-use Rattle.ist_rows.specs.CallerLaws.{InstallsNone}
-use Rattle.ist_rows.specs.Rows.{IsCaller}
 use Rattle.ist_rows.proofs.CallerLawLemmas.{resolved_went}
 use Rattle.ist_dcss.specs.Helping.{Serves, MayHelp, IsDecided, IsOut}
 use Rattle.ist_dcss.specs.Installing.{rows_of, IsInstallable, IsInstalled}
-use Rattle.ist_dcss.proofs.ResolvedLemmas.{resolved_helped}
+use Rattle.ist_dcss.proofs.ResolvedLemmas.{resolved_helped, serves_keep}
 use Rattle.laws_calls.specs.Accepting.{InstallsNoYes}
-use Rattle.laws_calls.proofs.InstalledLemmas.{installed_no_entry}
-use Rattle.laws_calls.proofs.AcceptedLemmas.{no_longer}
-use Rattle.ist_rows.specs.Going.{IsQuiet, HasGone}
+use Rattle.laws_calls.proofs.AcceptedLemmas.{installed_no_entry, no_longer}
 use Rattle.ist_updates.specs.declared.plans.PlannedChange.{PlannedChange}
 use Rattle.ist_updates.specs.Asking.{IsAsked}
 use Rattle.ist_updates.specs.Changing.{HasRows, filling_of}
 use Rattle.ist_updates.specs.Trying.{Tries, HasTakenEffect}
-use Rattle.ist_updates.proofs.AskedLemmas.{none_no_yes, no_yes_by, asked_still, asked_gone}
+use Rattle.ist_updates.proofs.StepLemmas.{none_no_yes, no_yes_by, asked_still, asked_gone, help_tries, help_installs_none}
 use Rattle.ist_rows.proofs.GoneLemmas.{caller_gone}
-use Rattle.ist_updates.proofs.StepLemmas.{help_tries, help_installs_none}
-use Rattle.ist_dcss.proofs.HelperLemmas.{serves_keep}
-use Rattle.ist_updates.proofs.StandingLemmas.{no_start, fits_stands, reply_stays}
+use Rattle.ist_updates.proofs.StandingLemmas.{no_start, fits_stands, reply_stays, installed_row}
 use Rattle.ist_updates.proofs.EntryLemmas.{one_more_entry}
 use Rattle.ist_updates.proofs.PairLemmas.{sound_now}
-use Rattle.ist_updates.proofs.PublishLemmas.{installed_row}
 
 -- ---- a change that wasn't installed
 
@@ -58,13 +37,12 @@ module _ (old new : Caller) (caller : IsCaller new) (number : new.number ≡ old
     (refused : HasRefused new) (g : GoesOnTo old.token.view new.token.view) where
   -- the caller has made loads
   pub missed_gone : (P : Event → Type 0) → HasGone P old new
-  missed_gone P =
-      record {
-        caller = caller;
-        number = number;
-        refused = refused;
-        went = goes_on_went P old.token.view new.token.view g;
-      }
+  missed_gone P = record {
+    caller = caller;
+    number = number;
+    refused = refused;
+    went = goes_on_went P old.token.view new.token.view g;
+  }
 
   -- and is asked still
   pub missed_asked : (command : Command) → IsAsked old command → IsAsked new command
@@ -75,16 +53,14 @@ module _ (old new : Caller) (caller : IsCaller new) (number : new.number ≡ old
 pub missed_quiet : (old new : Caller) (plan : PlannedChange) → IsCaller old
     → IsInstallable old.token.view plan.base (filling_of plan) → new.number ≡ old.number
     → GoesOnTo old.token.view new.token.view → IsQuiet new
-missed_quiet old new plan c m number g =
-    let v = old.token.view in
-    record {
-      pending = m.allowed.pending;
-      in_call = ap (λ y. y.pending) g.same ∙ m.allowed.in_call;
-      resolved = subst (IsResolved new.token.view) (sym number)
-          (resolved_went v new.token.view old.number c.mine
-          (subst (IsResolved v) (cc (sym m.mine ∙ c.mine))
-          m.allowed.resolved) (goes_on_went InstallsNone v new.token.view g));
-    }
+missed_quiet old new plan c m number g = let v = old.token.view in record {
+  pending = m.allowed.pending;
+  in_call = ap (λ y. y.pending) g.same ∙ m.allowed.in_call;
+  resolved = subst (IsResolved new.token.view) (sym number)
+      (resolved_went v new.token.view old.number c.mine
+      (subst (IsResolved v) (cc (sym m.mine ∙ c.mine))
+      m.allowed.resolved) (goes_on_went InstallsNone v new.token.view g));
+}
 
 -- ---- an installed change
 
@@ -107,13 +83,12 @@ published_row v plan x i =
 pub carried_help : (old mid : Caller) (plan : PlannedChange) → IsCaller mid
     → IsInstalled old.token.view plan.base (filling_of plan) mid.token.view
     → MayHelp mid.token.view plan.base
-carried_help old mid plan c i =
-    record {
-      number = mid.number;
-      mine = c.mine;
-      row = plan.row;
-      installed = published_row old.token.view plan mid.token.view i;
-    }
+carried_help old mid plan c i = record {
+  number = mid.number;
+  mine = c.mine;
+  row = plan.row;
+  installed = published_row old.token.view plan mid.token.view i;
+}
 
 module _ (old mid : Caller) (token : TokenFace) (plan : PlannedChange) (c : IsCaller old)
     (s : IsSound old.token.view) (rows : HasRows old plan) (update : IsUpdate plan.row.kind)
@@ -146,21 +121,18 @@ module _ (old mid : Caller) (token : TokenFace) (plan : PlannedChange) (c : IsCa
 
   -- by loads and the Install, and then by help
   went_by : (P : Event → Type 0) → P event → ((e : Event) → Serves base e → P e) → WentOn P v w
-  went_by P is all =
-      went_more P v x w
+  went_by P is all = went_more P v x w
       (went_more P v i.before x (goes_on_went P v i.before i.seen)
       (logged_went P i.before event x i.logged is refl))
       (went_all (Serves base) P all x w g)
 
   tries_event : Tries event
-  tries_event change e start =
-      let same : plan.row ≡ change = cc in
+  tries_event change e start = let same : plan.row ≡ change = cc in
       no_start (ap (λ r. r.kind) same ∙ start) update
 
   -- the caller went on by tries only
   pub carried_gone : HasGone Tries old new
-  carried_gone =
-      let it = caller_gone (Serves base) (serves_keep base) mid token caller refused g in
+  carried_gone = let it = caller_gone (Serves base) (serves_keep base) mid token caller refused g in
       record {
         caller = it.caller;
         number = number;
@@ -174,18 +146,16 @@ module _ (old mid : Caller) (token : TokenFace) (plan : PlannedChange) (c : IsCa
   -- ---- its changes
 
   resolved : IsOut w base → IsResolved w old.number
-  resolved out =
-      resolved_helped v x w old.number base (filling_of plan) c.mine
+  resolved out = resolved_helped v x w old.number base (filling_of plan) c.mine
       (subst (IsResolved v) number_is m.allowed.resolved) i g out
 
   -- if the change has left its slot, the caller is quiet
   pub carried_quiet : IsOut w base → IsQuiet new
-  carried_quiet out =
-      record {
-        pending = m.allowed.pending;
-        in_call = ap (λ y. y.pending) went.same ∙ m.allowed.in_call;
-        resolved = subst (IsResolved w) (sym number) (resolved out);
-      }
+  carried_quiet out = record {
+    pending = m.allowed.pending;
+    in_call = ap (λ y. y.pending) went.same ∙ m.allowed.in_call;
+    resolved = subst (IsResolved w) (sym number) (resolved out);
+  }
 
   -- ---- its row
 
@@ -198,8 +168,7 @@ module _ (old mid : Caller) (token : TokenFace) (plan : PlannedChange) (c : IsCa
 
   -- before it nothing stood there
   unpublished : (now v).pieces base ≡ None
-  unpublished =
-      (sound_now v s).unpublished record { caller = old.number; base = base; size = 9 }
+  unpublished = (sound_now v s).unpublished record { caller = old.number; base = base; size = 9 }
       (c.rows ChangeKind base rows.0)
 
   -- ---- if it was decided yes
@@ -219,47 +188,40 @@ module _ (old mid : Caller) (token : TokenFace) (plan : PlannedChange) (c : IsCa
           → CallStands v.start v.words w.log old.number v.calls (Some m.allowed.pending)
           → length (entries_by old.number (changes_of v.start v.words w.log))
           ≤ length (entries_by old.number (changes_of v.start v.words v.log)) + 1
-      at before (inl work) =
-          no_longer _ _ (work.made ∙ sym before)
-      at before (inr entered) =
-          one_more_entry _ _ entered.entry
+      at before (inl work) = no_longer _ _ (work.made ∙ sym before)
+      at before (inr entered) = one_more_entry _ _ entered.entry
           (entered.made ∙ ap (λ es. es ++ entered.entry ∷ []) (sym before))
 
   -- if the change was decided yes, the command took effect
-  pub carried_yes : IsDecided w base true → (command : Command)
-      → command_of plan.row ≡ Some command
+  pub carried_yes : IsDecided w base true → (command : Command) → command_of plan.row ≡ Some command
       → HasTakenEffect v w old.number command plan.row.node (reply_of (now v).pieces plan.row)
-  carried_yes d command is =
-      let grew = grown d.row d.published in
-      record {
-        base = base;
-        fresh = unpublished;
-        update = record {
-          change = d.row;
-          published = subst (λ t. t.pieces base ≡ Some (Change d.row)) (went_now Tries v w went)
-              d.published;
-          owned = ap (λ r. r.owner) grew.others ∙ m.owned ∙ number_is;
-          update = subst IsUpdate (sym (ap (λ r. r.kind) grew.others)) update;
-          decision = d.decision;
-          since = λ before there. absurd (cc (sym unpublished ∙ there));
-          alone = alone;
-        };
-        command_is = ap command_of grew.others ∙ is;
-        node_is = ap (λ r. r.node) grew.others;
-        reply_is = reply_stays (now v) (now w) (went_grow Tries v w went) plan.row.key plan.row.from
-            (fits_stands (start v.start v.words) v.log plan.row _ m.fits update)
-            ∙ sym (ap (reply_of (now w).pieces) grew.others);
-      }
+  carried_yes d command is = let grew = grown d.row d.published in record {
+    base = base;
+    fresh = unpublished;
+    update = record {
+      change = d.row;
+      published = subst (λ t. t.pieces base ≡ Some (Change d.row)) (went_now Tries v w went)
+          d.published;
+      owned = ap (λ r. r.owner) grew.others ∙ m.owned ∙ number_is;
+      update = subst IsUpdate (sym (ap (λ r. r.kind) grew.others)) update;
+      decision = d.decision;
+      since = λ before there. absurd (cc (sym unpublished ∙ there));
+      alone = alone;
+    };
+    command_is = ap command_of grew.others ∙ is;
+    node_is = ap (λ r. r.node) grew.others;
+    reply_is = reply_stays (now v) (now w) (went_grow Tries v w went) plan.row.key plan.row.from
+        (fits_stands (start v.start v.words) v.log plan.row _ m.fits update)
+        ∙ sym (ap (reply_of (now w).pieces) grew.others);
+  }
 
   -- ---- if it was decided no
 
   -- if the change was decided no and has left its slot, the caller is still asked
   pub carried_no : IsDecided w base false → IsOut w base → (command : Command)
       → IsAsked old command → IsAsked new command
-  carried_no d out command a =
-      let lawful = went_lawful Tries v w went in
-      let t = state_of v.start v.words w.log in
-      let Q = InstallsNoYes t old.number in
+  carried_no d out command a = let lawful = went_lawful Tries v w went in
+      let t = state_of v.start v.words w.log in let Q = InstallsNoYes t old.number in
       let no : Q event = λ same change there up yes.
       (let is = same_change (t.pieces base) d.row change
       (subst (λ u. u.pieces base ≡ Some (Change d.row)) (went_now Tries v w went) d.published) there

@@ -3,12 +3,11 @@ use Rattle.std.proofs.Common.{◌≡◌, ◌⊎◌, ℕ, List, ◌∷◌, refl, 
 use Rattle.ist_core.specs.declared.events.Event.{Event}
 use Rattle.ist_core.specs.declared.events.Event.TheVariants.{Count}
 use Rattle.ist_core.specs.declared.pairs.Pair.{Pair}
-use Rattle.ist_core.specs.Authors.{GoesOnBy, no_more, one_more, Later, LaterBy}
-use Rattle.ist_core.specs.Logs.{Log, Counts, GoesOn, same_log, one_event}
 use Rattle.ist_core.specs.declared.events.Who.TheVariants.{Caller as CallerOf}
+use Rattle.ist_core.specs.LogTerms.{GoesOnBy, no_more, one_more, Later, LaterBy, Log, Counts, GoesOn, same_log, one_event}
 use Rattle.ist_rule.proofs.LaterLemmas.{goes_on_more, goes_on_length}
 use Rattle.laws_calls.specs.Counting.{CountsFrom}
-use Rattle.laws_calls.proofs.EventsMeanwhileLemmas.{event_by}
+use Rattle.laws_calls.proofs.AcceptedLemmas.{event_by}
 use Rattle.ist_updates.specs.Counting.{CameToLimit, CountedNowhere, WasCounted}
 use Rattle.ist_updates.specs.Trying.{Tries}
 use Rattle.laws_stability.proofs.CountEventLemmas.{counts_own}
@@ -75,37 +74,33 @@ module _ (pairs : List Pair) (words : ℕ) (earlier : Log) (caller : ℕ) where
   pub came_on : (a b : Log) → GoesOn a b → (node : ℕ)
       → CameToLimit pairs words earlier a caller node
       → CameToLimit pairs words earlier b caller node
-  came_on a b g node c =
-      record {
-        at = c.at;
-        since = c.since;
-        until = goes_on_more c.until g;
-        row = c.row;
-        published = c.published;
-        reached = c.reached;
-      }
+  came_on a b g node c = record {
+    at = c.at;
+    since = c.since;
+    until = goes_on_more c.until g;
+    row = c.row;
+    published = c.published;
+    reached = c.reached;
+  }
 
   -- and reached it in the earlier log, if the caller counted nothing since
   pub came_back : (a b : Log) → GoesOnBy (CountsNone caller) a b → (node : ℕ)
       → CameToLimit pairs words earlier b caller node
       → CameToLimit pairs words earlier a caller node
-  came_back a b l node c =
-      record {
-        at = c.at;
-        since = c.since;
-        until = count_stood l c.until;
-        row = c.row;
-        published = c.published;
-        reached = c.reached;
-      }
+  came_back a b l node c = record {
+    at = c.at;
+    since = c.since;
+    until = count_stood l c.until;
+    row = c.row;
+    published = c.published;
+    reached = c.reached;
+  }
 
   -- no row reached its limit, if the caller counted nothing since the earlier log
   pub came_none : (log : Log) → GoesOnBy (CountsNone caller) earlier log → (node : ℕ)
       → ¬ (CameToLimit pairs words earlier log caller node)
-  came_none log l node c =
-      let longer = goes_on_length (count_stood l c.until) in
-      let low = goes_on_length c.since in
-      omega arith
+  came_none log l node c = let longer = goes_on_length (count_stood l c.until) in
+      let low = goes_on_length c.since in omega arith
 
 -- what was counted was so in a longer log
 pub counted_on : (earlier a b : Log) (caller node : ℕ) → GoesOn a b

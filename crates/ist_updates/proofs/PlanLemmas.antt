@@ -1,28 +1,22 @@
 -- Plans whose change fits its kind. Serves `plan_leaf`, `plan_pair` and `plan_clear`.
-use Rattle.std.proofs.Common.{◌≡◌, ℕ, ◌<◌, [], List, Some, refl, sym, ap, ◌∙◌, subst, inl, inr, arith}
+use Rattle.std.proofs.Common.{◌≡◌, ℕ, ◌<◌, [], List, Some, refl, sym, ap, ◌∙◌, subst, inl, inr, arith, Result, Ok, Err}
 use Rattle.ist_core.specs.declared.events.Event.{Event}
 use Rattle.ist_core.specs.declared.lists.Row.{Row}
 use Rattle.ist_core.specs.declared.states.ChangeRow.{ChangeRow}
-use Rattle.ist_core.specs.Slots.{IsChildFor}
-use Rattle.ist_core.proofs.GrowingLemmas.{child_remains}
-use Rattle.ist_core.specs.Installing.{ComesByKey, FitsKind, a_put, a_pair, a_remove, IsLeafOf, HasRoomFor}
-use Rattle.ist_core.specs.References.{Empty, LeafAt, InnerAt, IsGoodBase, ref_of, word_of}
-use Rattle.ist_core.specs.StartLayout.{start}
-use Rattle.ist_core.specs.Statuses.{put_kind, remove_kind}
-use Rattle.ist_core.proofs.ReferenceLemmas.{ref_of-word_of}
+use Rattle.ist_core.specs.declared.ports.Full.{Full}
+use Rattle.ist_core.specs.WordTerms.{IsChildFor, Empty, LeafAt, InnerAt, IsGoodBase, ref_of, word_of, start, put_kind, remove_kind}
+use Rattle.ist_core.proofs.AllLogLemmas.{child_remains}
+use Rattle.ist_core.specs.TreeTerms.{ComesByKey, FitsKind, a_put, a_pair, a_remove, IsLeafOf, HasRoomFor}
+use Rattle.ist_core.proofs.AllWordLemmas.{ref_of-word_of}
+use Rattle.ist_rule.specs.RuleTerms.{WentOn, now, GoesOnTo, IsNode}
 use Rattle.ist_rule.specs.declared.view.View.{View}
-use Rattle.ist_rule.specs.Going.{WentOn}
-use Rattle.ist_rule.specs.Learning.{now, GoesOnTo}
-use Rattle.ist_rule.specs.Watching.{IsNode}
-use Rattle.ist_rule.proofs.GoingOnLemmas.{goes_on_more}
-use Rattle.ist_rule.proofs.WentOnLemmas.{went_lawful, later_by-goes_on, goes_on_grow}
-use Rattle.ist_core.specs.Pieces as pieces
+use Rattle.ist_rule.proofs.EventLemmas.{goes_on_more}
+use Rattle.ist_rule.proofs.WentOnLemmas.{went_lawful, later_by-goes_on, goes_on_grow, went_all, went_more}
+use Rattle.ist_rows.specs.RowTerms.{IsCaller, RanShort}
 use Rattle.ist_rows.specs.declared.callers.Caller.{Caller}
-use Rattle.ist_rows.specs.declared.kinds.Kind.TheVariants as kind
-use Rattle.ist_rows.specs.Rows.{IsCaller}
 use Rattle.ist_dcss.proofs.FieldLemmas.{good_base}
 use Rattle.ist_dcss.specs.HelpEvents.{IsSlot}
-use Rattle.ist_dcss.proofs.FitsLemmas.{fits_later}
+use Rattle.ist_dcss.proofs.SlotPlaceLemmas.{fits_later}
 use Rattle.ist_dcss.proofs.InstallLemmas.{slot_on}
 use Rattle.ist_find.specs.Searches.{HasCome}
 use Rattle.ist_find.proofs.LookLemmas.{come_node, come_later}
@@ -31,9 +25,14 @@ use Rattle.laws_histories.proofs.PositionLemmas.{node_met}
 use Rattle.laws_calls.proofs.WalkLemmas.{meeting_comes}
 use Rattle.ist_updates.specs.declared.plans.Aim.{Aim}
 use Rattle.ist_updates.specs.declared.plans.Fresh.TheVariants.{Nothing, Leaf, Pair}
-use Rattle.ist_updates.specs.declared.plans.SlotPlan.TheVariants as way
-use Rattle.ist_updates.specs.Changing.{MayReplace, WasAtSlot, IsPlanned, row_for}
+use Rattle.ist_updates.specs.Changing.{MayReplace, WasAtSlot, IsPlanned, row_for, Prepares, MayAskFor, IsRowShort}
 use Rattle.ist_updates.proofs.PairLemmas.{row_good}
+use Rattle.std.specs.Prelude.{IfErr, IsErrAnd}
+use Rattle.ist_updates.specs.declared.plans.SlotPlan.{SlotPlan}
+use Rattle.ist_rows.proofs.ShortLemmas.{short_from}
+use Rattle.ist_core.specs.Pieces as pieces
+use Rattle.ist_rows.specs.declared.kinds.Kind.TheVariants as kind
+use Rattle.ist_updates.specs.declared.plans.SlotPlan.TheVariants as way
 
 module _ (v : View) (aim : Aim) (at : WasAtSlot v aim) where
   -- the search came to the node
@@ -48,8 +47,7 @@ module _ (v : View) (aim : Aim) (at : WasAtSlot v aim) where
 
   -- and was met by it
   pub slot_met : WasMet v.start v.words v.log aim.key slot_come.last aim.node
-  slot_met =
-      let s = at.seen.sound in
+  slot_met = let s = at.seen.sound in
       node_met v.start v.words s.lawful.opens v.log s.lawful.enabled aim.key v.loads.since
       slot_come.last aim.node
       (meeting_comes v.start v.words v.log aim.key v.loads.since slot_come.last aim.node at.at.came.0
@@ -57,8 +55,7 @@ module _ (v : View) (aim : Aim) (at : WasAtSlot v aim) where
 
   -- it is a node
   pub slot_node : IsNode (now v) aim.node
-  slot_node =
-      come_node v at.seen.sound aim.key slot_come.last aim.node at.at.came.0 slot_come.comes
+  slot_node = come_node v at.seen.sound aim.key slot_come.last aim.node at.at.came.0 slot_come.comes
 
   -- the slot holds a word
   pub slot_holds : IsSlot v aim.node aim.index
@@ -66,20 +63,18 @@ module _ (v : View) (aim : Aim) (at : WasAtSlot v aim) where
 
   -- after more loads, the caller has still made only loads since it was at the slot
   pub slot_loads : (w : View) → GoesOnTo v w → WasAtSlot w aim
-  slot_loads w g =
-      record {
-        before = at.before;
-        at = at.at;
-        sound = at.sound;
-        seen = goes_on_more at.before v w at.seen g;
-      }
+  slot_loads w g = record {
+    before = at.before;
+    at = at.at;
+    sound = at.sound;
+    seen = goes_on_more at.before v w at.seen g;
+  }
 
 -- a change that fits its kind still does when the caller went on
 pub fits_went : (P : Event → Type 0) (v w : View) → WentOn P v w → (row : ChangeRow)
     (fresh : List Row) → FitsKind (start v.start v.words) v.log row fresh
     → FitsKind (start w.start w.words) w.log row fresh
-fits_went P v w g row fresh f =
-    let lawful = went_lawful P v w g in
+fits_went P v w g row fresh f = let lawful = went_lawful P v w g in
     subst (λ p. FitsKind (start p w.words) w.log row fresh) (sym (ap (λ x. x.start) g.same))
     (subst (λ n. FitsKind (start v.start n) w.log row fresh) (sym (ap (λ x. x.words) g.same))
     (fits_later v.start v.words lawful.opens v.log w.log lawful.enabled (later_by-goes_on g.later)
@@ -87,16 +82,14 @@ fits_went P v w g row fresh f =
 
 module _ (P : Event → Type 0) (old new : Caller)
     (g : WentOn P old.token.view new.token.view) (aim : Aim)
-    (at : WasAtSlot old.token.view aim) (base : ℕ)
-    (change : new.change ≡ Some base) where
+    (at : WasAtSlot old.token.view aim) (base : ℕ) (change : new.change ≡ Some base) where
   abbrev v : View
   v = old.token.view
 
   -- the change's key leads to its slot
   by_key : (kind value to owner : ℕ)
       → ComesByKey (start v.start v.words) v.log (row_for aim kind value to owner)
-  by_key kind value to owner =
-      record { led = (slot_met v aim at).led; index = slot_child v aim at }
+  by_key kind value to owner = record { led = (slot_met v aim at).led; index = slot_child v aim at }
 
   -- a put of a leaf is planned
   pub leaf_planned : (value leaf to : ℕ) → HasRoomFor (now v) aim.key aim.word
@@ -215,3 +208,39 @@ module _ (P : Event → Type 0) (old new : Caller)
               fresh_are = refl;
             });
       }
+
+-- ---- refusals, seen from earlier views. Serves each step of a change.
+
+-- if too few words were left since a later view, too few were left since the earlier view
+pub short_after : (P : Event → Type 0) {A : ℕ → Type 0} (u v : View) (words : ℕ) (full : Full)
+    (w : View) → WentOn P u v → RanShort (WentOn P) A v words full w
+    → RanShort (WentOn P) A u words full w
+short_after P u v words full w a s =
+    short_from (WentOn P) (WentOn P) u v (λ x. went_more P u v x a) words full w s (λ asked. asked)
+
+-- and also for a wider class of events, and for something else that was asked for
+pub short_wider : (P Q : Event → Type 0) {A B : ℕ → Type 0}
+    → ((event : Event) → P event → Q event) → (u v : View) (words : ℕ) (full : Full) (w : View)
+    → WentOn Q u v → RanShort (WentOn P) A v words full w → (A full.asked → B full.asked)
+    → RanShort (WentOn Q) B u words full w
+short_wider P Q all u v words full w a s to =
+    short_from (WentOn P) (WentOn Q) u v (λ x h. went_more Q u v x a (went_all P Q all v x h)) words
+    full w s to
+
+-- a row of one size was refused, which is handed on as a refusal of any of several sizes
+pub row_refused : {A : Type 0} (For : ℕ → Type 0) {size : ℕ} {u v w : View} {words : ℕ} {full : Full}
+    (r : Result A Full) → IsErrAnd r (λ x. x ≡ full) → WentOn Prepares u v
+    → IsRowShort (λ asked. asked ≡ size) v words full w → For size
+    → IfErr r (λ full. IsRowShort For u words full w)
+row_refused For (Ok a) same went s may = absurd same
+row_refused {A} For {size} {u} {v} {w} {words} {full} (Err e) same went s may =
+    subst (λ x. IsRowShort For u words x w) (sym same)
+    (short_wider Prepares Prepares (λ event is. is) u v words full w went s
+    (λ for. (subst For (sym for.0) may, for.1)))
+
+-- a change that was refused since a later view was refused since the earlier view
+pub err_refused : {A : Type 0} (u v : View) (x : SlotPlan) (words : ℕ) (w : View) (r : Result A Full)
+    → WentOn Prepares u v → IfErr r (λ full. IsRowShort (MayAskFor x) v words full w)
+    → IfErr r (λ full. IsRowShort (MayAskFor x) u words full w)
+err_refused u v x words w (Ok a) g h = tt
+err_refused u v x words w (Err full) g h = short_after Prepares u v words full w g h

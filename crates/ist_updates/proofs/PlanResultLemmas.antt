@@ -1,13 +1,9 @@
 -- What carrying out a plan promises, by what came of its change. Serves `carry_out`.
 use Rattle.std.proofs.Common.{◌≡◌, Bool, false, subst}
-use Rattle.ist_core.specs.Rebuilding.{IsUpdate}
-use Rattle.ist_rule.specs.Faces.{TokenFace}
-use Rattle.ist_rule.specs.Going.{WentOn}
-use Rattle.ist_rule.specs.Learning.{now, GoesOnTo}
-use Rattle.ist_rule.specs.Rule.{IsSound}
+use Rattle.ist_core.specs.TreeTerms.{IsUpdate}
+use Rattle.ist_rule.specs.RuleTerms.{TokenFace, WentOn, now, GoesOnTo, IsSound}
+use Rattle.ist_rows.specs.RowTerms.{HasRefused, IsCaller}
 use Rattle.ist_rows.specs.declared.callers.Caller.{Caller}
-use Rattle.ist_rows.specs.Building.{HasRefused}
-use Rattle.ist_rows.specs.Rows.{IsCaller}
 use Rattle.ist_dcss.specs.Helping.{IsDecided, IsOut, Serves}
 use Rattle.ist_dcss.specs.Installing.{IsInstallable, IsInstalled}
 use Rattle.ist_updates.specs.declared.plans.PlannedChange.{PlannedChange}
@@ -24,18 +20,17 @@ pub missed_carried : (old new : Caller) {plan : PlannedChange} → IsCaller old
     → IsInstallable old.token.view plan.base (filling_of plan) → IsCaller new
     → new.number ≡ old.number → HasRefused new → GoesOnTo old.token.view new.token.view
     → HoldsElse (now new.token.view) plan.row → HasCarried old plan false new
-missed_carried old new {plan} c m caller number refused g other =
-    record {
-      on = record {
-        gone = missed_gone old new caller number refused g Tries;
-        quiet = missed_quiet old new plan c m number g;
-      };
-      took = λ is. absurd (cc);
-      lost = λ is. missed_asked old new caller number refused g;
-      further = λ is first aimed. other_further first old.token.view new.token.view plan.row.node
-          plan.row.index plan.row.from aimed (after_loads old.token.view new.token.view g) g.sound
-          other.word other.holds other.differs;
-    }
+missed_carried old new {plan} c m caller number refused g other = record {
+  on = record {
+    gone = missed_gone old new caller number refused g Tries;
+    quiet = missed_quiet old new plan c m number g;
+  };
+  took = λ is. absurd (cc);
+  lost = λ is. missed_asked old new caller number refused g;
+  further = λ is first aimed. other_further first old.token.view new.token.view plan.row.node
+      plan.row.index plan.row.from aimed (after_loads old.token.view new.token.view g) g.sound
+      other.word other.holds other.differs;
+}
 
 -- the change was installed and helped
 module _ (old mid : Caller) (token : TokenFace) (plan : PlannedChange) (c : IsCaller old)
@@ -50,17 +45,16 @@ module _ (old mid : Caller) (token : TokenFace) (plan : PlannedChange) (c : IsCa
   -- whatever it was decided
   pub helped_carried : (taken : Bool) → IsDecided token.view plan.base taken
       → HasCarried old plan taken new
-  helped_carried taken d =
-      record {
-        on = record {
-          gone = carried_gone old mid token plan c s rows update m caller refused number i g;
-          quiet = carried_quiet old mid token plan c s rows update m caller refused number i g out;
-        };
-        took = λ is. carried_yes old mid token plan c s rows update m caller refused number i g
-            (subst (IsDecided token.view plan.base) is d);
-        lost = λ is. carried_no old mid token plan c s rows update m caller refused number i g
-            (subst (IsDecided token.view plan.base) is d) out;
-        further = λ is first aimed. installed_further first old.token.view mid.token.view token.view
-            plan.row.node plan.row.index plan.row.from plan.base (filling_of plan) aimed i
-            (after_went (Serves plan.base) mid.token.view token.view g);
-      }
+  helped_carried taken d = record {
+    on = record {
+      gone = carried_gone old mid token plan c s rows update m caller refused number i g;
+      quiet = carried_quiet old mid token plan c s rows update m caller refused number i g out;
+    };
+    took = λ is. carried_yes old mid token plan c s rows update m caller refused number i g
+        (subst (IsDecided token.view plan.base) is d);
+    lost = λ is. carried_no old mid token plan c s rows update m caller refused number i g
+        (subst (IsDecided token.view plan.base) is d) out;
+    further = λ is first aimed. installed_further first old.token.view mid.token.view token.view
+        plan.row.node plan.row.index plan.row.from plan.base (filling_of plan) aimed i
+        (after_went (Serves plan.base) mid.token.view token.view g);
+  }

@@ -3,37 +3,22 @@
 use Rattle.std.proofs.Common.{◌≡◌, ◌≢◌, ◌⊎◌, ℕ, Some, sym, ap, ◌∙◌, subst, inl, inr, ⊎_elim}
 use Rattle.ist_core.specs.declared.events.Event.TheVariants.{Install}
 use Rattle.ist_core.specs.declared.states.ChangeRow.{ChangeRow}
-use Rattle.ist_core.specs.Changes.{reply_of, value_at}
-use Rattle.ist_core.specs.Installing.{IsUnrefused}
-use Rattle.ist_core.specs.Links.{Linked, WasLinked}
-use Rattle.ist_core.specs.Lawful.{EachEnabled, Lawful, state_of}
-use Rattle.ist_core.proofs.FateLemmas.{enabled_before}
-use Rattle.ist_core.specs.Pieces.{Change}
-use Rattle.ist_core.specs.References.{ref_of}
-use Rattle.ist_core.specs.Snapshots.{HoldsRow, HoldsRows}
-use Rattle.ist_core.specs.StartLayout.{start}
-use Rattle.ist_core.specs.Statuses.{undecided}
-use Rattle.ist_core.specs.Slots.{SlotHolds}
-use Rattle.ist_core.proofs.GrowingLemmas.{change_there, slot_remains}
-use Rattle.laws_links.proofs.ChangeLemmas.{undecided_unresolved}
-use Rattle.ist_rule.specs.declared.view.View.{View}
 use Rattle.ist_core.specs.declared.events.Who.TheVariants.{Caller as CallerOf}
-use Rattle.ist_core.specs.Authors.{whose}
-use Rattle.ist_core.proofs.OptionLemmas.{same_change}
-use Rattle.ist_core.proofs.FreshLemmas.{pair_size}
-use Rattle.ist_core.proofs.PrefixLemmas.{ever_later}
-use Rattle.ist_rule.specs.Conditions.{IsResolved, StoredAll}
-use Rattle.ist_rule.specs.Faces.{TokenFace}
-use Rattle.ist_rule.specs.Going.{WentOn}
-use Rattle.ist_rule.specs.Learning.{now, GoesOnTo}
-use Rattle.ist_rule.specs.Rule.{IsSound}
+use Rattle.ist_core.specs.TreeTerms.{reply_of, value_at, IsUnrefused, Linked, WasLinked}
+use Rattle.ist_core.specs.LogTerms.{EachEnabled, Lawful, state_of, HoldsRow, HoldsRows, whose}
+use Rattle.ist_core.proofs.AllLogLemmas.{enabled_before, change_there, slot_remains, ever_later}
+use Rattle.ist_core.specs.WordTerms.{Change, ref_of, start, undecided, SlotHolds}
+use Rattle.laws_links.proofs.ChangeLemmas.{undecided_unresolved}
+use Rattle.ist_rule.specs.RuleTerms.{IsResolved, StoredAll, TokenFace, WentOn, now, GoesOnTo, IsSound}
+use Rattle.ist_rule.specs.declared.view.View.{View}
+use Rattle.ist_core.proofs.AllWordLemmas.{same_change}
+use Rattle.ist_core.proofs.AllEventLemmas.{pair_size}
 use Rattle.ist_rule.proofs.WentOnLemmas.{goes_on_grow, later_by-goes_on, went_grow, went_lawful, went_now}
+use Rattle.ist_rows.specs.RowTerms.{HasRefused, IsCaller, HasGone, with_own}
 use Rattle.ist_rows.specs.declared.callers.Caller.{Caller}
 use Rattle.ist_rows.specs.declared.kinds.Kind.TheVariants as kind
-use Rattle.ist_rows.specs.Building.{HasRefused}
-use Rattle.ist_rows.specs.Rows.{IsCaller}
 use Rattle.ist_dcss.specs.Installing.{IsInstallable, rows_of}
-use Rattle.laws_calls.proofs.EventsMeanwhileLemmas.{event_by}
+use Rattle.laws_calls.proofs.AcceptedLemmas.{event_by}
 use Rattle.laws_calls.specs.Owning.{HasChange, WasInstalled}
 use Rattle.laws_calls.proofs.OwnLemmas.{change_since}
 use Rattle.ist_updates.specs.declared.plans.Aim.{Aim}
@@ -43,12 +28,8 @@ use Rattle.ist_updates.specs.declared.plans.PlannedChange.{PlannedChange}
 use Rattle.ist_updates.specs.declared.plans.SlotPlan.{SlotPlan}
 use Rattle.ist_updates.specs.Asking.{IsAsked}
 use Rattle.ist_updates.specs.Changing.{WasAtSlot, Prepares, HasRows, IsPlanFor, IsPlanned, MayReplace, command_by, filling_of, fresh_rows}
-use Rattle.ist_rows.specs.Going.{HasGone}
-use Rattle.ist_rows.specs.Filling.{with_own}
 use Rattle.ist_updates.specs.Trying.{HasTakenEffect}
-use Rattle.ist_updates.proofs.AskedLemmas.{asked_gone}
-use Rattle.ist_updates.proofs.StepLemmas.{prepares_none}
-use Rattle.ist_updates.proofs.SinceLemmas.{taken_since}
+use Rattle.ist_updates.proofs.StepLemmas.{asked_gone, prepares_none, taken_since}
 use Rattle.ist_updates.proofs.StandingLemmas.{planned_reply, reply_stays, way_stands}
 use Rattle.ist_rows.proofs.GoneLemmas.{own_went, gone_more, loads_gone}
 use Rattle.ist_updates.proofs.PlanLemmas.{slot_met, slot_holds, fits_went}
@@ -56,14 +37,12 @@ use Rattle.ist_updates.proofs.PlanLemmas.{slot_met, slot_holds, fits_went}
 -- a caller that filled its rows has gone on so
 pub filled_gone : (old new : Caller) → HasRefused old → IsCaller new → IsSound new.token.view
     → new ≡ with_own old new.token.view.own → HasGone Prepares old new
-filled_gone old new refused c s same =
-    record {
-      caller = c;
-      number = ap (λ (x : Caller). x.number) same;
-      refused = subst HasRefused (sym same) refused;
-      went = own_went Prepares old.token.view new.token.view s
-          (ap (λ (x : Caller). x.token.view) same);
-    }
+filled_gone old new refused c s same = record {
+  caller = c;
+  number = ap (λ (x : Caller). x.number) same;
+  refused = subst HasRefused (sym same) refused;
+  went = own_went Prepares old.token.view new.token.view s (ap (λ (x : Caller). x.token.view) same);
+}
 
 -- ---- what an Install asks
 
@@ -93,11 +72,9 @@ unrefused_on v w number node mine resolved g h base change there own at refused 
         let decided : old.0.decision ≢ undecided =
         λ none. undecided_unresolved v.start v.words lawful.opens v.log before base old.0
         old.1 none (resolved base old.0 old.1 owner) in
-        h base old.0 old.1 owner
-        (ap (λ c. c.node) (sym on.2.others) ∙ ap (λ c. c.node) same ∙ at)
+        h base old.0 old.1 owner (ap (λ c. c.node) (sym on.2.others) ∙ ap (λ c. c.node) same ∙ at)
         (sym (on.2.decided decided) ∙ ap (λ c. c.decision) same ∙ refused)
-    by_origin (inr i) =
-        ⊎_elim (λ other. other (ap CallerOf own ∙ sym mine)) (λ none. none)
+    by_origin (inr i) = ⊎_elim (λ other. other (ap CallerOf own ∙ sym mine)) (λ none. none)
         (event_by (λ event. (whose event ≢ v.who) ⊎ Prepares event) v.log w.log g.later
         (Install change.owner base i.rows) i.at i.since i.until)
 
@@ -140,16 +117,14 @@ module _ (old mid new : Caller) (aim : Aim) (x : SlotPlan) (plan : PlannedChange
   prepared_rows = subst (λ (y : Caller). HasRows y plan) (sym same) planned.rows
 
   linked : WasLinked (start w.start w.words) w.log plan.row.node
-  linked =
-      subst (λ (y : View). WasLinked (start y.start y.words) w.log plan.row.node)
+  linked = subst (λ (y : View). WasLinked (start y.start y.words) w.log plan.row.node)
       (sym all.went.same)
       (subst (WasLinked (start v.start v.words) w.log) (sym planned.is_for.node)
       (ever_later (start v.start v.words) (λ t. Linked t aim.node)
       (later_by-goes_on all.went.later) (slot_met v aim at).linked))
 
   slot : (word : ℕ) × SlotHolds (now w) plan.row.node plan.row.index word
-  slot =
-      let s = slot_holds v aim at in
+  slot = let s = slot_holds v aim at in
       let it = slot_remains (now v) (now w) (went_grow Prepares v w all.went) aim.node aim.index s.word
       s.holds in (
         it.0,
@@ -161,30 +136,28 @@ module _ (old mid new : Caller) (aim : Aim) (x : SlotPlan) (plan : PlannedChange
   pub prepared_installable : IsUnrefused (now v) old.number aim.node
       → StoredAll w (rows_of (filling_of plan) plan.base)
       → IsInstallable w plan.base (filling_of plan)
-  prepared_installable unrefused stored =
-      let asked = prepared_asked in
-      record {
-        number = new.number;
-        mine = all.caller.mine;
-        held = rows_held new all.caller plan.base plan.row plan.fresh prepared_rows;
-        stored = stored;
-        owned = planned.is_for.owner ∙ sym f.number;
-        unset = planned.is_for.unset;
-        word = slot.0;
-        slot = slot.1;
-        linked = linked;
-        unrefused = subst (IsUnrefused (now w) new.number) (sym planned.is_for.node)
-            (subst (λ n. IsUnrefused (now w) n aim.node) (sym all.number)
-            (unrefused_on v w old.number aim.node a.caller.mine a.resolved all.went unrefused));
-        fits = fits_went Prepares mid.token.view w f.went plan.row _ planned.fits;
-        allowed = record {
-          pending = asked.pending;
-          in_call = asked.in_call;
-          resolved = asked.resolved;
-          command = λ _. planned.is_for.command ∙ sym asked.command_is;
-          none_yet = λ _. asked.none_yet;
-        };
-      }
+  prepared_installable unrefused stored = let asked = prepared_asked in record {
+    number = new.number;
+    mine = all.caller.mine;
+    held = rows_held new all.caller plan.base plan.row plan.fresh prepared_rows;
+    stored = stored;
+    owned = planned.is_for.owner ∙ sym f.number;
+    unset = planned.is_for.unset;
+    word = slot.0;
+    slot = slot.1;
+    linked = linked;
+    unrefused = subst (IsUnrefused (now w) new.number) (sym planned.is_for.node)
+        (subst (λ n. IsUnrefused (now w) n aim.node) (sym all.number)
+        (unrefused_on v w old.number aim.node a.caller.mine a.resolved all.went unrefused));
+    fits = fits_went Prepares mid.token.view w f.went plan.row _ planned.fits;
+    allowed = record {
+      pending = asked.pending;
+      in_call = asked.in_call;
+      resolved = asked.resolved;
+      command = λ _. planned.is_for.command ∙ sym asked.command_is;
+      none_yet = λ _. asked.none_yet;
+    };
+  }
 
 -- ---- both together
 
@@ -206,8 +179,7 @@ pub prepared : (old mid new : Caller) (aim : Aim) (x : SlotPlan) (plan : Planned
     → HasPreparedPlan old new aim x plan
 prepared old mid new aim x plan a at unrefused h planned c s same stored =
     let f = filled_gone mid new h.refused c s same in
-    let all = gone_more Prepares old mid new h f in
-    record {
+    let all = gone_more Prepares old mid new h f in record {
       gone = all;
       asked = prepared_asked old mid new aim x plan a at h planned f same all;
       rows = prepared_rows old mid new aim x plan a at h planned f same all;
@@ -242,8 +214,7 @@ pub loads_taken : (old : Caller) (token : TokenFace) (key word : ℕ) (x : SlotP
     (value_at (now token.view).pieces (ref_of word) key)
     → HasTakenEffect old.token.view w old.number (command_by key x) node
     (value_at (now old.token.view).pieces (ref_of word) key)
-loads_taken old token key word x g a room w node t =
-    let v = old.token.view in
+loads_taken old token key word x g a room w node t = let v = old.token.view in
     let mid : Caller = record old { token = token } in
     let gone = loads_gone Prepares old token a.caller a.refused g in
     taken_since old mid (command_by key x) a (asked_gone Prepares old mid _ a gone prepares_none) gone

@@ -1,26 +1,23 @@
 -- What the slot of an update holds, and the reply that it gives. Serves `carry_out` and
 -- `change_slot`.
-use Rattle.std.proofs.Common.{◌≡◌, ℕ, List, Option, Some, refl, sym, ap, ap₂, ◌∙◌, subst, inl, inr, arith}
+use Rattle.std.proofs.Common.{◌≡◌, ℕ, List, Option, Some, refl, sym, ap, ap₂, ◌∙◌, subst, inl, inr, arith, ◌==◌, true, false, if◌then◌else◌, ◌∷◌, option_map}
 use Rattle.ist_core.specs.declared.states.ChangeRow.{ChangeRow}
 use Rattle.ist_core.specs.declared.states.LeafRow.{LeafRow}
-use Rattle.ist_core.specs.Changes.{reply_of, value_in, value_at}
-use Rattle.ist_core.specs.Growing.{AllGrow}
-use Rattle.ist_core.specs.Installing.{FitsKind, a_put, a_pair, a_remove, a_start, a_finish, HasRoomFor, nothing, same_key}
 use Rattle.ist_core.specs.declared.lists.Row.{Row}
-use Rattle.ist_core.specs.Logs.{Log, state}
-use Rattle.ist_core.specs.Pieces.{Leaf}
-use Rattle.ist_core.specs.Rebuilding.{IsUpdate}
-use Rattle.ist_core.specs.References.{Ref, Empty, LeafAt, ref_of}
-use Rattle.ist_core.specs.Snapshots.{Snapshot}
-use Rattle.ist_core.specs.Statuses.{start_kind, finish_kind}
-use Rattle.ist_core.proofs.GrowingLemmas.{leaf_there}
+use Rattle.ist_core.specs.declared.events.Event.TheVariants.{Install}
+use Rattle.ist_core.specs.declared.pairs.Pair.{Pair}
+use Rattle.ist_core.specs.TreeTerms.{reply_of, value_in, value_at, AllGrow, FitsKind, a_put, a_pair, a_remove, a_start, a_finish, HasRoomFor, nothing, same_key, IsUpdate, CanInstall}
+use Rattle.ist_core.specs.LogTerms.{Log, state, Snapshot, after, with_fresh, state_of}
+use Rattle.ist_core.specs.WordTerms.{Leaf, Ref, Empty, LeafAt, ref_of, start_kind, finish_kind, Change, Pieces, with_row, with_slot, ChangeAt, word_of, start}
+use Rattle.ist_core.proofs.AllLogLemmas.{leaf_there}
+use Rattle.ist_rule.specs.RuleTerms.{now}
 use Rattle.ist_rule.specs.declared.view.View.{View}
-use Rattle.ist_rule.specs.Learning.{now}
 use Rattle.ist_updates.specs.declared.plans.Fresh.TheVariants.{Leaf}
 use Rattle.ist_updates.specs.declared.plans.SlotPlan.{SlotPlan}
-use Rattle.ist_updates.specs.declared.plans.SlotPlan.TheVariants as way
 use Rattle.ist_updates.specs.Changing.{MayReplace}
 use Rattle.laws_links.proofs.FormLemmas.{leaf_of_grows, room_grows}
+use Rattle.ist_rows.proofs.CallerGoingLemmas.{base_same}
+use Rattle.ist_updates.specs.declared.plans.SlotPlan.TheVariants as way
 
 -- ---- what stays
 
@@ -100,3 +97,30 @@ pub planned_reply : (v w : View) → AllGrow (now v).pieces (now w).pieces → (
 planned_reply v w g key word x h row from key_is =
     reply_stays (now v) (now w) g key word (way_stands v key word x h)
     ∙ ap₂ (λ a b. value_at (now w).pieces (ref_of a) b) (sym from) (sym key_is)
+
+-- ---- the row of a change that was installed. Serves what came of it.
+
+-- after its Install the change is published as its row was filled
+pub installed_row : (pairs : List Pair) (words : ℕ) (log : Log) (caller base : ℕ) (rows : List Row)
+    → (h : CanInstall (start pairs words) log caller base rows)
+    → (state_of pairs words (Install caller base rows ∷ log)).pieces base ≡ Some (Change h.change)
+installed_row pairs words log caller base rows h =
+    subst (λ rs. (after t (Install caller base rs)).pieces base ≡ Some (Change h.change))
+    (sym h.rows_are)
+    (elim (base == h.change.node) as (λ v.
+    (if v then option_map (with_slot h.change.index (word_of (ChangeAt base))) (qs base) else qs base)
+    ≡ Some (Change h.change)) [
+      | true ↦ ap (option_map (with_slot h.change.index (word_of (ChangeAt base)))) here
+      | false ↦ here
+    ])
+  where
+    t : Snapshot
+    t = state_of pairs words log
+
+    qs : Pieces
+    qs = with_row (with_fresh t.pieces h.change h.fresh) base (Some (Change h.change))
+
+    here : with_row (with_fresh t.pieces h.change h.fresh) base (Some (Change h.change)) base
+        ≡ Some (Change h.change)
+    here = ap (λ v. if v then Some (Change h.change) else with_fresh t.pieces h.change h.fresh base)
+        (base_same base)

@@ -1,38 +1,30 @@
 -- A caller that takes a row of a kind. Serves `take`.
 use Rattle.std.proofs.Common.{◌≡◌, ℕ, ◌≤◌, ◌⊎◌, Option, Some, None, Result, Ok, Err, IfSome, IfOk, IfErr, refl, sym, ap, ◌∙◌, subst, inl, inr, arith}
 use Rattle.ist_core.specs.declared.ports.Full.{Full}
+use Rattle.ist_rule.specs.RuleTerms.{now, GoesOnTo, IsSound, WentOn}
 use Rattle.ist_rule.specs.declared.view.View.{View}
-use Rattle.ist_rule.specs.Learning.{now, GoesOnTo}
-use Rattle.ist_rule.specs.Rule.{IsSound}
-use Rattle.ist_rule.proofs.GoingOnLemmas.{goes_on_same}
+use Rattle.ist_rule.proofs.EventLemmas.{goes_on_same}
 use Rattle.ist_rule.proofs.LaterLemmas.{later-goes_on}
 use Rattle.ist_rule.proofs.WentOnLemmas.{goes_on_went}
+use Rattle.ist_rows.specs.RowTerms.{HasRefused, kind_words, Spares, spares_of, row_of, with_spare, IsCaller, Reserved, IsFreshRow, IsKindRefused, HasGone}
 use Rattle.ist_rows.specs.declared.callers.Caller.{Caller}
 use Rattle.ist_rows.specs.declared.kinds.Kind.{Kind}
 use Rattle.ist_rows.specs.declared.kinds.Kind.TheVariants.{Leaf, Pair as PairKind, Change, Rebuild}
-use Rattle.ist_rows.specs.Building.{HasRefused}
-use Rattle.ist_rows.specs.Kinds.{kind_words}
-use Rattle.ist_rows.specs.Rows.{Spares, spares_of, row_of, with_spare, IsCaller, Reserved, IsFreshRow, IsKindRefused}
 use Rattle.ist_rows.proofs.HeldAfterLemmas.{after_between}
-use Rattle.ist_rule.specs.Going.{WentOn}
-use Rattle.ist_rebuild.proofs.LackLemmas.{lacks_now, refused_lacks}
+use Rattle.ist_rebuild.proofs.NeedLemmas.{lacks_now, refused_lacks}
 use Rattle.ist_updates.specs.Changing.{IsRowShort, Prepares}
-use Rattle.ist_rows.specs.Going.{HasGone}
 use Rattle.ist_rows.proofs.ReserveLemmas.{reserved_went, took}
-use Rattle.ist_rows.proofs.SpareTakenLemmas.{refused_as, refused_beside}
+use Rattle.ist_rows.proofs.CallerLawLemmas.{refused_as, refused_beside}
 use Rattle.ist_rows.proofs.GoneLemmas.{loads_gone}
 use Rattle.ist_rows.proofs.ShortLemmas.{short_from, short_goes_on}
 
 -- a row that was reserved lies above all that was used before
 reserved_high : (v : View) (number base size : ℕ) (w : View) → Reserved v number base size w
     → (now v).next ≤ base
-reserved_high v number base size w r =
-    let it = took v number base size w r in
+reserved_high v number base size w r = let it = took v number base size w r in
     let comes = after_between v.start v.words v.log it.before
     record { opens = it.lawful.opens; enabled = it.lawful.enabled.0 } (later-goes_on it.later) in
-    let more = comes.next in
-    let at_next = it.lawful.enabled.1.base_is in
-    omega arith
+    let more = comes.next in let at_next = it.lawful.enabled.1.base_is in omega arith
 
 -- ---- what a reservation returns
 
@@ -75,11 +67,9 @@ module _ (old new : Caller) (kind : Kind) (words : ℕ) (c : IsCaller old) (refu
   -- a refused one left all as it was
   gone_refused : IsCaller new → new.number ≡ old.number → (full : Full)
       → IsKindRefused words kind old new full → HasGone Prepares old new
-  gone_refused caller number full f =
-      let v = old.token.view in
+  gone_refused caller number full f = let v = old.token.view in
       let g = short_goes_on v words full new.token.view f.cause in
-      let it = loads_gone Prepares old new.token c refused g in
-      record {
+      let it = loads_gone Prepares old new.token c refused g in record {
         caller = caller;
         number = number;
         refused = refused_as new (now new.token.view) old.number (spares_of old) refl number f.same
@@ -107,25 +97,21 @@ module _ (old new : Caller) (kind : Kind) (words : ℕ) (c : IsCaller old) (refu
       } in
       subst (HasTakenKind old new kind words) (sym held.0)
       (subst (λ x. HasTakenKind old x kind words (Ok base)) (sym held.1) same)
-  of_answer None e (Ok base) caller number held fresh full =
-      let f = fresh e in
-      record {
-        gone = record {
-          caller = caller;
-          number = number;
-          refused = refused_beside old new kind base c e f.0 number f.1 refused;
-          went = reserved_went Prepares old.token.view old.number base (kind_words kind)
-              new.token.view f.0 tt;
-        };
-        held = ap (row_of kind) f.1 ∙ row_with (spares_of old) kind base;
-        rows = f.1;
-        high = inr (reserved_high old.token.view old.number base (kind_words kind)
-            new.token.view f.0);
-        full = tt;
-      }
+  of_answer None e (Ok base) caller number held fresh full = let f = fresh e in record {
+    gone = record {
+      caller = caller;
+      number = number;
+      refused = refused_beside old new kind base c e f.0 number f.1 refused;
+      went = reserved_went Prepares old.token.view old.number base (kind_words kind)
+          new.token.view f.0 tt;
+    };
+    held = ap (row_of kind) f.1 ∙ row_with (spares_of old) kind base;
+    rows = f.1;
+    high = inr (reserved_high old.token.view old.number base (kind_words kind) new.token.view f.0);
+    full = tt;
+  }
   of_answer None e (Err full) caller number held fresh f =
-      let gone = gone_refused caller number full f in
-      record {
+      let gone = gone_refused caller number full f in record {
         gone = gone;
         held = tt;
         rows = tt;

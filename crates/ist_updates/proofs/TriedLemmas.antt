@@ -5,21 +5,16 @@ use Rattle.std.proofs.Math.Nat.{le_trans}
 use Rattle.ist_core.specs.declared.loads.Load.{Load}
 use Rattle.ist_core.specs.declared.ports.Full.{Full}
 use Rattle.ist_core.specs.declared.states.LeafRow.{LeafRow}
-use Rattle.ist_core.specs.Logs.{GoesOn}
-use Rattle.ist_core.specs.Pieces.{Leaf}
-use Rattle.ist_core.specs.References.{Empty, LeafAt, ref_of}
-use Rattle.ist_core.specs.RowLayout.{leaf_words, pair_words, change_words, next_place}
-use Rattle.ist_core.specs.Shown.{shown_row}
-use Rattle.ist_core.specs.StartLayout.{start}
-use Rattle.ist_core.proofs.ShownLemmas.{one_word}
+use Rattle.ist_core.specs.LogTerms.{GoesOn, shown_row}
+use Rattle.ist_core.specs.WordTerms.{Leaf, Empty, LeafAt, ref_of, leaf_words, pair_words, change_words, next_place, start}
+use Rattle.ist_core.proofs.AllLogLemmas.{one_word}
+use Rattle.ist_rule.specs.RuleTerms.{now, GoesOnTo, TokenFace, WentOn}
 use Rattle.ist_rule.specs.declared.view.View.{View}
-use Rattle.ist_rule.specs.Learning.{now, GoesOnTo}
-use Rattle.ist_rule.proofs.GoingOnLemmas.{goes_on_same}
+use Rattle.ist_rule.proofs.EventLemmas.{goes_on_same}
 use Rattle.ist_rule.proofs.WentOnLemmas.{later_by-goes_on, goes_on_went, went_more, went_lawful, looked_went}
 use Rattle.laws_histories.specs.Loads.{IsLoad, log_at}
 use Rattle.laws_histories.specs.Searching.{Searched, of_nothing, of_other, of_key}
-use Rattle.laws_histories.proofs.ChangeLemmas.{changes_rise}
-use Rattle.laws_histories.proofs.LoadOnLemmas.{at_prefix, at_rises, end_on}
+use Rattle.laws_histories.proofs.ChangeLemmas.{changes_rise, at_prefix, at_rises, end_on}
 use Rattle.laws_histories.proofs.PositionLemmas.{search_position}
 use Rattle.ist_find.specs.Searches.{SeesLeaf, Names}
 use Rattle.ist_find.proofs.ReadLemmas.{leaf_on}
@@ -27,11 +22,10 @@ use Rattle.ist_find.specs.Reads.{HasLooked, TellsValue}
 use Rattle.ist_find.proofs.LoadLemmas.{goes_length, shown_load}
 use Rattle.ist_find.proofs.LookLemmas.{word_looked}
 use Rattle.ist_find.proofs.SearchLemmas.{has_found}
-use Rattle.ist_rows.specs.Shortage.{RanShort}
+use Rattle.ist_rows.specs.RowTerms.{RanShort}
+use Rattle.ist_rows.specs.declared.callers.Caller.{Caller}
 use Rattle.ist_rebuild.specs.Lacking.{LacksNow}
 use Rattle.ist_updates.specs.declared.plans.Aim.{Aim}
-use Rattle.ist_rule.specs.Faces.{TokenFace}
-use Rattle.ist_rows.specs.declared.callers.Caller.{Caller}
 use Rattle.ist_updates.specs.declared.updates.Outcome.{Outcome}
 use Rattle.ist_updates.specs.declared.updates.Outcome.TheVariants.{Took, Nothing, Unmet}
 use Rattle.ist_updates.specs.Answering.{IsTried, IsTryRefused}
@@ -39,12 +33,9 @@ use Rattle.ist_updates.specs.Asking.{command_for, IsAsked, Updates}
 use Rattle.ist_updates.specs.Changing.{IsRowShort, WasAtSlot, Prepares}
 use Rattle.ist_updates.specs.Refusals.{IsUpdateRefused, MetOtherLeaf, for_leaf, for_pair, for_put, for_remove}
 use Rattle.ist_updates.specs.Trying.{BeganSince, HasFoundNone}
-use Rattle.ist_updates.proofs.AskedLemmas.{asked_gone}
-use Rattle.ist_updates.proofs.ShortLemmas.{short_wider}
+use Rattle.ist_updates.proofs.StepLemmas.{asked_gone, prepares_none, prepares_updates, taken_since}
+use Rattle.ist_updates.proofs.PlanLemmas.{short_wider}
 use Rattle.ist_rows.proofs.GoneLemmas.{loads_gone}
-use Rattle.ist_updates.proofs.StepLemmas.{prepares_none, prepares_updates}
-use Rattle.ist_updates.proofs.SinceLemmas.{taken_since}
-use Rattle.ist_rule.specs.Going.{WentOn}
 
 -- ---- what a leaf shows
 
@@ -81,16 +72,14 @@ module _ (v : View) (aim : Aim) (at : WasAtSlot v aim) where
 
     key_loaded : (least : ℕ) → least ≤ length b.log
         → IsLoad v.start v.words v.log (base + 0) least key_load
-    key_loaded least low =
-        shown_load v.start v.words v.log (base + 0) row.key least
+    key_loaded least low = shown_load v.start v.words v.log (base + 0) row.key least
         (λ x shown. one_word v.start v.words v.log at.seen.sound.lawful.enabled (base + 0) row.key x
         (shown_row base (Leaf row) 0 there refl) shown)
         (le_trans low (goes_length b v at.seen))
 
     value_loaded : (least : ℕ) → least ≤ length b.log
         → IsLoad v.start v.words v.log (base + 1) least value_load
-    value_loaded least low =
-        shown_load v.start v.words v.log (base + 1) row.value least
+    value_loaded least low = shown_load v.start v.words v.log (base + 1) row.value least
         (λ x shown. one_word v.start v.words v.log at.seen.sound.lawful.enabled (base + 1) row.value x
         (shown_row base (Leaf row) 1 there refl) shown)
         (le_trans low (goes_length b v at.seen))
@@ -192,8 +181,7 @@ module _ (old : Caller) (token : TokenFace) (key : ℕ) (value : Option ℕ)
 
   -- loads leave the caller asked
   pub loads_asked : IsAsked mid (command_for key value)
-  loads_asked =
-      asked_gone Prepares old mid (command_for key value) a
+  loads_asked = asked_gone Prepares old mid (command_for key value) a
       (loads_gone Prepares old token a.caller a.refused g) prepares_none
 
   -- the result of a try after loads is the result of a try that makes them first
@@ -212,15 +200,14 @@ module _ (old : Caller) (token : TokenFace) (key : ℕ) (value : Option ℕ)
   -- a try that was refused after loads was refused with them
   pub refused_loads : (words : ℕ) (full : Full) (new : Caller)
       → IsTryRefused mid key value words full new → IsTryRefused old key value words full new
-  refused_loads words full new r =
-      record {
-        still = r.still;
-        cause = λ first began. r.cause first record {
-          went = went_more Updates first old.token.view token.view began.went
-              (goes_on_went Updates old.token.view token.view g);
-          since = subst (λ n. length first.log ≤ n) (sym g.since) began.since;
-        };
-      }
+  refused_loads words full new r = record {
+    still = r.still;
+    cause = λ first began. r.cause first record {
+      went = went_more Updates first old.token.view token.view began.went
+          (goes_on_went Updates old.token.view token.view g);
+      since = subst (λ n. length first.log ≤ n) (sym g.since) began.since;
+    };
+  }
 
   -- any result but `Full` after loads is a result of the try with them
   pub ok_after : (node : ℕ) (new : Caller) (r : Result (Option Outcome) Full)

@@ -3,26 +3,21 @@ use Rattle.std.proofs.Common.{◌≡◌, ◌≢◌, ℕ, List, [], ◌++◌, len
 use Rattle.ist_core.specs.declared.commands.Command.{Command}
 use Rattle.ist_core.specs.declared.events.Event.{Event}
 use Rattle.ist_core.specs.declared.pairs.Pair.{Pair}
-use Rattle.ist_core.specs.Authors.{GoesOnBy, no_more, LaterBy}
-use Rattle.ist_core.specs.Changes.{reply_of}
-use Rattle.ist_core.specs.Lawful.{Lawful, state_of}
-use Rattle.ist_core.specs.Pieces.{Change}
-use Rattle.ist_core.proofs.FateLemmas.{grow_between}
-use Rattle.ist_core.proofs.GrowingLemmas.{change_there}
-use Rattle.ist_rule.specs.declared.view.View.{View}
 use Rattle.ist_core.specs.declared.events.Who.TheVariants.{Caller as CallerOf}
-use Rattle.ist_core.proofs.OptionLemmas.{no_value}
-use Rattle.ist_rule.specs.Going.{WentOn}
-use Rattle.ist_rule.specs.Learning.{now}
-use Rattle.ist_rule.specs.Standings.{HasMade}
+use Rattle.ist_core.specs.declared.ports.Full.{Full}
+use Rattle.ist_core.specs.LogTerms.{GoesOnBy, no_more, LaterBy, Lawful, state_of}
+use Rattle.ist_core.specs.TreeTerms.{reply_of}
+use Rattle.ist_core.specs.WordTerms.{Change}
+use Rattle.ist_core.proofs.AllLogLemmas.{grow_between, change_there}
+use Rattle.ist_rule.specs.RuleTerms.{WentOn, now, HasMade, IsSound}
+use Rattle.ist_rule.specs.declared.view.View.{View}
+use Rattle.ist_core.proofs.AllWordLemmas.{no_value}
 use Rattle.ist_rule.proofs.WentOnLemmas.{went_who, went_now, went_lawful, went_more, later_by-goes_on}
 use Rattle.laws_calls.specs.Walking.{ComesBy}
 use Rattle.laws_calls.proofs.WalkLemmas.{meeting_on}
 use Rattle.laws_calls.specs.Counting.{IsOneUpdate}
 use Rattle.ist_rows.specs.declared.callers.Caller.{Caller}
 use Rattle.ist_find.specs.Searches.{HasCome}
-use Rattle.ist_core.specs.declared.ports.Full.{Full}
-use Rattle.ist_rule.specs.Rule.{IsSound}
 use Rattle.ist_rows.proofs.GoneLemmas.{ready_all}
 use Rattle.ist_updates.specs.declared.plans.Aim.{Aim}
 use Rattle.ist_updates.specs.declared.updates.Outcome.{Outcome}
@@ -41,16 +36,13 @@ use Rattle.ist_updates.proofs.StepLemmas.{tries_updates}
 -- what holds for a view's table holds for the table of a view that it went on to
 pub went_table : (P : Event → Type 0) (v w : View) → WentOn P v w → (Q : List Pair → ℕ → Type 0)
     → Q v.start v.words → Q w.start w.words
-went_table P v w g Q h =
-    subst (λ p. Q p w.words) (sym (ap (λ x. x.start) g.same))
+went_table P v w g Q h = subst (λ p. Q p w.words) (sym (ap (λ x. x.start) g.same))
     (subst (Q v.start) (sym (ap (λ x. x.words) g.same)) h)
 
 -- of the view that one went on from, what it made by the calls of the later one
 pub made_first : (P : Event → Type 0) (v w : View) → WentOn P v w → (caller : ℕ)
-    → HasMade v.start v.words v.log caller v.calls
-    → HasMade w.start w.words v.log caller w.calls
-made_first P v w g caller h =
-    went_table P v w g (λ p n. HasMade p n v.log caller w.calls)
+    → HasMade v.start v.words v.log caller v.calls → HasMade w.start w.words v.log caller w.calls
+made_first P v w g caller h = went_table P v w g (λ p n. HasMade p n v.log caller w.calls)
     (subst (λ calls. HasMade v.start v.words v.log caller calls)
     (sym (ap (λ x. x.calls) g.same)) h)
 
@@ -97,30 +89,28 @@ module _ (old : Caller) (command : Command) (a : IsAsked old command) (first : V
       pub taken_counted : (key : ℕ) (rows : List ℕ) → HasCome v key node rows
           → HasCounted v.start v.words first.log w.log old.number command rows
           record { reply = reply; due = None }
-      taken_counted key rows come =
-          record {
-            base = t.base;
-            update = one_update;
-            command_is = t.command_is;
-            reply_is = t.reply_is
-                ∙ ap (λ s. reply_of s.pieces t.update.change) (went_now Tries v w g);
-            below = [];
-            met = record {
-              key = key;
-              began = v.loads.since;
-              last = come.last;
-              comes = subst (λ n. ComesBy v.start v.words w.log key v.loads.since come.last n
-                  (rows ++ [])) (sym t.node_is)
-                  (subst (ComesBy v.start v.words w.log key v.loads.since come.last node)
-                  (sym (append-nil rows))
-                  (meeting_on v.start v.words v.log w.log (later_by-goes_on g.later) key
-                  v.loads.since come.last node rows come.comes));
-            };
-            so_far = from_none old.number (length rows) (rows ++ []) first.log first.log w.log
-                no_more tried_by;
-            counted = λ row i. absurd i;
-            due = λ row k. came_none v.start v.words first.log old.number w.log tried_by row k;
-          }
+      taken_counted key rows come = record {
+        base = t.base;
+        update = one_update;
+        command_is = t.command_is;
+        reply_is = t.reply_is ∙ ap (λ s. reply_of s.pieces t.update.change) (went_now Tries v w g);
+        below = [];
+        met = record {
+          key = key;
+          began = v.loads.since;
+          last = come.last;
+          comes = subst (λ n. ComesBy v.start v.words w.log key v.loads.since come.last n
+              (rows ++ [])) (sym t.node_is)
+              (subst (ComesBy v.start v.words w.log key v.loads.since come.last node)
+              (sym (append-nil rows))
+              (meeting_on v.start v.words v.log w.log (later_by-goes_on g.later) key
+              v.loads.since come.last node rows come.comes));
+        };
+        so_far = from_none old.number (length rows) (rows ++ []) first.log first.log w.log
+            no_more tried_by;
+        counted = λ row i. absurd i;
+        due = λ row k. came_none v.start v.words first.log old.number w.log tried_by row k;
+      }
 
 -- ---- the walk that ends with the try
 
@@ -131,8 +121,7 @@ module _ (old new : Caller) (aim : Aim) (value : Option ℕ) (words : ℕ)
       → IfOk r (λ t. IsTried old aim.key value aim.node new t)
       → IfErr r (λ full. IsTryRefused old aim.key value words full new)
       → HasWalked old aim.key value aim.node words r new
-  walked_tried (Ok (Some (Took done))) went t full =
-      λ first rows since come.
+  walked_tried (Ok (Some (Took done))) went t full = λ first rows since come.
       subst (HasCounted old.token.view.start old.token.view.words first.log new.token.view.log
       old.number (command_for aim.key value) rows) (sym t.1)
       (taken_counted old (command_for aim.key value) a first since new.token.view went aim.node
@@ -152,15 +141,14 @@ pub tried_walk : {old new : Caller} {aim : Aim} {value : Option ℕ} {words : �
     → HasTried old aim value words r new → IfOk r (IsTryMet when)
     → (r ≡ Ok (Some Unmet) → HasMissed old.token.view new.token.view aim.key when)
     → IsWalk old aim.key value when aim.node words r new
-tried_walk {old} {new} {aim} {value} {words} {when} {r} a sound at t met missed =
-    record {
-      on = ready_all Tries Updates tries_updates old new t.on;
-      walked = walked_tried old new aim value words a r t.on.gone.went t.told t.full;
-      further = λ is first fresh. t.further is first
-          (slot_aimed first old.token.view aim.key aim.node aim.index aim.word sound at fresh);
-      met = met;
-      missed = missed;
-    }
+tried_walk {old} {new} {aim} {value} {words} {when} {r} a sound at t met missed = record {
+  on = ready_all Tries Updates tries_updates old new t.on;
+  walked = walked_tried old new aim value words a r t.on.gone.went t.told t.full;
+  further = λ is first fresh. t.further is first
+      (slot_aimed first old.token.view aim.key aim.node aim.index aim.word sound at fresh);
+  met = met;
+  missed = missed;
+}
 
 -- so is a try that missed no value
 pub unmissed_walk : {old new : Caller} {aim : Aim} {value : Option ℕ} {words : ℕ} {when : When}

@@ -4,18 +4,15 @@ use Rattle.std.specs.Prelude.{Bool, IsErrAnd, Ok, Err, Result}
 use Rattle.ist_core.specs.declared.commands.Command.{Command}
 use Rattle.ist_core.specs.declared.ports.Full.{Full}
 use Rattle.ist_core.specs.declared.states.LeafRow.{LeafRow}
-use Rattle.ist_core.specs.Changes.{value_at}
-use Rattle.ist_core.specs.Pieces.{Leaf}
-use Rattle.ist_core.specs.References.{LeafAt, ref_of}
+use Rattle.ist_core.specs.TreeTerms.{value_at}
+use Rattle.ist_core.specs.WordTerms.{Leaf, LeafAt, ref_of}
+use Rattle.ist_rule.specs.RuleTerms.{TokenFace, now, GoesOnTo, IsSound}
 use Rattle.ist_rule.specs.declared.view.View.{View}
-use Rattle.ist_rule.specs.Faces.{TokenFace}
-use Rattle.ist_rule.specs.Learning.{now, GoesOnTo}
-use Rattle.ist_rule.specs.Rule.{IsSound}
 use Rattle.ist_rule.proofs.WentOnLemmas.{later_by-goes_on}
 use Rattle.laws_coming.specs.Further.{CameFurther}
 use Rattle.laws_histories.specs.Searching.{Searched}
+use Rattle.ist_rows.specs.RowTerms.{HasGone, StaysReady}
 use Rattle.ist_rows.specs.declared.callers.Caller.{Caller}
-use Rattle.ist_rows.specs.Going.{HasGone, StaysReady}
 use Rattle.ist_rows.proofs.GoneLemmas.{loads_gone, gone_more, ready_same}
 use Rattle.ist_updates.specs.declared.plans.Aim.{Aim}
 use Rattle.ist_updates.specs.declared.plans.SlotPlan.{SlotPlan}
@@ -28,7 +25,7 @@ use Rattle.ist_updates.specs.Changing.{MayAskFor, WasAtSlot, command_by}
 use Rattle.ist_updates.specs.Further.{HasAimed}
 use Rattle.ist_updates.specs.Refusals.{IsUpdateRefused}
 use Rattle.ist_updates.specs.Trying.{BeganSince, Tries, HasFoundNone, HasTakenEffect}
-use Rattle.ist_updates.proofs.AskedLemmas.{asked_quiet}
+use Rattle.ist_updates.proofs.StepLemmas.{asked_quiet}
 use Rattle.ist_updates.proofs.AfterLemmas.{after_loads}
 use Rattle.ist_updates.proofs.FurtherLemmas.{aimed_on}
 use Rattle.ist_updates.proofs.TriedLemmas.{IsPutFor, err_after, ok_after, put_refused, remove_refused}
@@ -41,28 +38,25 @@ use Rattle.ist_updates.proofs.WayLemmas.{met_other}
 module _ (who : Caller) (aim : Aim) (value : Option ℕ) (words : ℕ) (s : IsSound who.token.view)
     (a : IsAsked who (command_for aim.key value)) where
   ready : StaysReady Tries who who
-  ready =
-      ready_same Tries who s record {
-        caller = a.caller;
-        refused = a.refused;
-        quiet = asked_quiet who (command_for aim.key value) a;
-      }
+  ready = ready_same Tries who s record {
+    caller = a.caller;
+    refused = a.refused;
+    quiet = asked_quiet who (command_for aim.key value) a;
+  }
 
   -- the key has a value at which the update shouldn't take effect
   pub unmet_tried : HasTried who aim value words (Ok (Some Unmet)) who
-  unmet_tried =
-      record { on = ready; told = a; full = tt; further = λ is. absurd (cc) }
+  unmet_tried = record { on = ready; told = a; full = tt; further = λ is. absurd (cc) }
 
   -- there is nothing to remove
   pub nothing_tried : value ≡ None → HasFoundNone who.token.view aim.key
       → HasTried who aim value words (Ok (Some Nothing)) who
-  nothing_tried none found =
-      record {
-        on = ready;
-        told = (none, found, a, refl);
-        full = tt;
-        further = λ is. absurd (cc);
-      }
+  nothing_tried none found = record {
+    on = ready;
+    told = (none, found, a, refl);
+    full = tt;
+    further = λ is. absurd (cc);
+  }
 
 -- ---- a try with steps
 
@@ -74,24 +68,22 @@ module _ (old new : Caller) (aim : Aim) (value : Option ℕ) (words : ℕ) where
   pub again_tried : HasGone Tries old new → IsAsked new command
       → ((first : View) → HasAimed first old.token.view aim.node aim.index aim.word
       → CameFurther first new.token.view) → HasTried old aim value words (Ok None) new
-  again_tried gone still further =
-      record {
-        on = record { gone = gone; quiet = asked_quiet new command still };
-        told = still;
-        full = tt;
-        further = λ is. further;
-      }
+  again_tried gone still further = record {
+    on = record { gone = gone; quiet = asked_quiet new command still };
+    told = still;
+    full = tt;
+    further = λ is. further;
+  }
 
   -- the table had too few words
   pub refused_tried : (full : Full) → HasGone Tries old new
       → IsTryRefused old aim.key value words full new → HasTried old aim value words (Err full) new
-  refused_tried full gone refused =
-      record {
-        on = record { gone = gone; quiet = asked_quiet new command refused.still };
-        told = tt;
-        full = refused;
-        further = λ is. absurd (cc);
-      }
+  refused_tried full gone refused = record {
+    on = record { gone = gone; quiet = asked_quiet new command refused.still };
+    told = tt;
+    full = refused;
+    further = λ is. absurd (cc);
+  }
 
 -- a refusal that is handed on is the refusal of the try
 handed_on : {old new : Caller} {aim : Aim} {value : Option ℕ} {words : ℕ} {full : Full}
@@ -110,8 +102,7 @@ module _ {old new : Caller} {aim : Aim} {x : SlotPlan} {words : ℕ} where
       → (taken ≡ true → tried ≡ Some (just_took reply)) → (taken ≡ false → tried ≡ None)
       → value_at (now old.token.view).pieces (ref_of aim.word) aim.key ≡ reply
       → HasTried old aim value words (Ok tried) new
-  changed_tried value {taken = true} tried reply is h took again told =
-      let v = old.token.view in
+  changed_tried value {taken = true} tried reply is h took again told = let v = old.token.view in
       subst (λ t. HasTried old aim value words (Ok t) new) (sym (took refl)) record {
         on = h.on;
         told = (

@@ -4,12 +4,9 @@ use Rattle.std.proofs.Common.{◌≡◌, ◌+◌, ◌-◌, ◌<◌, ◌≤◌, �
 use Rattle.std.specs.Prelude.{IfErr, IsErrAnd, Ok, OnErr, Err, Result}
 use Rattle.ist_core.specs.declared.commands.Command.{Command}
 use Rattle.ist_core.specs.declared.ports.Full.{Full}
-use Rattle.ist_core.specs.RowLayout.{anchor}
-use Rattle.ist_core.specs.Standing.{makes_entry}
-use Rattle.ist_rule.specs.Conditions.{CanGiveUp}
-use Rattle.ist_rule.specs.Faces.{TokenFace}
-use Rattle.ist_rule.specs.Learning.{Turned, searching}
-use Rattle.ist_rule.specs.Rule.{IsSound}
+use Rattle.ist_core.specs.WordTerms.{anchor}
+use Rattle.ist_core.specs.TreeTerms.{makes_entry}
+use Rattle.ist_rule.specs.RuleTerms.{CanGiveUp, TokenFace, Turned, searching, IsSound}
 use Rattle.ist_rule.proofs.SearchedOnLemmas.{went_searched}
 use Rattle.ist_rule.proofs.WentOnLemmas.{later_by-goes_on, went_same}
 use Rattle.laws_stability.specs.Progress.{most_progress, progress}
@@ -29,19 +26,18 @@ use Rattle.ist_updates.specs.Walking.{IsAskedAgain, IsAskedStill, HasWalked}
 use Rattle.ist_updates.proofs.ApplyingLemmas.{HasBegunWalk, all_searched, begun_walk, still_on, refused_first, still_counted, still_due, took_is_counted, took_ends, took_due, nothing_told}
 use Rattle.ist_updates.proofs.FurtherLemmas.{begun_fresh}
 use Rattle.ist_updates.proofs.MissLemmas.{missed_since}
-use Rattle.ist_updates.proofs.WalkCountLemmas.{few_on, paid_on}
+use Rattle.ist_updates.proofs.AfterLemmas.{few_on, paid_on}
 
 -- a caller that is asked may give its call up
 may_give_up : (who : Caller) (command : Command) → IsAsked who command → CanGiveUp who.token.view
-may_give_up who command a =
-    record {
-      number = who.number;
-      mine = a.caller.mine;
-      pending = a.pending;
-      in_call = a.in_call;
-      resolved = a.resolved;
-      none = a.none_yet;
-    }
+may_give_up who command a = record {
+  number = who.number;
+  mine = a.caller.mine;
+  pending = a.pending;
+  in_call = a.in_call;
+  resolved = a.resolved;
+  none = a.none_yet;
+}
 
 -- a remove that found nothing changes nothing
 none_entry : (key : ℕ) (value : Option ℕ) → value ≡ None
@@ -65,12 +61,11 @@ pub record HasUnmet (old : Caller) (key : ℕ) (when : When) (outcome : Outcome)
 -- so it is for each outcome
 pub unmet_ends : {old new : Caller} {key : ℕ} {value : Option ℕ} {when : When} {outcome : Outcome}
     → HasDone old key value when outcome new → HasUnmet old key when outcome new
-unmet_ends {outcome = outcome} d =
-    record {
-      missed = λ is. (d.unmet (same is)).0;
-      given_up = λ is. (d.unmet (same is)).1.given_up;
-      nowhere = λ is. (d.unmet (same is)).1.nowhere;
-    }
+unmet_ends {outcome = outcome} d = record {
+  missed = λ is. (d.unmet (same is)).0;
+  given_up = λ is. (d.unmet (same is)).1.given_up;
+  nowhere = λ is. (d.unmet (same is)).1.nowhere;
+}
   where
     same : ended outcome ≡ ended Unmet → outcome ≡ Unmet
     same is = cc
@@ -78,8 +73,7 @@ unmet_ends {outcome = outcome} d =
 -- if it was refused, it took no effect
 pub record HasRefusedAll (old : Caller) (key : ℕ) (value : Option ℕ) (words : ℕ)
     (result : Result Outcome Full) (new : Caller) : Type 0 where
-  pub full : IfErr result (λ full.
-      WasRefused old.token.view key value words full new.token.view)
+  pub full : IfErr result (λ full. WasRefused old.token.view key value words full new.token.view)
   pub given_up : IfErr result (λ full. CanGiveUp new.token.view)
   pub due : OnErr result (LeavesDue old.token.view new.token.view old.number None)
   pub nowhere : OnErr result (CountedNowhere old.token.view.log new.token.view.log old.number)
@@ -89,8 +83,7 @@ pub refused_ends : {old new : Caller} {key : ℕ} {value : Option ℕ} {when : W
     (result : Result Outcome Full) → HasEnded old key value when words result new
     → HasRefusedAll old key value words result new
 refused_ends (Ok outcome) e = record { full = tt; given_up = tt; due = tt; nowhere = tt }
-refused_ends (Err full) e =
-    let none = e.refused.1 in
+refused_ends (Err full) e = let none = e.refused.1 in
     record { full = e.refused.0; given_up = none.given_up; due = none.due; nowhere = none.nowhere }
 
 -- ---- a walk
@@ -106,16 +99,14 @@ pub record IsTurn (old who : Caller) (token : TokenFace) (key : ℕ) (value : Op
 
 -- what the walks so far have done
 abbrev WalksOn : Caller → Caller → ℕ → Option ℕ → Type 0
-WalksOn old who key value =
-    (who.number ≡ old.number) × IsAskedAgain old who (command_for key value)
+WalksOn old who key value = (who.number ≡ old.number) × IsAskedAgain old who (command_for key value)
     × (who.token.view.searches + progress old.token.view.log
     ≤ old.token.view.searches + progress who.token.view.log)
 
 -- before the first walk nothing was done
 pub turns_begin : {old : Caller} (key : ℕ) (value : Option ℕ) → IsSound old.token.view
     → IsAsked old (command_for key value) → WalksOn old old key value
-turns_begin {old} key value s asked =
-    let v = old.token.view in
+turns_begin {old} key value s asked = let v = old.token.view in
     let went = went_searched Tries v v (went_same Tries v s) in
     (refl, record { went = went; asked = asked }, omega arith)
 
@@ -137,12 +128,11 @@ module _ {old who : Caller} {token : TokenFace} {key : ℕ} {value : Option ℕ}
 
   -- a caller that is still asked after the walk took no effect in the whole call
   left : (new : Caller) → IsAskedStill there new (command_for key value) → HasTakenNone old new
-  left new h =
-      record {
-        given_up = may_give_up new (command_for key value) h.asked;
-        due = still_due old there key value b.asked turn_begun new h;
-        nowhere = still_counted old there key value b.asked turn_begun new h;
-      }
+  left new h = record {
+    given_up = may_give_up new (command_for key value) h.asked;
+    due = still_due old there key value b.asked turn_begun new h;
+    nowhere = still_counted old there key value b.asked turn_begun new h;
+  }
 
   module _ {when : When} {words : ℕ} {new : Caller} where
     -- ---- if it must begin again
@@ -150,8 +140,7 @@ module _ {old who : Caller} {token : TokenFace} {key : ℕ} {value : Option ℕ}
     -- after a walk that must begin again the call is as before it
     again_asked : {x : Option Outcome} → x ≡ None → IsWalk there key value when anchor words (Ok x) new
         → IsAskedAgain old new (command_for key value)
-    again_asked is h =
-        still_on old there key value b.asked turn_begun new
+    again_asked is h = still_on old there key value b.asked turn_begun new
         (subst (λ y. HasWalked there key value anchor words (Ok y) new) is h.walked)
 
     -- and the table came further
@@ -183,53 +172,46 @@ module _ {old who : Caller} {token : TokenFace} {key : ℕ} {value : Option ℕ}
     -- what its outcome means for the call
     done_by : (outcome : Outcome) → IsWalk there key value when anchor words (Ok (Some outcome)) new
         → HasDone old key value when outcome new
-    done_by (Took done) h =
-        let a = b.asked in let t = turn_begun in let on = h.on.gone in
-        record {
-          answered = λ n. took_ends old there key value a t new words done on.went h.walked on.caller
-              on.number h.on.quiet;
-          counted = λ n e. took_is_counted old there key value a t new words done on.went h.walked;
-          due = took_due old there key value a t new words done on.went h.walked;
-          met = h.met;
-          unmet = λ is. absurd (cc);
-        }
-    done_by Nothing h =
-        let on = h.on.gone in
-        record {
-          answered = λ n. nothing_told old there key value b.asked turn_begun new h.walked.0 h.walked.1
-              on.caller on.number h.on.quiet;
-          counted = λ n e. absurd (none_entry key value h.walked.1.remove e);
-          due = (left new h.walked.0).due;
-          met = h.met;
-          unmet = λ is. absurd (cc);
-        }
-    done_by Unmet h =
-        let t = turn_begun in
-        record {
-          answered = λ n. absurd (n refl);
-          counted = λ n e. absurd (n refl);
-          due = (left new h.walked).due;
-          met = tt;
-          unmet = λ is. (
-            missed_since Updates old.token.view token.view new.token.view key when
-                (later_by-goes_on t.went.went.later) t.since h.on.gone.went (h.missed refl),
-            left new h.walked,
-          );
-        }
+    done_by (Took done) h = let a = b.asked in let t = turn_begun in let on = h.on.gone in record {
+      answered = λ n. took_ends old there key value a t new words done on.went h.walked on.caller
+          on.number h.on.quiet;
+      counted = λ n e. took_is_counted old there key value a t new words done on.went h.walked;
+      due = took_due old there key value a t new words done on.went h.walked;
+      met = h.met;
+      unmet = λ is. absurd (cc);
+    }
+    done_by Nothing h = let on = h.on.gone in record {
+      answered = λ n. nothing_told old there key value b.asked turn_begun new h.walked.0 h.walked.1
+          on.caller on.number h.on.quiet;
+      counted = λ n e. absurd (none_entry key value h.walked.1.remove e);
+      due = (left new h.walked.0).due;
+      met = h.met;
+      unmet = λ is. absurd (cc);
+    }
+    done_by Unmet h = let t = turn_begun in record {
+      answered = λ n. absurd (n refl);
+      counted = λ n e. absurd (n refl);
+      due = (left new h.walked).due;
+      met = tt;
+      unmet = λ is. (
+        missed_since Updates old.token.view token.view new.token.view key when
+            (later_by-goes_on t.went.went.later) t.since h.on.gone.went (h.missed refl),
+        left new h.walked,
+      );
+    }
 
     -- the call went on by its walks, which were few
     pub turn_ends : {x : Option Outcome} (outcome : Outcome) → x ≡ Some outcome
         → IsWalk there key value when anchor words (Ok x) new
         → HasEnded old key value when words (Ok outcome) new
-    turn_ends {x} outcome is h =
-        record {
-          went = all_searched old there key value b.asked turn_begun new h.on.gone.went;
-          few_walks = few_on old.token.view who.token.view token.view new.token.view b.paid b.turned
-              h.on.gone.went;
-          done = done_by outcome
-              (subst (λ y. IsWalk there key value when anchor words (Ok y) new) is h);
-          refused = tt;
-        }
+    turn_ends {x} outcome is h = record {
+      went = all_searched old there key value b.asked turn_begun new h.on.gone.went;
+      few_walks = few_on old.token.view who.token.view token.view new.token.view b.paid b.turned
+          h.on.gone.went;
+      done = done_by outcome
+          (subst (λ y. IsWalk there key value when anchor words (Ok y) new) is h);
+      refused = tt;
+    }
 
     -- so does one that was refused
     pub turn_refused : (r : Result Outcome Full) {full : Full} → IsErrAnd r (λ x. x ≡ full)

@@ -4,21 +4,17 @@ use Rattle.ist_core.specs.declared.commands.Command.{Command}
 use Rattle.ist_core.specs.declared.events.Event.{Event}
 use Rattle.ist_core.specs.declared.pairs.Pair.{Pair}
 use Rattle.ist_core.specs.declared.ports.Full.{Full}
-use Rattle.ist_core.specs.Deciding.{CanCount}
-use Rattle.ist_core.specs.Links.{Linked, WasLinked}
-use Rattle.ist_core.specs.Logs.{Log}
-use Rattle.ist_core.specs.References.{InnerAt, ref_of}
-use Rattle.ist_core.specs.Slots.{SlotHolds}
-use Rattle.ist_core.specs.StartLayout.{start}
-use Rattle.ist_core.proofs.ReferenceLemmas.{word_of-ref_of}
+use Rattle.ist_core.specs.TreeTerms.{CanCount, Linked, WasLinked}
+use Rattle.ist_core.specs.LogTerms.{Log}
+use Rattle.ist_core.specs.WordTerms.{InnerAt, ref_of, SlotHolds, start}
+use Rattle.ist_core.proofs.AllWordLemmas.{word_of-ref_of}
+use Rattle.ist_rule.specs.RuleTerms.{TokenFace, WentOn, now, GoesOnTo}
 use Rattle.ist_rule.specs.declared.view.View.{View}
-use Rattle.ist_rule.specs.Faces.{TokenFace}
-use Rattle.ist_rule.specs.Going.{WentOn}
-use Rattle.ist_rule.specs.Learning.{now, GoesOnTo}
 use Rattle.ist_rule.proofs.WentOnLemmas.{went_same, went_more, goes_on_went, later_by-goes_on}
 use Rattle.laws_histories.proofs.PositionLemmas.{node_met}
 use Rattle.laws_stability.proofs.LaterLemmas.{ever_later}
 use Rattle.laws_calls.proofs.WalkLemmas.{meeting_comes}
+use Rattle.ist_rows.specs.RowTerms.{StaysReady}
 use Rattle.ist_rows.specs.declared.callers.Caller.{Caller}
 use Rattle.ist_find.specs.Searches.{HasCome, Came}
 use Rattle.ist_updates.specs.declared.updates.Applied.{Applied}
@@ -30,7 +26,6 @@ use Rattle.ist_updates.specs.Trying.{Tries, BeganSince}
 use Rattle.ist_updates.specs.Walking.{HasStood, HasCounted, HasTriedSince, IsAskedStill, IsNotThere, HasWalked}
 use Rattle.ist_updates.proofs.NextRowLemmas.{may_count_next}
 use Rattle.ist_updates.proofs.TriedWalkLemmas.{went_table}
-use Rattle.ist_rows.specs.Going.{StaysReady}
 
 -- a caller that went down by a load
 module _ (old : Caller) (token : TokenFace) (g : GoesOnTo old.token.view token.view) where
@@ -45,8 +40,7 @@ module _ (old : Caller) (token : TokenFace) (g : GoesOnTo old.token.view token.v
 
   -- what holds for its table held for the table before
   back : (Q : List Pair → ℕ → Type 0) → Q w.start w.words → Q v.start v.words
-  back Q h =
-      subst (λ p. Q p v.words) (ap (λ x. x.start) g.same)
+  back Q h = subst (λ p. Q p v.words) (ap (λ x. x.start) g.same)
       (subst (Q w.start) (ap (λ x. x.words) g.same) h)
 
   -- what it reached from there, it reached from before
@@ -56,16 +50,15 @@ module _ (old : Caller) (token : TokenFace) (g : GoesOnTo old.token.view token.v
   -- a caller that stayed ready after the step down stayed so in the whole walk
   pub on_before : (P : Event → Type 0) (new : Caller) → StaysReady P there new
       → StaysReady P old new
-  on_before P new on =
-      record {
-        gone = record {
-          caller = on.gone.caller;
-          number = on.gone.number;
-          refused = on.gone.refused;
-          went = went_before P new.token.view on.gone.went;
-        };
-        quiet = on.quiet;
-      }
+  on_before P new on = record {
+    gone = record {
+      caller = on.gone.caller;
+      number = on.gone.number;
+      refused = on.gone.refused;
+      went = went_before P new.token.view on.gone.went;
+    };
+    quiet = on.quiet;
+  }
 
   -- a caller that is still asked after the step down is still asked after the whole walk
   pub still_before : (new : Caller) (command : Command) → IsAskedStill there new command
@@ -82,26 +75,23 @@ module _ (old : Caller) (token : TokenFace) (g : GoesOnTo old.token.view token.v
   -- what holds for each first view of the later view's search holds for each of the earlier view's
   pub refused_before : (R : View → Type 0) → ((first : View) → BeganSince first w → R first)
       → (first : View) → BeganSince first v → R first
-  refused_before R h first b =
-      h first record {
-        went = went_more Updates first v w b.went (goes_on_went Updates v w g);
-        since = subst (λ n. length first.log ≤ n) (sym g.since) b.since;
-      }
+  refused_before R h first b = h first record {
+    went = went_more Updates first v w b.went (goes_on_went Updates v w g);
+    since = subst (λ n. length first.log ≤ n) (sym g.since) b.since;
+  }
 
   tried_there : (first : View) → HasTriedSince first v old.number → HasTriedSince first w old.number
-  tried_there first h =
-      record {
-        went = went_more Tries first v w h.went (goes_on_went Tries v w g);
-        none_yet = h.none_yet;
-      }
+  tried_there first h = record {
+    went = went_more Tries first v w h.went (goes_on_went Tries v w g);
+    none_yet = h.none_yet;
+  }
 
   -- a walk that ends at this node
   pub walked_here : (key : ℕ) (value : Option ℕ) (node words : ℕ) (result : Result (Option Outcome) Full)
       (new : Caller) → ((rows : List ℕ) → HasCome v key node rows → HasCome w key node rows)
       → HasWalked there key value node words result new
       → HasWalked old key value node words result new
-  walked_here key value node words (Ok (Some (Took done))) new stays h =
-      λ first rows since come.
+  walked_here key value node words (Ok (Some (Took done))) new stays h = λ first rows since come.
       back (λ p n. HasCounted p n first.log new.token.view.log old.number (command_for key value) rows
       done) (h first rows (tried_there first since) (stays rows come))
   walked_here key value node words (Ok (Some Nothing)) new stays h = (
@@ -159,8 +149,7 @@ module _ (old : Caller) (token : TokenFace) (g : GoesOnTo old.token.view token.v
 
       -- the row may be counted at
       pub may_count_there : CanCount (start u.start u.words) u.log second.number row
-      may_count_there =
-          let lawful = went.sound.lawful in
+      may_count_there = let lawful = went.sound.lawful in
           may_count_next u.start u.words lawful.opens w.log u.log lawful.enabled second.number
           (command_for key value) came.0 row below
           (counted_there w (came.0 ++ row ∷ [])
@@ -168,8 +157,7 @@ module _ (old : Caller) (token : TokenFace) (g : GoesOnTo old.token.view token.v
 
       -- it stood in the slot of the node
       pub stood_there : HasStood u.start u.words u.log node index row
-      stood_there =
-          went_table Updates w u went (λ p n. HasStood p n u.log node index row)
+      stood_there = went_table Updates w u went (λ p n. HasStood p n u.log node index row)
           record {
             prefix = w.log;
             goes_on = later_by-goes_on went.later;
@@ -180,9 +168,7 @@ module _ (old : Caller) (token : TokenFace) (g : GoesOnTo old.token.view token.v
           }
         where
           linked : WasLinked (start w.start w.words) w.log node
-          linked =
-              let here = stays came.0 came.1 in
-              let lawful = g.sound.lawful in
+          linked = let here = stays came.0 came.1 in let lawful = g.sound.lawful in
               (node_met w.start w.words lawful.opens w.log lawful.enabled key w.loads.since here.last
               node (meeting_comes w.start w.words w.log key w.loads.since here.last node came.0
               here.comes)).linked
@@ -205,6 +191,5 @@ module _ (old : Caller) (token : TokenFace) (g : GoesOnTo old.token.view token.v
           number_is x))
         where
           back_there : (Q : List Pair → ℕ → Type 0) → Q u.start u.words → Q w.start w.words
-          back_there Q y =
-              subst (λ p. Q p w.words) (ap (λ x. x.start) went.same)
+          back_there Q y = subst (λ p. Q p w.words) (ap (λ x. x.start) went.same)
               (subst (Q u.start) (ap (λ x. x.words) went.same) y)

@@ -1,43 +1,48 @@
 -- The slot to which a key leads, and what was met there. Serves the functions of `trying`.
-use Rattle.std.proofs.Common.{◌≡◌, ◌≢◌, ℕ, length, List, Some, refl, sym, ap, ◌∙◌, subst, arith}
+use Rattle.std.proofs.Common.{◌≡◌, ◌≢◌, ℕ, length, List, Some, refl, sym, ap, ◌∙◌, subst, arith, inl, inr}
 use Rattle.ist_core.specs.declared.pairs.Pair.{Pair}
 use Rattle.ist_core.specs.declared.states.LeafRow.{LeafRow}
-use Rattle.ist_core.specs.Lawful.{Lawful, state_of}
-use Rattle.ist_core.specs.Links.{Leads}
-use Rattle.ist_core.specs.Logs.{GoesOn, Log}
-use Rattle.ist_core.specs.Pieces.{Leaf}
-use Rattle.ist_core.specs.References.{LeafAt, ref_of}
-use Rattle.ist_core.specs.StartLayout.{start}
-use Rattle.ist_core.proofs.FateLemmas.{grow_between}
-use Rattle.ist_core.proofs.GrowingLemmas.{child_remains, leaf_there, rebuild_there}
-use Rattle.ist_core.proofs.NamingLemmas.{IsRebuildFor}
-use Rattle.ist_core.proofs.OptionLemmas.{same_leaf}
+use Rattle.ist_core.specs.declared.commands.Command.{Command}
+use Rattle.ist_core.specs.declared.events.Event.{Event}
+use Rattle.ist_core.specs.declared.events.Who.{Who}
+use Rattle.ist_core.specs.declared.events.Who.TheVariants.{Caller as CallerOf}
+use Rattle.ist_core.specs.LogTerms.{Lawful, state_of, GoesOn, Log, no_more, one_more, Later, LaterBy}
+use Rattle.ist_core.specs.TreeTerms.{Leads}
+use Rattle.ist_core.specs.WordTerms.{Leaf, LeafAt, ref_of, start}
+use Rattle.ist_core.proofs.AllLogLemmas.{grow_between, child_remains, leaf_there, rebuild_there}
+use Rattle.ist_core.proofs.AllPlaceLemmas.{IsRebuildFor}
+use Rattle.ist_core.proofs.AllWordLemmas.{same_leaf}
 use Rattle.laws_stability.proofs.LaterLemmas.{ever_later}
+use Rattle.ist_rule.specs.RuleTerms.{now, IsSound, TokenFace, SearchedOn, WentOn, HasMade}
 use Rattle.ist_rule.specs.declared.view.View.{View}
-use Rattle.ist_rule.specs.Learning.{now}
-use Rattle.ist_rule.specs.Rule.{IsSound}
-use Rattle.ist_rule.proofs.GoingOnLemmas.{goes_on_same}
+use Rattle.ist_rule.proofs.EventLemmas.{goes_on_same}
 use Rattle.ist_rule.proofs.LaterLemmas.{goes_on_more, later-goes_on}
-use Rattle.ist_rule.proofs.WentOnLemmas.{goes_on_grow, later_by-goes_on}
+use Rattle.ist_rule.proofs.WentOnLemmas.{goes_on_grow, later_by-goes_on, went_all, went_lawful}
 use Rattle.laws_histories.specs.Loads.{log_at}
-use Rattle.laws_histories.proofs.LoadOnLemmas.{at_prefix, at_rises}
+use Rattle.laws_histories.proofs.ChangeLemmas.{at_prefix, at_rises}
 use Rattle.ist_find.specs.Searches.{Names, SeesLeaf}
 use Rattle.ist_updates.specs.declared.plans.Aim.{Aim}
 use Rattle.ist_updates.specs.Changing.{WasAtSlot}
 use Rattle.ist_updates.specs.Refusals.{IsOnWay, LeadsToSlot, MetOtherLeaf}
 use Rattle.ist_updates.specs.Trying.{BeganSince, IsAtSlot}
 use Rattle.ist_updates.proofs.PlanLemmas.{slot_met}
+use Rattle.laws_histories.specs.Calls.{HasCalls}
+use Rattle.ist_rule.proofs.CallLemmas.{between_later}
+use Rattle.ist_rows.specs.RowTerms.{KeepsRows, InstallsNone}
+use Rattle.ist_rows.specs.declared.callers.Caller.{Caller}
+use Rattle.ist_rows.proofs.CallerLawLemmas.{caller_went, refused_went, resolved_went}
+use Rattle.ist_updates.specs.Asking.{IsAsked}
+use Rattle.ist_updates.proofs.TriedWalkLemmas.{went_table}
 
 -- a key leads to the slot in each longer log
 pub leads_on : (pairs : List Pair) (words : ℕ) (log longer : Log) → Lawful pairs words longer
     → GoesOn log longer → (key node index : ℕ) → LeadsToSlot pairs words log key node index
     → LeadsToSlot pairs words longer key node index
-leads_on pairs words log longer lawful g key node index l =
-    record {
-      led = ever_later (start pairs words) (λ t. Leads t key node) g l.led;
-      child = child_remains (state_of pairs words log) (state_of pairs words longer)
-          (grow_between pairs words log longer lawful.enabled g) node key index l.child;
-    }
+leads_on pairs words log longer lawful g key node index l = record {
+  led = ever_later (start pairs words) (λ t. Leads t key node) g l.led;
+  child = child_remains (state_of pairs words log) (state_of pairs words longer)
+      (grow_between pairs words log longer lawful.enabled g) node key index l.child;
+}
 
 -- a rebuild on the key's way is so in each longer log
 pub way_longer : (pairs : List Pair) (words : ℕ) (log longer : Log) → Lawful pairs words longer
@@ -57,22 +62,21 @@ way_longer pairs words log longer lawful g key rebuild w =
 -- a leaf of another key that was met between two logs was met between wider ones
 pub met_wider : (pairs : List Pair) (words : ℕ) (a b c d : Log) → GoesOn a b → GoesOn c d → (key : ℕ)
     → MetOtherLeaf pairs words b c key → MetOtherLeaf pairs words a d key
-met_wider pairs words a b c d g h key m =
-    record {
-      at = m.at;
-      since = goes_on_more g m.since;
-      until = goes_on_more m.until h;
-      node = m.node;
-      index = m.index;
-      leads = m.leads;
-      word = m.word;
-      holds = m.holds;
-      base = m.base;
-      names = m.names;
-      other = m.other;
-      leaf = m.leaf;
-      differs = m.differs;
-    }
+met_wider pairs words a b c d g h key m = record {
+  at = m.at;
+  since = goes_on_more g m.since;
+  until = goes_on_more m.until h;
+  node = m.node;
+  index = m.index;
+  leads = m.leads;
+  word = m.word;
+  holds = m.holds;
+  base = m.base;
+  names = m.names;
+  other = m.other;
+  leaf = m.leaf;
+  differs = m.differs;
+}
 
 -- ---- at the slot
 
@@ -95,11 +99,8 @@ module _ (v : View) (aim : Aim) (at : WasAtSlot v aim) where
   module _ (first : View) (began : BeganSince first v) where
     -- since a search that began after the first view
     first_to_b : GoesOn first.log b.log
-    first_to_b =
-        let on = later_by-goes_on began.went.later in
-        let since = began.since in
-        let same = at.seen.since in
-        let low = at.sound.well_made.since in
+    first_to_b = let on = later_by-goes_on began.went.later in let since = began.since in
+        let same = at.seen.since in let low = at.sound.well_made.since in
         subst (λ l. GoesOn l b.log) (at_prefix first.log v.log on)
         (subst (GoesOn (log_at v.log (length first.log))) (at_prefix b.log v.log b_to_v)
         (at_rises v.log (length first.log) (length b.log) (omega arith)))
@@ -119,28 +120,26 @@ module _ (v : View) (aim : Aim) (at : WasAtSlot v aim) where
         seen = subst (Names b) is at.at.names
 
         same : seen.row ≡ row
-        same =
-            same_leaf ((now v).pieces base) seen.row row
+        same = same_leaf ((now v).pieces base) seen.row row
             (leaf_there (now b).pieces (now v).pieces (goes_on_grow b v at.seen) base seen.row
             seen.published) stands
 
         here : MetOtherLeaf b.start b.words first.log w.log aim.key
-        here =
-            record {
-              at = b.log;
-              since = first_to_b;
-              until = goes_on_more b_to_v on;
-              node = aim.node;
-              index = aim.index;
-              leads = slot_leads;
-              word = aim.word;
-              holds = at.at.holds;
-              base = base;
-              names = is;
-              other = seen.row.key;
-              leaf = record { row = seen.row; published = seen.published; key_is = refl };
-              differs = subst (λ (x : LeafRow). x.key ≢ aim.key) (sym same) differs;
-            }
+        here = record {
+          at = b.log;
+          since = first_to_b;
+          until = goes_on_more b_to_v on;
+          node = aim.node;
+          index = aim.index;
+          leads = slot_leads;
+          word = aim.word;
+          holds = at.at.holds;
+          base = base;
+          names = is;
+          other = seen.row.key;
+          leaf = record { row = seen.row; published = seen.published; key_is = refl };
+          differs = subst (λ (x : LeafRow). x.key ≢ aim.key) (sym same) differs;
+        }
 
 -- a rebuild in the slot is on the key's way
 pub slot_on_way : (v : View) → IsSound v → (key node index word rebuild : ℕ)
@@ -149,10 +148,94 @@ pub slot_on_way : (v : View) → IsSound v → (key node index word rebuild : �
 unfolding slot_here
 slot_on_way v s key node index word rebuild at named =
     let aim : Aim = record { node = node; index = index; word = word; key = key } in
-    let leads = slot_leads v aim (slot_here v aim s at) in
-    record {
+    let leads = slot_leads v aim (slot_here v aim s at) in record {
       row = named.row;
       published = named.published;
       leads = subst (λ n. LeadsToSlot v.start v.words v.log key n named.row.index) (sym named.parent)
           (subst (λ i. LeadsToSlot v.start v.words v.log key node i) (sym named.index) leads);
     }
+
+-- ---- a caller that was asked an update is still asked it after loads, and after it began a search.
+-- Serves `descend` and `apply`.
+
+-- no event
+abbrev pub NoEvent : Event → Type 0
+NoEvent event = ⊥
+
+-- a log that went on without own events went on by others
+pub by_others : {who : Who} {a b : Log} → LaterBy who NoEvent a b → Later who a b
+by_others no_more = no_more
+by_others (one_more event l (inl other)) = one_more event (by_others l) other
+by_others (one_more event l (inr none)) = absurd none
+
+module _ (who : Caller) (token : TokenFace) (command : Command) (a : IsAsked who command)
+    (g : WentOn NoEvent who.token.view token.view) where
+  abbrev v : View
+  v = who.token.view
+
+  abbrev w : View
+  w = token.view
+
+  -- what is true of any event
+  by_none : (P : Event → Type 0) → WentOn P v w
+  by_none P = went_all NoEvent P (λ event none. absurd none) v w g
+
+  later : Later (CallerOf who.number) v.log w.log
+  later = by_others (subst (λ x. LaterBy x NoEvent v.log w.log) a.caller.mine g.later)
+
+  made : HasMade v.start v.words w.log who.number v.calls
+  made =
+      (between_later v.start v.words who.number v.calls v.log w.log
+      (went_lawful NoEvent v w g).enabled later
+      record { made = a.none_yet; resolved = a.resolved }).made
+
+  stamp_is : w.stamp ≡ v.stamp
+  stamp_is = ap (λ x. x.stamp) g.same
+
+  calls_are : w.calls ≡ v.calls
+  calls_are = ap (λ x. x.calls) g.same
+
+  -- the caller is still asked
+  pub asked_went : IsAsked (record who { token = token }) command
+  asked_went = record {
+    caller = caller_went who token a.caller (by_none KeepsRows);
+    refused = refused_went who token a.caller a.refused (by_none KeepsRows);
+    pending = a.pending;
+    in_call = ap (λ x. x.pending) g.same ∙ a.in_call;
+    command_is = a.command_is;
+    seen = a.seen;
+    goes_on = goes_on_more a.goes_on (later_by-goes_on g.later);
+    length_is = a.length_is;
+    had = went_table NoEvent v w g (λ p n. HasCalls p n a.seen who.number w.stamp w.calls)
+        (subst (λ calls. HasCalls v.start v.words a.seen who.number w.stamp calls)
+        (sym calls_are)
+        (subst (λ stamp. HasCalls v.start v.words a.seen who.number stamp v.calls)
+        (sym stamp_is) a.had));
+    resolved = resolved_went v w who.number a.caller.mine a.resolved (by_none InstallsNone);
+    none_yet = went_table NoEvent v w g (λ p n. HasMade p n w.log who.number w.calls)
+        (subst (λ calls. HasMade v.start v.words w.log who.number calls) (sym calls_are) made);
+  }
+
+-- what is asked doesn't depend on how many searches the caller began
+pub recounted : (who : Caller) (command : Command) (n : ℕ) → IsAsked who command
+    → IsAsked (record who { token = record who.token { view = record who.token.view { searches = n } } }) command
+recounted who command n a = record {
+  caller = record { mine = a.caller.mine; rows = a.caller.rows; builds = a.caller.builds };
+  refused = a.refused;
+  pending = a.pending;
+  in_call = a.in_call;
+  command_is = a.command_is;
+  seen = a.seen;
+  goes_on = a.goes_on;
+  length_is = a.length_is;
+  had = a.had;
+  resolved = a.resolved;
+  none_yet = a.none_yet;
+}
+
+-- a search that is begun leaves the caller as it was asked
+pub asked_searched : (who : Caller) (token : TokenFace) (command : Command) → IsAsked who command
+    → SearchedOn NoEvent who.token.view token.view → IsAsked (record who { token = token }) command
+asked_searched who token command a g = let n = token.view.searches in
+    asked_went (record who { token = record who.token { view = record who.token.view { searches = n } } })
+    token command (recounted who command n a) g.went

@@ -1,37 +1,82 @@
 -- A caller has the same entries if none of its puts and removes was decided yes since. Serves the
 -- entry law.
-use Rattle.std.proofs.Common.{List, None, Option, Some, [], ap, append-nil, arith, false, inl, inr, length, length-append, option_map, refl, subst, sym, true, ℕ, ⊎_elim, ◌++◌, ◌+◌, ◌==◌, ◌∙◌, ◌∷◌, ◌≡◌, ◌≢◌, ◌≤◌, ◌⊎◌}
-use Rattle.std.proofs.lemmas.Bool.Decides.{eqb_tells}
-use Rattle.std.proofs.lemmas.List.Elements.{filter-append}
-use Rattle.ist_core.specs.declared.commands.Command.{Command}
-use Rattle.ist_core.specs.declared.events.Event.TheVariants.{Decide}
+use Rattle.std.proofs.Common.{[], ap, arith, inl, inr, refl, ◌++◌, ◌∷◌, ◌≡◌, List, None, Option, Some, append-nil, false, length, length-append, option_map, subst, sym, true, ℕ, ⊎_elim, ◌+◌, ◌==◌, ◌∙◌, ◌≢◌, ◌≤◌, ◌⊎◌}
 use Rattle.ist_core.specs.declared.events.Event.{Event}
+use Rattle.ist_core.specs.declared.commands.Command.{Command}
+use Rattle.ist_core.specs.declared.events.Event.TheVariants.{Decide, Install}
 use Rattle.ist_core.specs.declared.pairs.Pair.{Pair}
 use Rattle.ist_core.specs.declared.states.ChangeRow.{ChangeRow}
-use Rattle.ist_core.specs.Changes.{Entry, changes_of, command_of, entry_for, entry_of}
-use Rattle.ist_core.specs.Deciding.{AllResolvedOf}
-use Rattle.ist_core.specs.Lawful.{CanOpen, EachEnabled, state_of}
-use Rattle.ist_core.specs.Logs.{GoesOn, Log, one_event, same_log}
-use Rattle.ist_core.specs.Pieces.{Change, Inner, Leaf, Piece, Pieces, Rebuild, with_decision}
-use Rattle.ist_core.specs.Standing.{entries_by}
-use Rattle.ist_core.specs.StartLayout.{start}
-use Rattle.ist_core.specs.Statuses.{decided_yes, undecided}
-use Rattle.ist_core.proofs.FateLemmas.{enabled_before, grow_between, grow_after}
-use Rattle.ist_core.proofs.GrowingLemmas.{change_there, inner_there, leaf_there, rebuild_there}
-use Rattle.ist_core.proofs.RowLemmas.{changed_at-same}
-use Rattle.ist_core.proofs.OptionLemmas.{same_change}
+use Rattle.ist_core.specs.LogTerms.{GoesOnBy, no_more, one_more, GoesOn, Happened, Log, one_event, same_log, CanOpen, EachEnabled, state_of}
+use Rattle.ist_core.proofs.AllLogLemmas.{goes_on_length, goes_on-append, enabled_before, grow_between, grow_after, change_there, inner_there, leaf_there, rebuild_there, goes_on_by}
+use Rattle.std.proofs.lemmas.Bool.Decides.{eqb_tells}
+use Rattle.std.proofs.lemmas.List.Elements.{filter-append}
+use Rattle.ist_core.specs.TreeTerms.{Entry, changes_of, command_of, entry_for, entry_of, AllResolvedOf, entries_by}
+use Rattle.ist_core.specs.WordTerms.{Change, Inner, Leaf, Piece, Pieces, Rebuild, with_decision, start, decided_yes, undecided}
+use Rattle.ist_core.proofs.AllWordLemmas.{changed_at-same, same_change, no_value}
 use Rattle.laws_links.proofs.ChangeLemmas.{undecided_unresolved}
 use Rattle.laws_histories.specs.Calls.{MadeNoEntry}
 use Rattle.laws_histories.proofs.EffectLemmas.{took_effect}
-use Rattle.laws_calls.specs.Accepting.{NoneAcceptedSince, WasAccepted}
+use Rattle.laws_calls.specs.Accepting.{NoneAcceptedSince, WasAccepted, InstallsNoYes}
+use Rattle.ist_core.proofs.CommandLemmas.{command_update}
+use Rattle.laws_calls.proofs.OwnLemmas.{change_since}
+use Rattle.laws_calls.specs.Owning.{HasChange, WasInstalled}
+
+-- ---- events between two logs. Serves the laws on entries and on Counts.
+
+-- an event that satisfies P, after one log and within a longer one
+pub record Met (P : Event → Type 0) (rest log : Log) : Type 0 where
+  pub event : Event
+  pub here : P event
+  pub before : Log
+  pub since : GoesOn rest before
+  pub until : GoesOn (event ∷ before) log
+
+-- a longer log is its prefix with more events
+pub events_after : (rest log : Log) → GoesOn rest log → (later : Log) × (log ≡ later ++ rest)
+events_after rest _ same_log = ([], refl)
+events_after rest _ (one_event {log = log} event on) =
+    let it = events_after rest log on in (event ∷ it.0, ap (λ xs. event ∷ xs) it.1)
+
+-- what happened in the newer part of a log is an event after the older part
+pub happened_met : (P : Event → Type 0) (later rest : Log) → Happened P later
+    → Met P rest (later ++ rest)
+happened_met P [] rest none = absurd none
+happened_met P (event ∷ later) rest (inl here) = record {
+  event = event;
+  here = here;
+  before = later ++ rest;
+  since = goes_on-append later rest;
+  until = same_log;
+}
+happened_met P (event ∷ later) rest (inr there) = let it = happened_met P later rest there in
+    record {
+      event = it.event;
+      here = it.here;
+      before = it.before;
+      since = it.since;
+      until = one_event event it.until;
+    }
+
+-- an event of a longer log is its last event, or an earlier one
+last_or_sooner : (P : Event → Type 0) (event last : Event) (before log : Log)
+    → GoesOn (event ∷ before) (last ∷ log) → P last → (GoesOn (event ∷ before) log → P event)
+    → P event
+last_or_sooner P event _ before _ same_log here again = here
+last_or_sooner P event _ before _ (one_event _ sooner) here again = again sooner
+
+-- each event between is one by which the log went on
+pub event_by : (P : Event → Type 0) (earlier log : Log) → GoesOnBy P earlier log → (event : Event)
+    → (before : Log) → GoesOn earlier before → GoesOn (event ∷ before) log → P event
+event_by P earlier _ no_more event before since until = let longer = goes_on_length until in
+    let low = goes_on_length since in absurd (omega arith)
+event_by P earlier _ (one_more {log = log} last later p) event before since until =
+    last_or_sooner P event last before log until p
+    (λ sooner. event_by P earlier log later event before since sooner)
 
 -- a list with one element more is longer
 one_more_is_longer : (xs ys : List Entry) (entry : Entry) → xs ≡ ys → xs ≡ ys ++ entry ∷ [] → ⊥
-one_more_is_longer xs ys entry same more =
-    let a = ap length same in
-    let b = ap length more in
-    let c = length-append ys (entry ∷ []) in
-    omega arith
+one_more_is_longer xs ys entry same more = let a = ap length same in let b = ap length more in
+    let c = length-append ys (entry ∷ []) in omega arith
 
 -- as long a list is no longer by more than one
 pub no_longer : (xs ys : List Entry) → xs ≡ ys → length xs ≤ length ys + 1
@@ -50,8 +95,7 @@ module _ (pairs : List Pair) (words : ℕ) (opens : CanOpen pairs words) where
       (state_of pairs words (event ∷ log)).pieces (grow_after pairs words log event h) base change
       e in
       was base it.0 command it.1 (ap (λ c. c.owner) it.2.others ∙ own)
-      (it.2.decided (λ none. (let a = said in omega arith)) ∙ said)
-      (ap command_of it.2.others ∙ is)
+      (it.2.decided (λ none. (let a = said in omega arith)) ∙ said) (ap command_of it.2.others ∙ is)
 
   -- a decision makes no entry of the caller
   no_entry : (earlier log : Log) → GoesOn earlier log → (caller base number : ℕ)
@@ -82,14 +126,12 @@ module _ (pairs : List Pair) (words : ℕ) (opens : CanOpen pairs words) where
           (grow_between pairs words earlier log h.0 g) base old.0 old.1 in
           let same = same_change (ps base) it.0 h.1.change it.1 h.1.pending.published in
           let yes_still = it.2.decided (λ none. (let a = old.2 in omega arith)) ∙ old.2 in
-          let unset = ap (λ c. c.decision) same ∙ h.1.pending.unset in
-          absurd (omega arith)
+          let unset = ap (λ c. c.decision) same ∙ h.1.pending.unset in absurd (omega arith)
 
   -- if each of its updates that is decided yes was already so, a caller made no entry
   pub no_yes_no_entry : (earlier log : Log) → GoesOn earlier log
       → EachEnabled (start pairs words) log → (number : ℕ)
-      → WasAccepted pairs words number earlier log
-      → MadeNoEntry pairs words number earlier log
+      → WasAccepted pairs words number earlier log → MadeNoEntry pairs words number earlier log
   no_yes_no_entry earlier _ same_log h number was = refl
   no_yes_no_entry earlier _ (one_event {log = log} (Decide caller base true) g) h number was =
       let ps = (state_of pairs words log).pieces in
@@ -108,14 +150,12 @@ module _ (pairs : List Pair) (words : ℕ) (opens : CanOpen pairs words) where
   -- if a caller made no entry, each of its updates that is decided yes was already so
   pub no_entry_no_yes : (earlier log : Log) → GoesOn earlier log
       → EachEnabled (start pairs words) log → (number : ℕ)
-      → MadeNoEntry pairs words number earlier log
-      → WasAccepted pairs words number earlier log
+      → MadeNoEntry pairs words number earlier log → WasAccepted pairs words number earlier log
   no_entry_no_yes earlier log g h number none base change command e own said is =
       at ((state_of pairs words earlier).pieces base) refl
     where
       Found : Type 0
-      Found =
-          (old : ChangeRow) × ((state_of pairs words earlier).pieces base ≡ Some (Change old))
+      Found = (old : ChangeRow) × ((state_of pairs words earlier).pieces base ≡ Some (Change old))
           × (old.decision ≡ decided_yes)
 
       made : ((old : ChangeRow) → (state_of pairs words earlier).pieces base ≡ Some (Change old)
@@ -136,8 +176,7 @@ module _ (pairs : List Pair) (words : ℕ) (opens : CanOpen pairs words) where
           × (old.decision ≡ decided_yes)
       at None there =
           absurd (made (λ old f. (let q : None ≡ Some (Change old) = sym there ∙ f in absurd (cc))))
-      at (Some (Change old)) there =
-          ⊎_elim (λ k. (old, there, k.1))
+      at (Some (Change old)) there = ⊎_elim (λ k. (old, there, k.1))
           (λ k. absurd (made (λ x f. subst (λ c. c.decision ≢ decided_yes)
           (same_change ((state_of pairs words earlier).pieces base) old x there f) k.1)))
           (eqb_tells old.decision decided_yes)
@@ -194,3 +233,28 @@ module _ (pairs : List Pair) (words : ℕ) (opens : CanOpen pairs words) where
               opens earlier (enabled_before (start pairs words) earlier log g h) base old there none
               (resolved base old there owner) in
               (old, there, sym (it.2.decided decided) ∙ ap (λ c. c.decision) same ∙ said)
+
+-- ---- if no update that was installed since is decided yes, no entry was made. Serves the entry law.
+
+module _ (pairs : List Pair) (words : ℕ) (opens : CanOpen pairs words) where
+  -- if all its changes were resolved and it installed no update that is decided yes, a caller made
+  -- no entry
+  pub installed_no_entry : (earlier log : Log) → EachEnabled (start pairs words) log → (number : ℕ)
+      → GoesOnBy (InstallsNoYes (state_of pairs words log) number) earlier log
+      → AllResolvedOf (state_of pairs words earlier) earlier number
+      → MadeNoEntry pairs words number earlier log
+  installed_no_entry earlier log h number later resolved =
+      resolved_no_entry pairs words opens earlier log (goes_on_by later) h number resolved since
+    where
+      since : NoneAcceptedSince pairs words number earlier log
+      since base change command none e own is said =
+          by_origin (change_since pairs words earlier log (goes_on_by later) h base change e)
+        where
+          by_origin : HasChange (state_of pairs words earlier) base
+              ⊎ WasInstalled earlier log change.owner base → ⊥
+          by_origin (inl old) =
+              no_value ((state_of pairs words earlier).pieces base) (Change old.0) none old.1
+          by_origin (inr w) =
+              event_by (InstallsNoYes (state_of pairs words log) number) earlier log later
+              (Install change.owner base w.rows) w.at w.since w.until own change e
+              (command_update change command is) said

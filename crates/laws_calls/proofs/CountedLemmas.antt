@@ -8,25 +8,15 @@ use Rattle.ist_core.specs.declared.events.Event.TheVariants.{Decide}
 use Rattle.ist_core.specs.declared.events.Event.{Event}
 use Rattle.ist_core.specs.declared.pairs.Pair.{Pair}
 use Rattle.ist_core.specs.declared.states.ChangeRow.{ChangeRow}
-use Rattle.ist_core.specs.Authors.{GoesOnBy}
-use Rattle.ist_core.specs.Changes.{changes_of, command_of, entry_for, entry_of}
-use Rattle.ist_core.specs.Deciding.{CanCount, IsUpdateOf, SaysYes}
-use Rattle.ist_core.specs.Lawful.{CanOpen, EachEnabled, state_of}
-use Rattle.ist_core.specs.Links.{WasOnChain}
-use Rattle.ist_core.specs.Logs.{Counts, GoesOn, Log, one_event, same_log}
-use Rattle.ist_core.specs.Pieces.{Pieces}
-use Rattle.ist_core.specs.Rebuilding.{IsUpdate}
-use Rattle.ist_core.specs.Standing.{entries_by}
-use Rattle.ist_core.specs.StartLayout.{start}
-use Rattle.ist_core.specs.Statuses.{put_kind, remove_kind}
-use Rattle.ist_core.proofs.FateLemmas.{enabled_before, grow_between}
-use Rattle.ist_core.proofs.GrowingLemmas.{change_there}
-use Rattle.ist_core.proofs.PrefixLemmas.{goes_on_more, goes_on_by}
-use Rattle.ist_core.proofs.OptionLemmas.{same_change}
-use Rattle.laws_links.proofs.OwnerLemmas.{owner_known}
+use Rattle.ist_core.specs.LogTerms.{GoesOnBy, CanOpen, EachEnabled, state_of, Counts, GoesOn, Log, one_event, same_log}
+use Rattle.ist_core.specs.TreeTerms.{changes_of, command_of, entry_for, entry_of, CanCount, IsUpdateOf, SaysYes, WasOnChain, IsUpdate, entries_by}
+use Rattle.ist_core.specs.WordTerms.{Pieces, start, put_kind, remove_kind}
+use Rattle.ist_core.proofs.AllLogLemmas.{enabled_before, grow_between, change_there, goes_on_more, goes_on_by}
+use Rattle.ist_core.proofs.AllWordLemmas.{same_change}
+use Rattle.laws_links.proofs.StartingLemmas.{owner_known}
 use Rattle.laws_histories.proofs.ChangeLemmas.{changes_on}
 use Rattle.laws_histories.proofs.DecisionLemmas.{Turning, turns_since}
-use Rattle.laws_calls.proofs.EventsMeanwhileLemmas.{Met, event_by, events_after, happened_met}
+use Rattle.laws_calls.proofs.AcceptedLemmas.{Met, event_by, events_after, happened_met}
 use Rattle.laws_calls.specs.Counting.{CountsElsewhere, IsOneUpdate}
 
 -- a put or remove has a command
@@ -46,8 +36,7 @@ update_command x (inr remove) = (
 -- an entry of the owner is one of its entries
 own_entry : (ps : Pieces) (x : ChangeRow) (caller : ℕ) → x.owner ≡ caller → (command : Command)
     → length (entries_by caller (entry_for ps x (Some command))) ≡ 1
-own_entry ps x caller own command =
-    at (eqb_tells x.owner caller)
+own_entry ps x caller own command = at (eqb_tells x.owner caller)
   where
     at : (((x.owner == caller) ≡ true) × (x.owner ≡ caller))
         ⊎ (((x.owner == caller) ≡ false) × (x.owner ≢ caller))
@@ -64,8 +53,7 @@ module _ (pairs : List Pair) (words : ℕ) where
   entries_rise : (caller : ℕ) (earlier log : Log) → GoesOn earlier log
       → entries caller earlier ≤ entries caller log
   unfolding entries
-  entries_rise caller earlier log on =
-      let it = changes_on (start pairs words) earlier log on in
+  entries_rise caller earlier log on = let it = changes_on (start pairs words) earlier log on in
       let parts = ap (entries_by caller) it.1
       ∙ filter-append (λ entry. entry.owner == caller) (changes_of pairs words earlier) it.0 in
       let lengths = ap length parts
@@ -81,10 +69,8 @@ module _ (pairs : List Pair) (words : ℕ) where
   unfolding entries
   yes_adds caller by base before log h on update =
       let whole = enabled_before (start pairs words) (Decide by base true ∷ before) log on h in
-      let ps = (state_of pairs words before).pieces in
-      let x = whole.1.change in
-      let from = goes_on_more
-      (one_event (Decide by base true) same_log) on in
+      let ps = (state_of pairs words before).pieces in let x = whole.1.change in
+      let from = goes_on_more (one_event (Decide by base true) same_log) on in
       let it = change_there ps (state_of pairs words log).pieces
       (grow_between pairs words before log h from) base x whole.1.pending.published in
       let same = same_change ((state_of pairs words log).pieces base) it.0 update.change it.1
@@ -145,28 +131,26 @@ module _ (pairs : List Pair) (words : ℕ) (opens : CanOpen pairs words) where
       → WasOnChain (start pairs words) log u.change.node node
       → GoesOnBy (CountsElsewhere caller node) earlier log
       → CanCount (start pairs words) log caller node
-  may_count earlier log h caller base node u on later =
-      record {
-        known = subst (λ c. c < (state_of pairs words log).callers) u.owned
-            (owner_known pairs words log h base u.change u.published);
-        later = following.0;
-        by = turn.caller;
-        base = base;
-        earlier = turn.at;
-        log_is = following.1;
-        update = update;
-        last =
-            λ said. no_other_yes earlier log h caller turn.caller base turn.at turn.since turn.until
-            update u.alone
-            (subst (λ xs. Met (SaysYes (state_of pairs words log) caller) whole xs) (sym following.1)
-            (happened_met (SaysYes (state_of pairs words log) caller) following.0 whole said));
-        uncounted = λ counted. (
-            let m = subst (λ xs. Met (Counts caller node) whole xs) (sym following.1)
-            (happened_met (Counts caller node) following.0 whole counted) in
-            event_by (CountsElsewhere caller node) earlier log later m.event m.before
-            (goes_on_more since m.since) m.until m.here);
-        on_chain = on;
-      }
+  may_count earlier log h caller base node u on later = record {
+    known = subst (λ c. c < (state_of pairs words log).callers) u.owned
+        (owner_known pairs words log h base u.change u.published);
+    later = following.0;
+    by = turn.caller;
+    base = base;
+    earlier = turn.at;
+    log_is = following.1;
+    update = update;
+    last = λ said. no_other_yes earlier log h caller turn.caller base turn.at turn.since turn.until
+        update u.alone
+        (subst (λ xs. Met (SaysYes (state_of pairs words log) caller) whole xs) (sym following.1)
+        (happened_met (SaysYes (state_of pairs words log) caller) following.0 whole said));
+    uncounted = λ counted. (
+        let m = subst (λ xs. Met (Counts caller node) whole xs) (sym following.1)
+        (happened_met (Counts caller node) following.0 whole counted) in
+        event_by (CountsElsewhere caller node) earlier log later m.event m.before
+        (goes_on_more since m.since) m.until m.here);
+    on_chain = on;
+  }
     where
       turn : Turning earlier log base
       turn = turns_since pairs words earlier log (goes_on_by later) h base u.change u.since u.published

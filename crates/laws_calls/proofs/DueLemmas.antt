@@ -6,37 +6,26 @@ use Rattle.ist_core.specs.declared.events.Event.TheVariants.{Count, Install, Pla
 use Rattle.ist_core.specs.declared.events.Event.{Event}
 use Rattle.ist_core.specs.declared.pairs.Pair.{Pair}
 use Rattle.ist_core.specs.declared.states.InnerRow.{InnerRow}
-use Rattle.ist_core.specs.After.{decision_word, side_of}
-use Rattle.ist_core.specs.Arithmetic.{limit}
-use Rattle.ist_core.specs.Deciding.{CanCount}
-use Rattle.ist_core.specs.Lawful.{CanOpen, EachEnabled, state_of}
-use Rattle.ist_core.specs.Links.{WasLinked}
-use Rattle.ist_core.specs.Logs.{Log, state}
-use Rattle.ist_core.specs.Pieces.{Change, Inner, Leaf, Piece, Rebuild, counted, drawn, with_decision, with_root, with_slot, with_status}
-use Rattle.ist_core.specs.References.{ChangeAt, word_of}
-use Rattle.ist_core.specs.Snapshots.{Snapshot}
-use Rattle.ist_core.specs.StartLayout.{start}
-use Rattle.ist_core.specs.Statuses.{finished_word, marked_word}
-use Rattle.ist_core.proofs.BornLemmas.{Born}
-use Rattle.ist_core.proofs.ChainLemmas.{on_chain_inner}
+use Rattle.ist_core.specs.LogTerms.{decision_word, side_of, CanOpen, EachEnabled, state_of, Log, state, Snapshot}
+use Rattle.ist_core.specs.WordTerms.{limit, Change, Inner, Leaf, Piece, Rebuild, counted, drawn, with_decision, with_root, with_slot, with_status, ChangeAt, word_of, start, finished_word, marked_word}
+use Rattle.ist_core.specs.TreeTerms.{CanCount, WasLinked}
+use Rattle.ist_core.proofs.AllEventLemmas.{Born}
+use Rattle.ist_core.proofs.AllLogLemmas.{on_chain_inner, known_step, grow_after}
 use Rattle.ist_core.proofs.CountLemmas.{counts}
-use Rattle.ist_core.proofs.PlaceLemmas.{absent}
+use Rattle.ist_core.proofs.AllPlaceLemmas.{absent}
 use Rattle.ist_core.proofs.TallyLemmas.{count_at_most}
 use Rattle.laws_links.proofs.UntouchedLemmas.{on_chain_was_linked}
 use Rattle.laws_links.proofs.RowEventLemmas.{RowCame, BecameBy, as_it_was, by_count, by_decide, by_draw, by_finish, by_install, by_mark, by_place, by_resolve, by_root, came, from_new, from_old}
-use Rattle.laws_links.proofs.OriginLemmas.{inner_is}
-use Rattle.ist_core.proofs.CallerLemmas.{known_step}
+use Rattle.laws_links.proofs.PassLemmas.{inner_is}
 use Rattle.laws_calls.specs.Settling.{MadeDue, due_before, due_now}
 use Rattle.ist_core.proofs.BornLemmas as born
-use Rattle.ist_core.proofs.OptionLemmas.{no_value}
-use Rattle.ist_core.proofs.FateLemmas.{grow_after}
+use Rattle.ist_core.proofs.AllWordLemmas.{no_value}
 
 -- ---- what an event makes of a count
 
 -- the change of a row leaves the count and size of inner rows, and makes no inner row of another
 abbrev KeepsCounts : (Piece → Piece) → Type 0
-KeepsCounts f =
-    (p : Piece) (x : InnerRow) → f p ≡ Inner x
+KeepsCounts f = (p : Piece) (x : InnerRow) → f p ≡ Inner x
     → (r : InnerRow) × (p ≡ Inner r) × (x.count ≡ r.count) × (x.size ≡ r.size)
 
 count-with_slot : (i word : ℕ) → KeepsCounts (with_slot i word)
@@ -85,8 +74,7 @@ count-counted (Rebuild r) x e = absurd (cc)
 -- where the count of a row after an event comes from
 data CountComes (first : Snapshot) (log : Log) (node : ℕ) (x : InnerRow) : Event → Type 0 where
   count_was : {event : Event} (r : InnerRow) → (state first log).pieces node ≡ Some (Inner r)
-      → x.count ≡ r.count → x.size ≡ r.size
-      → CountComes first log node x event
+      → x.count ≡ r.count → x.size ≡ r.size → CountComes first log node x event
   is_counted : {caller : ℕ} (r : InnerRow) → CanCount first log caller node
       → (state first log).pieces node ≡ Some (Inner r) → x.count ≡ r.count + 1 → x.size ≡ r.size
       → CountComes first log node x (Count caller node)
@@ -95,8 +83,7 @@ data CountComes (first : Snapshot) (log : Log) (node : ℕ) (x : InnerRow) : Eve
 module _ (pairs : List Pair) (words : ℕ) (opens : CanOpen pairs words) where
   -- a row that isn't published wasn't counted
   no_counts : (log : Log) → EachEnabled (start pairs words) log → (node : ℕ)
-      → (state_of pairs words log).pieces node ≡ None
-      → counts node log ≡ 0
+      → (state_of pairs words log).pieces node ≡ None → counts node log ≡ 0
   unfolding counts
   no_counts [] h node none = refl
   no_counts (Count caller at ∷ log) h node none =
@@ -116,8 +103,7 @@ module _ (pairs : List Pair) (words : ℕ) (opens : CanOpen pairs words) where
           (subst (λ n. (state_of pairs words log).pieces n ≡ Some (Inner it.0)) k.1 it.1))
       here before rest (inr k) =
           subst (λ b. (if b then counts node log + 1 else counts node log) ≡ 0) (sym k.0) rest
-  no_counts (event ∷ log) h node none =
-      no_counts log h.0 node
+  no_counts (event ∷ log) h node none = no_counts log h.0 node
       (absent ((state_of pairs words log).pieces node) (λ p e.
       let on = grow_after pairs words log event h node p e in no_value
       ((state_of pairs words (event ∷ log)).pieces node) on.0 none on.1))
@@ -132,8 +118,7 @@ module _ (pairs : List Pair) (words : ℕ) (opens : CanOpen pairs words) where
   born_uncounted log _ h node x e none (born.by_install {caller = caller} {change = change}
       {rows = rows} can new) =
       let most = count_at_most node pairs words (Install caller change rows ∷ log) h (Inner x) e in
-      let zero = no_counts log h.0 node none in
-      at most zero
+      let zero = no_counts log h.0 node none in at most zero
     where
       at : x.count ≤ counts node log → counts node log ≡ 0 → x.count ≡ 0
       at a b = omega arith
@@ -141,8 +126,7 @@ module _ (pairs : List Pair) (words : ℕ) (opens : CanOpen pairs words) where
       {word = word} {rows = rows} i p) =
       let most = count_at_most node pairs words (Root caller rebuild word rows ∷ log) h (Inner x)
       e in
-      let zero = no_counts log h.0 node none in
-      at most zero
+      let zero = no_counts log h.0 node none in at most zero
     where
       at : x.count ≤ counts node log → counts node log ≡ 0 → x.count ≡ 0
       at a b = omega arith
@@ -150,19 +134,16 @@ module _ (pairs : List Pair) (words : ℕ) (opens : CanOpen pairs words) where
       {word = word} {rows = rows} k p) =
       let most = count_at_most node pairs words (Place caller rebuild i word rows ∷ log) h (Inner x)
       e in
-      let zero = no_counts log h.0 node none in
-      at most zero
+      let zero = no_counts log h.0 node none in at most zero
     where
       at : x.count ≤ counts node log → counts node log ≡ 0 → x.count ≡ 0
       at a b = omega arith
 
   -- the count of a row that was there before, if its event leaves counts
-  same_count : (log : Log) (event : Event) (node : ℕ) (x : InnerRow) (p : Piece)
-      (f : Piece → Piece)
+  same_count : (log : Log) (event : Event) (node : ℕ) (x : InnerRow) (p : Piece) (f : Piece → Piece)
       → KeepsCounts f → (state_of pairs words log).pieces node ≡ Some p → Inner x ≡ f p
       → CountComes (start pairs words) log node x event
-  same_count log event node x p f keeps old is =
-      let it = keeps p x (sym is) in
+  same_count log event node x p f keeps old is = let it = keeps p x (sym is) in
       count_was it.0 (old ∙ ap (λ y. Some y) it.1) it.2 it.3
 
   turned_count : (log : Log) (event : Event) (node : ℕ) (x : InnerRow) (p : Piece)
@@ -182,8 +163,7 @@ module _ (pairs : List Pair) (words : ℕ) (opens : CanOpen pairs words) where
   turned_count log _ node x p old (by_decide {said = said} h is) =
       same_count log _ node x p (with_decision (decision_word said))
       (count-with_decision (decision_word said)) old is
-  turned_count log _ node x p old (by_count h is) =
-      let it = count-counted p x (sym is) in
+  turned_count log _ node x p old (by_count h is) = let it = count-counted p x (sym is) in
       is_counted it.0 h (old ∙ ap (λ y. Some y) it.1) it.2 it.3
   turned_count log _ node x p old (by_mark h is) =
       same_count log _ node x p (with_status marked_word) (count-with_status marked_word) old is
@@ -220,8 +200,7 @@ module _ (pairs : List Pair) (words : ℕ) (opens : CanOpen pairs words) where
   some_limit size count low none = omega arith
 
   -- each row that is due was made due by a known caller
-  pub due_was_made : (log : Log) → EachEnabled (start pairs words) log
-      → (node : ℕ) (x : InnerRow)
+  pub due_was_made : (log : Log) → EachEnabled (start pairs words) log → (node : ℕ) (x : InnerRow)
       → (state_of pairs words log).pieces node ≡ Some (Inner x) → limit x.size ≤ x.count
       → WasMadeDue log node
   due_was_made [] h node x e due =
@@ -231,8 +210,7 @@ module _ (pairs : List Pair) (words : ℕ) (opens : CanOpen pairs words) where
       at event h due (count_comes log event h node x e) (λ r old d. due_was_made log h.0 node r old
       d)
     where
-      at : (event : Event) → EachEnabled (start pairs words) (event ∷ log)
-          → limit x.size ≤ x.count
+      at : (event : Event) → EachEnabled (start pairs words) (event ∷ log) → limit x.size ≤ x.count
           → CountComes (start pairs words) log node x event
           → ((r : InnerRow) → (state_of pairs words log).pieces node ≡ Some (Inner r)
           → limit r.size ≤ r.count → WasMadeDue log node)
@@ -245,14 +223,13 @@ module _ (pairs : List Pair) (words : ℕ) (opens : CanOpen pairs words) where
             known = known_step (start pairs words) log event it.caller it.known;
             made = due_before event it.made;
           }
-      at _ all d (is_counted {caller = caller} r can old more size) before =
-          record {
-            caller = caller;
-            known = known_step (start pairs words) log (Count caller node) caller can.known;
-            made =
-                due_now r old (subst (λ s. limit s ≤ r.count + 1) size
-                (subst (λ c. limit x.size ≤ c) more d));
-          }
+      at _ all d (is_counted {caller = caller} r can old more size) before = record {
+        caller = caller;
+        known = known_step (start pairs words) log (Count caller node) caller can.known;
+        made =
+            due_now r old (subst (λ s. limit s ≤ r.count + 1) size
+            (subst (λ c. limit x.size ≤ c) more d));
+      }
       at event all d (is_uncounted none) before = absurd (some_limit x.size x.count d none)
 
   -- a row that was made due was linked
@@ -264,10 +241,8 @@ module _ (pairs : List Pair) (words : ℕ) (opens : CanOpen pairs words) where
       inr (made_due_linked caller node log h.0 made)
 
   -- so a row that is due was linked
-  pub due_was_linked : (log : Log) → EachEnabled (start pairs words) log
-      → (node : ℕ) (x : InnerRow)
+  pub due_was_linked : (log : Log) → EachEnabled (start pairs words) log → (node : ℕ) (x : InnerRow)
       → (state_of pairs words log).pieces node ≡ Some (Inner x) → limit x.size ≤ x.count
       → WasLinked (start pairs words) log node
-  due_was_linked log h node x e due =
-      let it = due_was_made log h node x e due in
+  due_was_linked log h node x e due = let it = due_was_made log h node x e due in
       made_due_linked it.caller node log h it.made

@@ -4,14 +4,10 @@ use Rattle.std.proofs.lemmas.List.{map-append, append-nil}
 use Rattle.ist_core.specs.declared.lists.Row.{Row}
 use Rattle.ist_core.specs.declared.states.InnerRow.{InnerRow}
 use Rattle.ist_core.specs.declared.states.LeafRow.{LeafRow}
-use Rattle.ist_core.specs.Elements.{Among}
-use Rattle.ist_core.specs.Ideals.{AreIdeal, IsIdeal, no_part, one_part}
-use Rattle.ist_core.specs.Leaves.{PlacedLeaf}
-use Rattle.ist_core.specs.Pieces.{Inner, Leaf, Piece, Pieces, inner_of, with_inners, with_row}
-use Rattle.ist_core.specs.References.{Ref, ref_of}
-use Rattle.ist_core.specs.Snapshots.{bases_of}
-use Rattle.ist_core.proofs.ElementLemmas.{among_left}
-use Rattle.ist_core.proofs.RowLemmas.{with_inners-other, with_inners-some}
+use Rattle.ist_core.specs.LogTerms.{Among, bases_of}
+use Rattle.ist_core.specs.WordTerms.{AreIdeal, IsIdeal, no_part, one_part, Inner, Leaf, Piece, Pieces, inner_of, with_inners, with_row, Ref, ref_of}
+use Rattle.ist_core.specs.TreeTerms.{PlacedLeaf}
+use Rattle.ist_core.proofs.AllWordLemmas.{among_left, with_inners-other, with_inners-some}
 use Rattle.laws_links.proofs.NewTreeLemmas.{StandInOther, ideal_kept, parts_kept}
 use Rattle.laws_stability.proofs.IdealLemmas.{put_or_stood}
 
@@ -71,8 +67,7 @@ no_leaf (a ∷ b ∷ c ∷ d ∷ rest) r e = cc
 -- a leaf after rows are put was there before
 pub leaf_stood : (ps : Pieces) (rows : List Row) (base : ℕ) (r : LeafRow)
     → with_inners ps rows base ≡ Some (Leaf r) → ps base ≡ Some (Leaf r)
-leaf_stood ps rows base r e =
-    ⊎_elim (λ put. absurd (no_leaf put.0.words r put.3)) (λ stood. stood)
+leaf_stood ps rows base r e = ⊎_elim (λ put. absurd (no_leaf put.0.words r put.3)) (λ stood. stood)
     (with_inners-some ps rows base (Leaf r) e)
 
 -- putting joined lists of rows puts the second and then the first
@@ -84,8 +79,7 @@ with_both ps (x ∷ xs) ys = ap (λ qs. with_row qs x.base (inner_of x.words)) (
 -- a row that is put at a free base is also there if the rows are put among others
 pub put_stands : (ps qs : Pieces) (rows : List Row) (base : ℕ) (p : Piece)
     → ps base ≡ None → with_inners ps rows base ≡ Some p → with_inners qs rows base ≡ Some p
-put_stands ps qs rows base p none e =
-    ⊎_elim (λ put. put) (λ stood. absurd (cc (stood.0)))
+put_stands ps qs rows base p none e = ⊎_elim (λ put. put) (λ stood. absurd (cc (stood.0)))
     (put_or_stood ps qs rows base p e)
 
 -- ---- two lists of rows that share no base, put where no row was before
@@ -122,15 +116,13 @@ module _ (ps : Pieces) (xs ys : List Row)
   -- an inner row of the first list is there after both lists are put
   pub left_inner : (base : ℕ) (r : InnerRow) → Among base (bases_of xs)
       → with_inners ps xs base ≡ Some (Inner r) → with_inners ps (xs ++ ys) base ≡ Some (Inner r)
-  left_inner base r i e =
-      ap (λ qs. qs base) (with_both ps xs ys)
+  left_inner base r i e = ap (λ qs. qs base) (with_both ps xs ys)
       ∙ put_stands ps (with_inners ps ys) xs base (Inner r) (left_free base i) e
 
   -- an inner row of the second list is there after both lists are put
   pub right_inner : (base : ℕ) (r : InnerRow) → Among base (bases_of ys)
       → with_inners ps ys base ≡ Some (Inner r) → with_inners ps (xs ++ ys) base ≡ Some (Inner r)
-  right_inner base r i e =
-      ap (λ qs. qs base) (with_both ps xs ys)
+  right_inner base r i e = ap (λ qs. qs base) (with_both ps xs ys)
       ∙ with_inners-other (with_inners ps ys) xs base (λ j. apart base j i) ∙ e
 
   -- the parts of one and an ideal subtree of the other are parts of both

@@ -4,30 +4,16 @@ use Rattle.std.proofs.lemmas.Bool.Decides.{eqb_tells}
 use Rattle.ist_core.specs.declared.loads.Load.{Load}
 use Rattle.ist_core.specs.declared.pairs.Pair.{Pair}
 use Rattle.ist_core.specs.declared.states.ChangeRow.{ChangeRow}
-use Rattle.ist_core.specs.After.{side_of}
-use Rattle.ist_core.specs.Lawful.{CanOpen, EachEnabled, Lawful, state_of}
-use Rattle.ist_core.specs.Links.{IsChild}
-use Rattle.ist_core.specs.Logs.{GoesOn, Log, same_log}
-use Rattle.ist_core.specs.Pieces.{Change, Inner, Leaf, Piece, Rebuild, words_of}
-use Rattle.ist_core.specs.References.{ChangeAt, Empty, InnerAt, LeafAt, RebuildAt, Ref, Unset, ref_of}
-use Rattle.ist_core.specs.RowLayout.{change_decision_offset, change_from_offset, change_to_offset, rebuild_target_offset}
-use Rattle.ist_core.specs.Shown.{IsShown, shown_row}
-use Rattle.ist_core.specs.Slots.{IsChildFor, change_reads, logical, past_change, past_rebuild, rebuild_reads}
-use Rattle.ist_core.specs.Snapshots.{Snapshot}
-use Rattle.ist_core.specs.StartLayout.{start}
-use Rattle.ist_core.specs.Statuses.{decided_yes}
-use Rattle.ist_core.specs.Writing.{place_of_slot}
-use Rattle.ist_core.proofs.FateLemmas.{enabled_before}
-use Rattle.ist_core.proofs.FreezingLemmas.{side_not_yes}
-use Rattle.ist_core.proofs.PlaceLemmas.{anchor_free}
-use Rattle.ist_core.proofs.ShownLemmas.{one_word}
-use Rattle.ist_core.proofs.SlotLemmas.{slot_once}
-use Rattle.ist_core.proofs.PrefixLemmas.{goes_on_more, goes_on_length}
+use Rattle.ist_core.specs.LogTerms.{side_of, CanOpen, EachEnabled, Lawful, state_of, GoesOn, Log, same_log, IsShown, shown_row, Snapshot}
+use Rattle.ist_core.specs.TreeTerms.{IsChild, place_of_slot}
+use Rattle.ist_core.specs.WordTerms.{Change, Inner, Leaf, Piece, Rebuild, words_of, ChangeAt, Empty, InnerAt, LeafAt, RebuildAt, Ref, Unset, ref_of, change_decision_offset, change_from_offset, change_to_offset, rebuild_target_offset, IsChildFor, change_reads, logical, past_change, past_rebuild, rebuild_reads, start, decided_yes}
+use Rattle.ist_core.proofs.AllLogLemmas.{enabled_before, side_not_yes, one_word, goes_on_more, goes_on_length}
+use Rattle.ist_core.proofs.AllPlaceLemmas.{anchor_free, slot_once}
 use Rattle.laws_links.proofs.ReadLemmas.{side_yes}
-use Rattle.laws_stability.proofs.SlotWordLemmas.{slot_later}
+use Rattle.laws_stability.proofs.HoldingLemmas.{slot_later}
 use Rattle.laws_histories.specs.Loads.{IsLoad, log_at}
 use Rattle.laws_histories.specs.Searching.{LooksAt, ReadsSide, ReadsTarget, by_from, by_target, by_to, no_change, no_rebuild}
-use Rattle.laws_histories.proofs.LoadOnLemmas.{at_prefix}
+use Rattle.laws_histories.proofs.ChangeLemmas.{at_prefix}
 use Rattle.laws_calls.specs.Walking.{ComesBy, WalksByKey, WalksTo, at_first, at_top, begins_by, goes_by, walks_down, walks_for}
 
 -- a walk by key is a walk
@@ -62,21 +48,19 @@ module _ (pairs : List Pair) (words : ℕ) (opens : CanOpen pairs words) (log : 
   is_load : (place word least : ℕ) → least ≤ length at
       → ((other : ℕ) → IsShown t place other → word ≡ other)
       → IsLoad pairs words log place least (load_of place word)
-  is_load place word least since tells =
-      record {
-        tells = λ other shown. tells other
-            (subst (λ xs. IsShown (state_of pairs words xs) place other) then_is shown);
-        place_is = refl;
-        since = since;
-        within = goes_on_length on;
-      }
+  is_load place word least since tells = record {
+    tells = λ other shown. tells other
+        (subst (λ xs. IsShown (state_of pairs words xs) place other) then_is shown);
+    place_is = refl;
+    since = since;
+    within = goes_on_length on;
+  }
 
   -- a word of a published row
   row_load : (base k word : ℕ) (p : Piece) → t.pieces base ≡ Some p
       → slice_get (words_of p) k ≡ Some word
       → IsLoad pairs words log (base + k) (length at) (load_of (base + k) word)
-  row_load base k word p e get =
-      is_load (base + k) word (length at) (omega arith)
+  row_load base k word p e get = is_load (base + k) word (length at) (omega arith)
       (λ other shown. one_word pairs words at lawful.enabled (base + k) word other
       (shown_row base p k e get) shown)
 
@@ -103,8 +87,7 @@ module _ (pairs : List Pair) (words : ℕ) (opens : CanOpen pairs words) (log : 
       case : (o : Option Ref) → ref_of word ≡ o → past_rebuild t.pieces o ≡ Some (InnerAt child)
           → ReadsTarget pairs words log (length at) word (InnerAt child)
       case (Some (RebuildAt base)) is reads = by_rebuild base is (t.pieces base) refl reads
-      case (Some (InnerAt base)) is reads =
-          no_rebuild (InnerAt child) (is ∙ reads) (λ base e. cc)
+      case (Some (InnerAt base)) is reads = no_rebuild (InnerAt child) (is ∙ reads) (λ base e. cc)
       case (Some Empty) is reads = absurd (cc)
       case (Some Unset) is reads = absurd (cc)
       case (Some (LeafAt base)) is reads = absurd (cc)
@@ -127,25 +110,22 @@ module _ (pairs : List Pair) (words : ℕ) (opens : CanOpen pairs words) (log : 
       by_decision : (((x.decision == decided_yes) ≡ true) × (x.decision ≡ decided_yes))
           ⊎ (((x.decision == decided_yes) ≡ false) × (x.decision ≢ decided_yes))
           → SideRead (load_of place word) child
-      by_decision (inl said) =
-          record {
-            side = x.to;
-            side_is = by_to base (load_of (base + change_decision_offset) x.decision)
-                (load_of (base + change_to_offset) x.to) is
-                (row_load base change_decision_offset x.decision (Change x) e refl) said.1
-                (row_load base change_to_offset x.to (Change x) e refl);
-            reads = ap (λ w. past_rebuild t.pieces (ref_of w)) (sym (side_yes x said.1)) ∙ reads;
-          }
-      by_decision (inr unsaid) =
-          record {
-            side = x.from;
-            side_is = by_from base (load_of (base + change_decision_offset) x.decision)
-                (load_of (base + change_from_offset) x.from) is
-                (row_load base change_decision_offset x.decision (Change x) e refl) unsaid.1
-                (row_load base change_from_offset x.from (Change x) e refl);
-            reads = ap (λ w. past_rebuild t.pieces (ref_of w)) (sym (side_not_yes x unsaid.1))
-                ∙ reads;
-          }
+      by_decision (inl said) = record {
+        side = x.to;
+        side_is = by_to base (load_of (base + change_decision_offset) x.decision)
+            (load_of (base + change_to_offset) x.to) is
+            (row_load base change_decision_offset x.decision (Change x) e refl) said.1
+            (row_load base change_to_offset x.to (Change x) e refl);
+        reads = ap (λ w. past_rebuild t.pieces (ref_of w)) (sym (side_yes x said.1)) ∙ reads;
+      }
+      by_decision (inr unsaid) = record {
+        side = x.from;
+        side_is = by_from base (load_of (base + change_decision_offset) x.decision)
+            (load_of (base + change_from_offset) x.from) is
+            (row_load base change_decision_offset x.decision (Change x) e refl) unsaid.1
+            (row_load base change_from_offset x.from (Change x) e refl);
+        reads = ap (λ w. past_rebuild t.pieces (ref_of w)) (sym (side_not_yes x unsaid.1)) ∙ reads;
+      }
 
   -- a slot's word that reads as a child
   side_read : (place word child : ℕ) → logical t.pieces word ≡ Some (InnerAt child)
@@ -163,12 +143,11 @@ module _ (pairs : List Pair) (words : ℕ) (opens : CanOpen pairs words) (log : 
 
       plain : (o : Option Ref) → ref_of word ≡ o → ((base : ℕ) → o ≢ Some (ChangeAt base))
           → past_rebuild t.pieces o ≡ Some (InnerAt child) → SideRead (load_of place word) child
-      plain o is other reads =
-          record {
-            side = word;
-            side_is = no_change (λ base e. other base (sym is ∙ e));
-            reads = ap (past_rebuild t.pieces) is ∙ reads;
-          }
+      plain o is other reads = record {
+        side = word;
+        side_is = no_change (λ base e. other base (sym is ∙ e));
+        reads = ap (past_rebuild t.pieces) is ∙ reads;
+      }
 
       case : (o : Option Ref) → ref_of word ≡ o
           → past_rebuild t.pieces (past_change t.pieces o) ≡ Some (InnerAt child)
@@ -185,13 +164,10 @@ module _ (pairs : List Pair) (words : ℕ) (opens : CanOpen pairs words) (log : 
 
   -- a step of the walk is a look
   step_look : (key least node i child : ℕ) → least ≤ length at → IsChildFor t node key i
-      → IsChild t node i child
-      → LooksAt pairs words log key least (length at) node (InnerAt child)
-  step_look key least node i child since is c =
-      let place = place_of_slot t node i in
+      → IsChild t node i child → LooksAt pairs words log key least (length at) node (InnerAt child)
+  step_look key least node i child since is c = let place = place_of_slot t node i in
       let it = side_read place c.word child c.reads in
-      let free = anchor_free pairs words at lawful.enabled in
-      record {
+      let free = anchor_free pairs words at lawful.enabled in record {
         slot = load_of place c.word;
         index = i;
         index_is = subst (λ xs. IsChildFor (state_of pairs words xs) node key i) (sym then_is) is;

@@ -13,29 +13,15 @@ use Rattle.ist_core.specs.declared.events.Event.TheVariants.{Finish}
 use Rattle.ist_core.specs.declared.events.Event.{Event}
 use Rattle.ist_core.specs.declared.pairs.Pair.{Pair}
 use Rattle.ist_core.specs.declared.states.InnerRow.{InnerRow}
-use Rattle.ist_core.specs.Changes.{Entry, changes_of, map_after_entries}
-use Rattle.ist_core.specs.Lawful.{CanOpen, EachEnabled, state_of}
-use Rattle.ist_core.specs.Leaves.{HasLeaves, PlacedLeaf, SlotsHaveLeaves, no_slot, one_slot, pair_of, row_here}
-use Rattle.ist_core.specs.Links.{Linked, at_anchor, below}
-use Rattle.ist_core.specs.Logs.{Log, one_event, same_log}
-use Rattle.ist_core.specs.Map.{Map, map_after, map_of}
-use Rattle.ist_core.specs.Pieces.{Inner, Pieces}
-use Rattle.ist_core.specs.References.{InnerAt, Ref}
-use Rattle.ist_core.specs.RowLayout.{anchor}
-use Rattle.ist_core.specs.Slots.{SlotHolds, in_anchor, in_row, logical}
-use Rattle.ist_core.specs.Snapshots.{Snapshot}
-use Rattle.ist_core.specs.StartLayout.{start}
-use Rattle.ist_core.specs.Statuses.{finished_word}
-use Rattle.ist_core.proofs.EntryLemmas.{is_sorted-rising}
-use Rattle.ist_core.proofs.PlaceLemmas.{anchor_free}
-use Rattle.ist_core.proofs.SlotLemmas.{no_row}
-use Rattle.ist_core.proofs.OptionLemmas.{same_inner}
-use Rattle.ist_core.proofs.MapLemmas.{one_kept, one_less, length-pairs_of}
-use Rattle.laws_links.proofs.ComesLemmas.{status_comes}
-use Rattle.laws_links.proofs.OriginLemmas.{StatusComes, finished_now, is_new, marked_now, status_was}
-use Rattle.laws_links.proofs.QuietLemmas.{start_quiet}
+use Rattle.ist_core.specs.TreeTerms.{Entry, changes_of, map_after_entries, HasLeaves, PlacedLeaf, SlotsHaveLeaves, no_slot, one_slot, pair_of, row_here, Linked, at_anchor, below, Map, map_after, map_of}
+use Rattle.ist_core.specs.LogTerms.{CanOpen, EachEnabled, state_of, Log, one_event, same_log, Snapshot}
+use Rattle.ist_core.specs.WordTerms.{Inner, Pieces, InnerAt, Ref, anchor, SlotHolds, in_anchor, in_row, logical, start, finished_word}
+use Rattle.ist_core.proofs.AllPlaceLemmas.{is_sorted-rising, anchor_free, no_row, one_kept, one_less, length-pairs_of}
+use Rattle.ist_core.proofs.AllWordLemmas.{same_inner}
+use Rattle.laws_links.proofs.ComesLemmas.{status_comes, start_quiet}
+use Rattle.laws_links.proofs.PassLemmas.{StatusComes, finished_now, is_new, marked_now, status_was}
 use Rattle.laws_links.proofs.UntouchedLemmas.{not_the_anchor}
-use Rattle.laws_links.proofs.FinishedLeafLemmas.{finishing_linked}
+use Rattle.laws_links.proofs.ContentLemmas.{finishing_linked}
 use Rattle.laws_links.proofs.KeepingContentLemmas.{leaves_step}
 use Rattle.laws_links.proofs.NumberLemmas.{number_is}
 use Rattle.laws_histories.specs.Telling.{map_now}
@@ -57,18 +43,15 @@ slot_few : (ps : Pieces) (words : List ℕ) (leaves : List PlacedLeaf)
     → (i word : ℕ) → slice_get words i ≡ Some word → HasFew ps (logical ps word) (length leaves)
 slot_few ps _ _ no_slot i word e = absurd (cc)
 slot_few ps _ _ (one_slot {word = w} {here = here} {rest = rest} first more) zero word e =
-    let same : w ≡ word = cc in
-    let long = length-append here rest in
+    let same : w ≡ word = cc in let long = length-append here rest in
     subst (λ x. HasFew ps (logical ps x) (length (here ++ rest))) same record {
       leaves = here;
       reached = first;
       few = omega arith;
     }
 slot_few ps _ _ (one_slot {words = words} {here = here} {rest = rest} first more) (suc i) word e =
-    let it = slot_few ps words rest more i word e in
-    let long = length-append here rest in
-    let low = it.few in
-    record { leaves = it.leaves; reached = it.reached; few = omega arith }
+    let it = slot_few ps words rest more i word e in let long = length-append here rest in
+    let low = it.few in record { leaves = it.leaves; reached = it.reached; few = omega arith }
 
 -- the leaves below a slot of an inner row
 row_few : (t : Snapshot) (node i word : ℕ) (leaves : List PlacedLeaf) → node ≢ anchor
@@ -96,19 +79,16 @@ len_after m (e ∷ es) = at e.command refl (len_after (map_after m e.command) es
         filter (λ x. is_put x.command) es)) is in
         let map_is = ap (λ c. fin.len (map_after m c)) is ∙ fin.len-insert nat_cmp_total m key
         value in
-        let low = one_kept (fin.contains_key m key) (fin.len m) in
-        omega arith
+        let low = one_kept (fin.contains_key m key) (fin.len m) in omega arith
     at (Remove key) is rest =
         let long = ap (λ c. length (if is_put c then e ∷ filter (λ x. is_put x.command) es else
         filter (λ x. is_put x.command) es)) is in
         let map_is = ap (λ c. fin.len (map_after m c)) is ∙ fin.len-remove nat_cmp_total m key in
-        let low = one_less (fin.contains_key m key) (fin.len m) in
-        omega arith
+        let low = one_less (fin.contains_key m key) (fin.len m) in omega arith
     at (Get key) is rest =
         let long = ap (λ c. length (if is_put c then e ∷ filter (λ x. is_put x.command) es else
         filter (λ x. is_put x.command) es)) is in
-        let map_is = ap (λ c. fin.len (map_after m c)) is in
-        omega arith
+        let map_is = ap (λ c. fin.len (map_after m c)) is in omega arith
 
 -- the map of pairs with strictly increasing keys has one entry for each pair
 abbrev entry : Pair → ℕ × ℕ
@@ -121,8 +101,7 @@ keys-entries (p ∷ pairs) = ap (λ ks. p.key ∷ ks) (keys-entries pairs)
 
 map_long : (pairs : List Pair) → IsStrictlyIncreasing (map (λ p. p.key) pairs)
     → fin.len (map_of pairs) ≡ length pairs
-map_long pairs rise =
-    let es = map entry pairs in
+map_long pairs rise = let es = map entry pairs in
     let sorted = is_sorted-rising es (subst IsStrictlyIncreasing (sym (keys-entries pairs)) rise) in
     let holds : T (fin.is_sorted nat_cmp es) = subst T (sym sorted) tt in
     let same : map_of pairs ≡ fin.from_sorted es =
@@ -145,8 +124,7 @@ module _ (pairs : List Pair) (words : ℕ) (opens : CanOpen pairs words) where
       → HasFew (state_of pairs words log).pieces (logical (state_of pairs words log).pieces
       (state_of pairs words log).anchor)
       (length pairs + puts_in (changes_of pairs words log))
-  contents_few log h =
-      let has = contents_at pairs words opens log h in
+  contents_few log h = let has = contents_at pairs words opens log h in
       let long = ap length has.pairs_are ∙ length-map has.leaves pair_of in
       let map_is = length-pairs_of (map_now pairs words log) in
       let low = len_after (map_of pairs) (changes_of pairs words log) in
@@ -176,12 +154,10 @@ module _ (pairs : List Pair) (words : ℕ) (opens : CanOpen pairs words) where
       slot node (in_row r p g) (inl k) up =
           absurd (no_row (state_of pairs words log).pieces node r (anchor_free pairs words log h)
           k.1 p)
-      slot node (in_row r p g) (inr k) up =
-          let above = up k.1 in
+      slot node (in_row r p g) (inr k) up = let above = up k.1 in
           let it = row_few (state_of pairs words log) node i c.word above.leaves k.1 above.reached
           (in_row r p g) in
-          let low = it.few in
-          let lower = above.few in
+          let low = it.few in let lower = above.few in
           record { leaves = it.leaves; reached = it.reached; few = omega arith }
 
   -- a row is finished with at most as many keys as there were pairs at the start plus puts since
@@ -190,8 +166,7 @@ module _ (pairs : List Pair) (words : ℕ) (opens : CanOpen pairs words) where
       → k ≤ length pairs + puts_in (changes_of pairs words log)
   finished_few [] h node k r e is =
       let open_status : r.status ≡ 0 = start_quiet pairs words node (Inner r) e in
-      let odd : r.status ≡ 4 * k + 3 = is in
-      absurd (omega arith)
+      let odd : r.status ≡ 4 * k + 3 = is in absurd (omega arith)
   finished_few (event ∷ log) h node k r e is =
       by_origin event h e (status_comes pairs words log event h node r e)
       (λ s old same. finished_few log h.0 node k s old same)
@@ -210,9 +185,7 @@ module _ (pairs : List Pair) (words : ℕ) (opens : CanOpen pairs words) where
           → k ≤ length pairs + puts_in (changes_of pairs words log))
           → k ≤ length pairs + puts_in (changes_of pairs words (event ∷ log))
       by_origin event all there (status_was s old same) before =
-          let low = before s old (sym same ∙ is) in
-          let more = rise event in
-          omega arith
+          let low = before s old (sym same ∙ is) in let more = rise event in omega arith
       by_origin event all there (is_new none same) before =
           let odd : r.status ≡ 4 * k + 3 = is in absurd (omega arith)
       by_origin _ all there (marked_now can same) before =
@@ -225,11 +198,5 @@ module _ (pairs : List Pair) (words : ℕ) (opens : CanOpen pairs words) where
           let later = leaves_step pairs words opens log (Finish caller node keys) all tt
           (Some (InnerAt node)) it.leaves it.reached in
           let number = number_is pairs words opens (Finish caller node keys ∷ log) all node k
-          it.leaves record {
-            row = r;
-            published = there;
-            status = is;
-          } later in
-          let low = it.few in
-          let more = rise (Finish caller node keys) in
-          omega arith
+          it.leaves record { row = r; published = there; status = is } later in
+          let low = it.few in let more = rise (Finish caller node keys) in omega arith

@@ -5,10 +5,9 @@ use Rattle.std.proofs.lemmas.List.FromFn.{map-range_with_len_more}
 use Rattle.std.proofs.lemmas.List.Sums.{sum_by-cons}
 use Rattle.std.proofs.lemmas.List.{drop-drop}
 use Rattle.std.specs.List.{range_with_len, sum}
-use Rattle.ist_core.specs.Arithmetic.{degree, part_len, part_lens, part_start}
-use Rattle.ist_core.specs.Leaves.{PlacedLeaf}
-use Rattle.ist_core.specs.Parts.{cut, first_keys, parts}
-use Rattle.ist_core.proofs.LayoutLemmas.{length-cut}
+use Rattle.ist_core.specs.WordTerms.{degree, part_len, part_lens, part_start, cut, first_keys, parts}
+use Rattle.ist_core.specs.TreeTerms.{PlacedLeaf}
+use Rattle.ist_core.proofs.AllWordLemmas.{length-cut}
 use Rattle.laws_calls.specs.Dividing.{keys_of_parts, lens_to, share_of, parts_to}
 
 -- ---- lengths
@@ -64,11 +63,9 @@ length-lens f a (suc j) = let rest = length-lens f (a + 1) j in omega arith
 
 -- the keys of the first parts but one, with one part more
 pub keys_next : (n j : ℕ) (leaves : List PlacedLeaf) (leaf : PlacedLeaf) (others : List PlacedLeaf)
-    → 1 ≤ j → share_of n j leaves ≡ leaf ∷ others
-    → keys_of_parts (parts_to n (j + 1) leaves)
+    → 1 ≤ j → share_of n j leaves ≡ leaf ∷ others → keys_of_parts (parts_to n (j + 1) leaves)
     ≡ keys_of_parts (parts_to n j leaves) ++ leaf.row.key ∷ []
-keys_next n j leaves leaf others some is =
-    let many = length-cut (lens_to n j) leaves in
+keys_next n j leaves leaf others some is = let many = length-cut (lens_to n j) leaves in
     let count = length-lens (part_len n) 0 j in
     ap (λ ps. first_keys (λ (l : PlacedLeaf). l.row.key) (drop 1 ps)) (parts_next n j leaves)
     ∙ ap (first_keys (λ (l : PlacedLeaf). l.row.key))
@@ -97,8 +94,7 @@ get_end (x ∷ xs) y (suc i) is = get_end xs y i (omega arith)
 -- how many parts there are
 length-parts_to : (n j : ℕ) (leaves : List PlacedLeaf) → length (parts_to n j leaves) ≡ j
 length-parts_to n zero leaves = refl
-length-parts_to n (suc j) leaves =
-    let rest = length-parts_to n j leaves in
+length-parts_to n (suc j) leaves = let rest = length-parts_to n j leaves in
     let more = length-append (parts_to n j leaves) (share_of n j leaves ∷ []) in
     ap (λ k. length (parts_to n k leaves)) (let q : suc j ≡ j + 1 = omega arith in q)
     ∙ ap length (parts_next n j leaves) ∙ omega arith
@@ -110,8 +106,7 @@ get_part n zero i leaves less = absurd (omega arith)
 get_part n (suc j) i leaves less =
     ap (λ k. slice_get (parts_to n k leaves) i) (let q : suc j ≡ j + 1 = omega arith in q)
     ∙ ap (λ xs. slice_get xs i) (parts_next n j leaves)
-    ∙ (let long = length-parts_to n j leaves in
-    ⊎_elim
+    ∙ (let long = length-parts_to n j leaves in ⊎_elim
     (λ (low : i < j). get_left (parts_to n j leaves) (share_of n j leaves) i (omega arith)
     ∙ get_part n j i leaves low)
     (λ (high : j ≤ i).
@@ -123,6 +118,5 @@ get_part n (suc j) i leaves less =
 -- the part of each child
 pub part_is : (leaves : List PlacedLeaf) (i : ℕ) → i < degree (length leaves)
     → slice_get (parts leaves) i ≡ Some (share_of (length leaves) i leaves)
-part_is leaves i less =
-    ap (λ xs. slice_get xs i) (sym (parts_all leaves))
+part_is leaves i less = ap (λ xs. slice_get xs i) (sym (parts_all leaves))
     ∙ get_part (length leaves) (degree (length leaves)) i leaves less

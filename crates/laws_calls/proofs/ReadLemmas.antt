@@ -4,35 +4,23 @@ use Rattle.std.proofs.lemmas.Option.{same_Some}
 use Rattle.ist_core.specs.declared.events.Event.TheVariants.{Install, Place, Resolve}
 use Rattle.ist_core.specs.declared.events.Event.{Event}
 use Rattle.ist_core.specs.declared.pairs.Pair.{Pair}
-use Rattle.ist_core.specs.After.{side_of}
-use Rattle.ist_core.specs.Lawful.{CanOpen, EachEnabled, state_of}
-use Rattle.ist_core.specs.Logs.{Log}
-use Rattle.ist_core.specs.Pieces.{Change, Inner, Leaf, Piece, Rebuild, with_inners}
-use Rattle.ist_core.specs.Rebuilding.{IsStarted}
-use Rattle.ist_core.specs.References.{ChangeAt, Empty, InnerAt, LeafAt, RebuildAt, Ref, Unset, ref_of, unset_word, word_of}
-use Rattle.ist_core.specs.RowLayout.{anchor}
-use Rattle.ist_core.specs.Slots.{SlotHolds, change_reads, past_change}
-use Rattle.ist_core.specs.Snapshots.{Snapshot, bases_of}
-use Rattle.ist_core.specs.StartLayout.{start}
-use Rattle.ist_core.proofs.NamingLemmas.{SlotNames, slot_names}
-use Rattle.ist_core.proofs.OrderLemmas.{names}
-use Rattle.ist_core.proofs.PlaceLemmas.{anchor_free}
-use Rattle.ist_core.proofs.SlotLemmas.{slot_once}
-use Rattle.ist_core.proofs.SlotStepLemmas.{WritesNoSlot, WritesSlot, install_writes, place_writes, resolve_writes, slot_stays}
-use Rattle.ist_core.proofs.FateLemmas.{grow_after}
+use Rattle.ist_core.specs.LogTerms.{side_of, CanOpen, EachEnabled, state_of, Log, Snapshot, bases_of}
+use Rattle.ist_core.specs.WordTerms.{Change, Inner, Leaf, Piece, Rebuild, with_inners, ChangeAt, Empty, InnerAt, LeafAt, RebuildAt, Ref, Unset, ref_of, unset_word, word_of, anchor, SlotHolds, change_reads, past_change, start}
+use Rattle.ist_core.specs.TreeTerms.{IsStarted}
+use Rattle.ist_core.proofs.AllPlaceLemmas.{SlotNames, slot_names, names, anchor_free, slot_once, WritesNoSlot, WritesSlot, install_writes, place_writes, resolve_writes, slot_stays}
+use Rattle.ist_core.proofs.AllLogLemmas.{grow_after}
 use Rattle.laws_links.proofs.FormLemmas.{started_grows}
 use Rattle.laws_links.proofs.InductionLemmas.{sound_after}
-use Rattle.laws_links.proofs.QuietLemmas.{start_quiet}
+use Rattle.laws_links.proofs.ComesLemmas.{start_quiet}
 use Rattle.laws_links.specs.Replacing.{ReadsAsRebuild}
-use Rattle.laws_calls.proofs.RebuildSlotLemmas.{ideal_no_rebuild, no_rebuild_of_change, side_started, slot_before}
+use Rattle.laws_calls.proofs.OwnLemmas.{ideal_no_rebuild, no_rebuild_of_change, side_started, slot_before}
 
 module _ (pairs : List Pair) (words : ℕ) (opens : CanOpen pairs words) where
   -- ---- the law, event by event
 
   -- the slot keeps its word, or the rebuild was started
   Keeps : Log → Event → Type 0
-  Keeps log event =
-      (node i old word rebuild : ℕ) → SlotHolds (state_of pairs words log) node i old
+  Keeps log event = (node i old word rebuild : ℕ) → SlotHolds (state_of pairs words log) node i old
       → SlotHolds (state_of pairs words (event ∷ log)) node i word
       → ref_of word ≡ Some (RebuildAt rebuild)
       → (old ≡ word) ⊎ IsStarted (state_of pairs words log) rebuild
@@ -41,8 +29,7 @@ module _ (pairs : List Pair) (words : ℕ) (opens : CanOpen pairs words) where
   quiet_keeps : (log : Log) (event : Event) → EachEnabled (start pairs words) (event ∷ log)
       → WritesNoSlot event → Keeps log event
   unfolding Keeps
-  quiet_keeps log event h none node i old word rebuild was now is =
-      inl
+  quiet_keeps log event h none node i old word rebuild was now is = inl
       (slot_once (state_of pairs words (event ∷ log)) node i old word
       (anchor_free pairs words (event ∷ log) h)
       (slot_stays (start pairs words) log event h.1 (sound_after pairs words log h.0) none node i
@@ -56,15 +43,13 @@ module _ (pairs : List Pair) (words : ℕ) (opens : CanOpen pairs words) where
       → IsStarted (state_of pairs words log) rebuild)
       → Keeps log event
   unfolding Keeps
-  write_keeps log event h at j new gone w tells node i old word rebuild was now is =
-      ⊎_elim
+  write_keeps log event h at j new gone w tells node i old word rebuild was now is = ⊎_elim
       (λ here.
       let there = subst (λ k. SlotHolds u at k word) here.2
       (subst (λ n. SlotHolds u n i word) here.1 now) in
       let same = slot_once u at j new word free w.now there in
       inr (tells rebuild (ap ref_of same ∙ is)))
-      (λ stays. inl (slot_once u node i old word free stays now))
-      (w.others node i old was)
+      (λ stays. inl (slot_once u node i old word free stays now)) (w.others node i old was)
     where
       u : Snapshot
       u = state_of pairs words (event ∷ log)
@@ -101,8 +86,7 @@ module _ (pairs : List Pair) (words : ℕ) (opens : CanOpen pairs words) where
   -- at the start no slot names a rebuild
   none_first : (node i word rebuild : ℕ) → SlotHolds (start pairs words) node i word
       → ref_of word ≡ Some (RebuildAt rebuild) → ⊥
-  none_first node i word rebuild slot is =
-      let o = names pairs words opens [] tt in
+  none_first node i word rebuild slot is = let o = names pairs words opens [] tt in
       let named = subst (λ r. SlotNames (start pairs words).pieces node i r) is
       (slot_names (start pairs words) node i word o slot) in
       start_quiet pairs words rebuild (Rebuild named.row) named.published
@@ -112,15 +96,13 @@ module _ (pairs : List Pair) (words : ℕ) (opens : CanOpen pairs words) where
       → SlotHolds (state_of pairs words log) node i word → ref_of word ≡ Some (RebuildAt rebuild)
       → IsStarted (state_of pairs words log) rebuild
   unfolding Keeps
-  slot_started [] h node i word rebuild slot is =
-      absurd (none_first node i word rebuild slot is)
+  slot_started [] h node i word rebuild slot is = absurd (none_first node i word rebuild slot is)
   slot_started (event ∷ log) h node i word rebuild slot is =
       let old = slot_before pairs words opens log event h node i word rebuild slot is in
       started_grows (state_of pairs words log) (state_of pairs words (event ∷ log))
       (grow_after pairs words log event h) rebuild
       (⊎_elim
-      (λ same. slot_started log h.0 node i old.0 rebuild old.1 (ap ref_of same ∙ is))
-      (λ k. k)
+      (λ same. slot_started log h.0 node i old.0 rebuild old.1 (ap ref_of same ∙ is)) (λ k. k)
       (keeps log event h node i old.0 word rebuild old.1 slot is))
 
   -- if a slot reads as a rebuild, the rebuild was started

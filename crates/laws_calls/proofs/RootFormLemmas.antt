@@ -8,30 +8,15 @@ use Rattle.ist_core.specs.declared.lists.Row.{Row}
 use Rattle.ist_core.specs.declared.pairs.Pair.{Pair}
 use Rattle.ist_core.specs.declared.states.InnerRow.{InnerRow}
 use Rattle.ist_core.specs.declared.states.RebuildRow.{RebuildRow}
-use Rattle.ist_core.specs.Arithmetic.{degree}
-use Rattle.ist_core.specs.Building.{CanRoot, IsRoot, root_top, root_whole}
-use Rattle.ist_core.specs.Ideals.{IsIdeal, of_more, of_none, of_one}
-use Rattle.ist_core.specs.Lawful.{CanOpen, EachEnabled, state_of}
-use Rattle.ist_core.specs.Leaves.{PlacedLeaf}
-use Rattle.ist_core.specs.Logs.{Log, one_event, same_log}
-use Rattle.ist_core.specs.Pieces.{Inner, Pieces, Rebuild, with_inners, with_root}
-use Rattle.ist_core.specs.Rebuilding.{IsFinishedWith}
-use Rattle.ist_core.specs.References.{InnerAt, Ref, ref_of, unset_word}
-use Rattle.ist_core.specs.Shapes.{share_from}
-use Rattle.ist_core.specs.Slots.{in_row}
-use Rattle.ist_core.specs.Snapshots.{Snapshot, bases_of}
-use Rattle.ist_core.specs.StartLayout.{start}
-use Rattle.ist_core.specs.Statuses.{finished_word}
-use Rattle.ist_core.proofs.FateLemmas.{grow_between}
-use Rattle.ist_core.proofs.GrowingLemmas.{inner_there, get_alike}
-use Rattle.ist_core.proofs.NamingStepLemmas.{changed_at-fixed}
-use Rattle.ist_core.proofs.PlaceLemmas.{anchor_free}
-use Rattle.ist_core.proofs.SlotLemmas.{slot_once}
-use Rattle.ist_core.proofs.OptionLemmas.{same_inner}
-use Rattle.laws_links.proofs.ComesLemmas.{rebuild_comes}
+use Rattle.ist_core.specs.WordTerms.{degree, IsIdeal, of_more, of_none, of_one, Inner, Pieces, Rebuild, with_inners, with_root, InnerAt, Ref, ref_of, unset_word, share_from, in_row, start, finished_word}
+use Rattle.ist_core.specs.TreeTerms.{CanRoot, IsRoot, root_top, root_whole, PlacedLeaf, IsFinishedWith}
+use Rattle.ist_core.specs.LogTerms.{CanOpen, EachEnabled, state_of, Log, one_event, same_log, Snapshot, bases_of}
+use Rattle.ist_core.proofs.AllLogLemmas.{grow_between, inner_there, get_alike}
+use Rattle.ist_core.proofs.AllPlaceLemmas.{changed_at-fixed, anchor_free, slot_once}
+use Rattle.ist_core.proofs.AllWordLemmas.{same_inner}
+use Rattle.laws_links.proofs.ComesLemmas.{rebuild_comes, start_quiet}
 use Rattle.laws_links.proofs.FormLemmas.{finished_with_grows}
-use Rattle.laws_links.proofs.OriginLemmas.{RebuildComes, is_begun, is_drawn, is_rooted, rebuild_was}
-use Rattle.laws_links.proofs.QuietLemmas.{start_quiet}
+use Rattle.laws_links.proofs.PassLemmas.{RebuildComes, is_begun, is_drawn, is_rooted, rebuild_was}
 use Rattle.laws_links.proofs.NewTreeLemmas.{ideal_whole}
 use Rattle.laws_links.proofs.NumberLemmas.{number_is}
 use Rattle.laws_stability.proofs.SetLemmas.{set_later}
@@ -50,8 +35,7 @@ module _ (pairs : List Pair) (words : ℕ) (opens : CanOpen pairs words) where
       → (base : ℕ)
       → IsWholeRow (state_of pairs words log) base → IsWholeRow (state_of pairs words (event ∷ log))
       base
-  row_step log event h base it =
-      let t = state_of pairs words log in
+  row_step log event h base it = let t = state_of pairs words log in
       let u = state_of pairs words (event ∷ log) in
       let on = inner_there t.pieces u.pieces
       (grow_between pairs words log (event ∷ log) h (one_event event same_log)) base it.row
@@ -59,8 +43,7 @@ module _ (pairs : List Pair) (words : ℕ) (opens : CanOpen pairs words) where
       record {
         row = on.0;
         published = on.1;
-        set = λ i e.
-            let was = get_alike on.0.slots it.row.slots i unset_word (sym on.2.slots) e in
+        set = λ i e. let was = get_alike on.0.slots it.row.slots i unset_word (sym on.2.slots) e in
             let later = set_later pairs words opens (one_event event same_log) h base i record {
               word = was.0;
               holds = in_row it.row it.published was.1;
@@ -75,18 +58,14 @@ module _ (pairs : List Pair) (words : ℕ) (opens : CanOpen pairs words) where
   form_step : (log : Log) (event : Event) → EachEnabled (start pairs words) (event ∷ log)
       → (r : RebuildRow) → HasForm (state_of pairs words log) r
       → HasForm (state_of pairs words (event ∷ log)) r
-  form_step log event h r f =
-      let t = state_of pairs words log in
+  form_step log event h r f = let t = state_of pairs words log in
       let u = state_of pairs words (event ∷ log) in
-      let grow = grow_between pairs words log (event ∷ log) h (one_event event same_log) in
-      record {
+      let grow = grow_between pairs words log (event ∷ log) h (one_event event same_log) in record {
         k = f.k;
         finished = finished_with_grows t u grow r.target f.k f.finished;
         few = λ less base e. row_step log event h base (f.few less base e);
-        many = λ more.
-            let it = f.many more in
-            let on = inner_there t.pieces u.pieces grow it.base it.row it.published in
-            record {
+        many = λ more. let it = f.many more in
+            let on = inner_there t.pieces u.pieces grow it.base it.row it.published in record {
               base = it.base;
               ref_is = it.ref_is;
               row = on.0;
@@ -132,27 +111,25 @@ module _ (pairs : List Pair) (words : ℕ) (opens : CanOpen pairs words) where
     by_many : IsRoot qs word can.k can.leaves can.row.target (bases_of rows) → share_from ≤ can.k
         → NamesRowOf u word (degree can.k)
     by_many (root_whole ref less e ideal) more = absurd (omega arith)
-    by_many (root_top b row all e top unset one) more =
-        record {
-          base = b;
-          ref_is = e;
-          row = row;
-          published = there b row top.published;
-          degree_is = top.degree ∙ ap degree (number_is pairs words opens log h.0 can.row.target
-              can.k can.leaves can.finished can.reached);
-        }
+    by_many (root_top b row all e top unset one) more = record {
+      base = b;
+      ref_is = e;
+      row = row;
+      published = there b row top.published;
+      degree_is = top.degree ∙ ap degree (number_is pairs words opens log h.0 can.row.target
+          can.k can.leaves can.finished can.reached);
+    }
 
     -- so the root that the event sets has its form
     form_root : HasForm u (record (can.row) { root = word })
-    form_root =
-        record {
-          k = can.k;
-          finished = finished_with_grows (state_of pairs words log) u
-              (grow_between pairs words log (Root caller at word rows ∷ log) h
-              (one_event (Root caller at word rows) same_log)) can.row.target can.k can.finished;
-          few = λ less base e. by_few can.root less base e;
-          many = λ more. by_many can.root more;
-        }
+    form_root = record {
+      k = can.k;
+      finished = finished_with_grows (state_of pairs words log) u
+          (grow_between pairs words log (Root caller at word rows ∷ log) h
+          (one_event (Root caller at word rows) same_log)) can.row.target can.k can.finished;
+      few = λ less base e. by_few can.root less base e;
+      many = λ more. by_many can.root more;
+    }
 
   -- each root has it
   root_form : (log : Log) → EachEnabled (start pairs words) log → (at : ℕ) (r : RebuildRow)
@@ -186,8 +163,7 @@ module _ (pairs : List Pair) (words : ℕ) (opens : CanOpen pairs words) where
       → (state_of pairs words log).pieces at ≡ Some (Rebuild r) → r.root ≢ unset_word
       → IsFinishedWith (state_of pairs words log) r.target k
       → HasRootForm (state_of pairs words log) r.root k
-  root_has_form log h at k r e set done =
-      let it = root_form log h at r e set in
+  root_has_form log h at k r e set done = let it = root_form log h at r e set in
       let rows = same_inner ((state_of pairs words log).pieces r.target) it.finished.row done.row
       it.finished.published done.published in
       let same = one_number it.k k (sym it.finished.status ∙ ap (λ x. x.status) rows

@@ -2,19 +2,12 @@
 -- law.
 use Rattle.std.proofs.Common.{List, Some, [], ap, arith, inl, inr, length, refl, slice_get, subst, suc, sym, zero, ℕ, ⊎_elim, ◌*◌, ◌++◌, ◌+◌, ◌<◌, ◌∙◌, ◌∷◌, ◌≡◌, ◌≢◌, ◌≤◌, ◌⊎◌}
 use Rattle.ist_core.specs.declared.pairs.Pair.{Pair}
-use Rattle.ist_core.specs.Elements.{Among}
-use Rattle.ist_core.specs.Lawful.{CanOpen, EachEnabled, state_of}
-use Rattle.ist_core.specs.Links.{Chain, IsChild, Linked, WasLinked, WasOnChain, at_anchor, below, no_row, one_row}
-use Rattle.ist_core.specs.Logs.{GoesOn, Log}
-use Rattle.ist_core.specs.References.{InnerAt}
-use Rattle.ist_core.specs.RowLayout.{anchor}
-use Rattle.ist_core.specs.Snapshots.{Snapshot}
-use Rattle.ist_core.specs.StartLayout.{start}
-use Rattle.ist_core.proofs.FateLemmas.{enabled_before}
-use Rattle.ist_core.proofs.MentionLemmas.{one_parent}
-use Rattle.ist_core.proofs.PrefixLemmas.{goes_on_more, ever_from, ever_later}
-use Rattle.ist_core.proofs.ElementLemmas.{get_among}
-use Rattle.ist_core.proofs.ImageLemmas.{get_below}
+use Rattle.ist_core.specs.LogTerms.{Among, CanOpen, EachEnabled, state_of, GoesOn, Log, Snapshot}
+use Rattle.ist_core.specs.TreeTerms.{Chain, IsChild, Linked, WasLinked, WasOnChain, at_anchor, below, no_row, one_row}
+use Rattle.ist_core.specs.WordTerms.{InnerAt, anchor, start}
+use Rattle.ist_core.proofs.AllLogLemmas.{enabled_before, goes_on_more, ever_from, ever_later}
+use Rattle.ist_core.proofs.AllPlaceLemmas.{one_parent, get_below}
+use Rattle.ist_core.proofs.AllWordLemmas.{get_among}
 use Rattle.laws_links.specs.Linking.{IsFinished}
 use Rattle.laws_links.proofs.ClosedLemmas.{closed_was_linked, linked_now}
 use Rattle.laws_links.proofs.FinishedLemmas.{finished_down}
@@ -24,8 +17,8 @@ use Rattle.laws_histories.specs.Loads.{log_at}
 use Rattle.laws_histories.specs.Searching.{ComesTo, begins, goes_down}
 use Rattle.laws_histories.proofs.DecisionLemmas.{prefixes}
 use Rattle.laws_histories.proofs.LoadLemmas.{comes_of, look_of}
-use Rattle.laws_histories.proofs.LoadOnLemmas.{at_on, look_on}
-use Rattle.laws_histories.proofs.NeededLemmas.{all_needed}
+use Rattle.laws_histories.proofs.ChangeLemmas.{at_on, look_on}
+use Rattle.laws_histories.proofs.ToldLemmas.{all_needed}
 use Rattle.laws_histories.proofs.PositionLemmas.{node_met}
 use Rattle.laws_histories.proofs.SearchLemmas.{ever_at, seen}
 use Rattle.laws_calls.specs.Walking.{ComesBy, IsChainOf, WalksTo, at_top, begins_by, goes_by, walks_down}
@@ -41,8 +34,7 @@ data MeetsRows (pairs : List Pair) (words : ℕ) (log : Log) : ℕ → List ℕ 
 
 -- what met rows in this way is a search
 pub meeting_comes : (pairs : List Pair) (words : ℕ) (log : Log) (key began last node : ℕ)
-    (rows : List ℕ)
-    → ComesBy pairs words log key began last node rows
+    (rows : List ℕ) → ComesBy pairs words log key began last node rows
     → ComesTo pairs words log key began last node
 meeting_comes pairs words log key began _ _ _ begins_by = begins
 meeting_comes pairs words log key began _ _ _ (goes_by {least = least} {node = node} {rows = rows} c
@@ -61,8 +53,7 @@ search_meets pairs words log key began _ _ (goes_down {least = least} {node = no
 
 -- a search met the same rows in a longer log
 pub meeting_on : (pairs : List Pair) (words : ℕ) (log longer : Log) → GoesOn log longer
-    → (key began last node : ℕ) (rows : List ℕ)
-    → ComesBy pairs words log key began last node rows
+    → (key began last node : ℕ) (rows : List ℕ) → ComesBy pairs words log key began last node rows
     → ComesBy pairs words longer key began last node rows
 meeting_on pairs words log longer g key began _ _ _ begins_by = begins_by
 meeting_on pairs words log longer g key began _ _ _ (goes_by {least = least} {last = last}
@@ -148,11 +139,9 @@ module _ (pairs : List Pair) (words : ℕ) (opens : CanOpen pairs words) where
 
   -- a child hangs in one node at all moments
   parents_agree : (log a b : Log) → EachEnabled (start pairs words) log → GoesOn a log
-      → GoesOn b log → (node i other j child : ℕ)
-      → IsChild (state_of pairs words a) node i child
+      → GoesOn b log → (node i other j child : ℕ) → IsChild (state_of pairs words a) node i child
       → IsChild (state_of pairs words b) other j child → node ≡ other
-  parents_agree log a b h ga gb node i other j child c d =
-      ⊎_elim
+  parents_agree log a b h ga gb node i other j child c d = ⊎_elim
       (λ g. (one_parent pairs words opens a b g (enabled_before (start pairs words) b log gb h) node
       i other j child c d).0)
       (λ g. sym (one_parent pairs words opens b a g (enabled_before (start pairs words) a log ga h)
@@ -181,8 +170,7 @@ module _ (pairs : List Pair) (words : ℕ) (opens : CanOpen pairs words) where
       → IsChainOf pairs words log node rows
   meets_chain log h node rows m was =
       let it = ever_from (start pairs words) (λ t. Linked t node) log was in
-      let chain = linked_chain (state_of pairs words it.0) node it.2 in
-      record {
+      let chain = linked_chain (state_of pairs words it.0) node it.2 in record {
         was = ever_at (start pairs words) (λ t. Chain t node rows) it.0 log it.1
             (subst (λ xs. Chain (state_of pairs words it.0) node xs)
             (meets_only log h node rows m it.0 it.1 chain.0 chain.1) chain.1);
@@ -242,8 +230,7 @@ module _ (pairs : List Pair) (words : ℕ) (opens : CanOpen pairs words) where
     where
       finished_was : IsFinished (state_of pairs words at) child → WasLinked (start pairs words) at
           child
-      finished_was f =
-          let odd : f.1.row.status ≡ 4 * f.0 + 3 = f.1.status in
+      finished_was f = let odd : f.1.row.status ≡ 4 * f.0 + 3 = f.1.status in
           closed_was_linked pairs words opens at h child f.1.row f.1.published
           (λ o. (let zero_is : f.1.row.status ≡ 0 = o in omega arith))
 

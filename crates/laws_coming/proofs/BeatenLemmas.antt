@@ -6,28 +6,21 @@ use Rattle.ist_core.specs.declared.events.Event.TheVariants.{Root, Draw, Place, 
 use Rattle.ist_core.specs.declared.lists.Row.{Row}
 use Rattle.ist_core.specs.declared.pairs.Pair.{Pair}
 use Rattle.ist_core.specs.declared.states.RebuildRow.{RebuildRow}
-use Rattle.ist_core.specs.References.{unset_word}
-use Rattle.ist_core.specs.Pieces.{Rebuild}
-use Rattle.ist_core.specs.Snapshots.{Snapshot, sizes_of}
-use Rattle.ist_core.specs.StartLayout.{start}
-use Rattle.ist_core.specs.Authors.{no_more, one_more, whose, Later}
-use Rattle.ist_core.specs.Logs.{Log}
-use Rattle.ist_core.specs.Building.{IsBeaten, CanRoot}
-use Rattle.ist_core.specs.Rebuilding.{IsFinishedWith}
-use Rattle.ist_core.specs.Lawful.{EachEnabled, CanOpen, state_of}
-use Rattle.ist_core.proofs.AddingLemmas.{held_free}
+use Rattle.ist_core.specs.declared.events.Who.{Who}
+use Rattle.ist_core.specs.declared.events.Who.TheVariants.{Caller}
+use Rattle.ist_core.specs.WordTerms.{unset_word, Rebuild, start}
+use Rattle.ist_core.specs.LogTerms.{Snapshot, sizes_of, no_more, one_more, whose, Later, Log, EachEnabled, CanOpen, state_of}
+use Rattle.ist_core.specs.TreeTerms.{IsBeaten, CanRoot, IsFinishedWith}
+use Rattle.ist_core.proofs.AllEventLemmas.{held_free}
 use Rattle.laws_links.proofs.ComesLemmas.{rebuild_comes}
 use Rattle.laws_links.proofs.FormLemmas.{finished_with_grows}
 use Rattle.laws_links.proofs.FormedLemmas.{rooted_is_finished}
 use Rattle.laws_links.proofs.InductionLemmas.{sound_after}
-use Rattle.laws_links.proofs.OriginLemmas.{RebuildComes, rebuild_was, is_begun, is_rooted, is_drawn}
+use Rattle.laws_links.proofs.PassLemmas.{RebuildComes, rebuild_was, is_begun, is_rooted, is_drawn}
 use Rattle.laws_links.proofs.NumberLemmas.{number_is}
-use Rattle.ist_core.specs.declared.events.Who.{Who}
-use Rattle.ist_core.specs.declared.events.Who.TheVariants.{Caller}
-use Rattle.ist_core.proofs.FateLemmas.{grow_after}
+use Rattle.ist_core.proofs.AllLogLemmas.{grow_after, finished_once}
 use Rattle.laws_coming.specs.Builds.{EndsBuild, EndsNone}
 use Rattle.laws_coming.proofs.SizeLemmas.{IsRootSizes, root_sizes, root_sizes_once}
-use Rattle.ist_core.proofs.DrawLemmas.{finished_once}
 
 -- ---- logs
 
@@ -41,8 +34,7 @@ others_build number _ other = λ is. is
 
 -- a log that went on without such an event does so by events of others
 pub without_later : (number : ℕ) {who : Who} {a b c : Log} → who ≡ Caller number
-    → EndsNone number a b → Later who b c
-    → EndsNone number a c
+    → EndsNone number a b → Later who b c → EndsNone number a c
 without_later number mine g no_more = g
 without_later number mine g (one_more event later differs) =
     one_more event (without_later number mine g later)
@@ -63,8 +55,7 @@ module _ (pairs : List Pair) (words : ℕ) (opens : CanOpen pairs words) where
   rooted_sizes : (log : Log) → EachEnabled (start pairs words) log → (caller rebuild word : ℕ)
       (rows : List Row) → (can : CanRoot (state_of pairs words log) caller rebuild word rows)
       → IsRootSizes can.k (sizes_of rows)
-  rooted_sizes log h caller rebuild word rows can =
-      let t = state_of pairs words log in
+  rooted_sizes log h caller rebuild word rows can = let t = state_of pairs words log in
       root_sizes t.pieces rows word can.k can.leaves can.row.target can.once
       (held_free t caller rows can.held (sound_after pairs words log h))
       (number_is pairs words opens log h can.row.target can.k can.leaves can.finished can.reached)
@@ -82,8 +73,7 @@ module _ (pairs : List Pair) (words : ℕ) (opens : CanOpen pairs words) where
         → r.root ≢ unset_word → s.target ≡ r.target
         → IsFinishedWith (state_of pairs words (event ∷ log)) s.target k
         → IsFinishedWith (state_of pairs words log) r.target k
-    finished_before log event h r s e set same done =
-        let t = state_of pairs words log in
+    finished_before log event h r s e set same done = let t = state_of pairs words log in
         let u = state_of pairs words (event ∷ log) in
         let it = rooted_is_finished pairs words log h.0 rebuild r e set in
         let on = finished_with_grows t u (grow_after pairs words log event h) r.target it.0 it.1 in
@@ -107,11 +97,9 @@ module _ (pairs : List Pair) (words : ℕ) (opens : CanOpen pairs words) where
             → s.root ≢ unset_word → IsFinishedWith (state_of pairs words log) s.target k
             → IsBeaten number sizes log)
             → RebuildComes first log rebuild r event → IsBeaten number sizes (event ∷ log)
-        at event h out done before (rebuild_was old) =
-            beaten_on number sizes log event out
+        at event h out done before (rebuild_was old) = beaten_on number sizes log event out
             (before r old set (finished_before log event h r r old set refl done))
-        at _ h out done before (is_begun can s here same) =
-            absurd (set (ap (λ x. x.root) same))
+        at _ h out done before (is_begun can s here same) = absurd (set (ap (λ x. x.root) same))
         at _ h out done before (is_rooted {caller = caller} {word = word} {rows = rows} can same) =
             let u = state_of pairs words (Root caller rebuild word rows ∷ log) in
             let on = finished_with_grows (state_of pairs words log) u

@@ -1,27 +1,32 @@
 -- When a caller has seen its table make progress, and that it sees that only so often. Serves the
 -- loops of the crates above.
-use Rattle.std.proofs.Common.{◌≡◌, ℕ, ◌-◌, ◌<◌, Some, sym, subst, arith}
+use Rattle.std.proofs.Common.{◌≡◌, ℕ, ◌-◌, ◌<◌, Some, sym, subst, arith, ◌+◌, refl, ap, ◌∙◌}
 use Rattle.ist_core.specs.declared.events.Event.{Event}
-use Rattle.ist_core.specs.Logs.{GoesOn, Happened, Resolves}
-use Rattle.ist_core.specs.References.{ChangeAt, ref_of}
-use Rattle.ist_core.specs.Slots.{SlotHolds}
-use Rattle.ist_core.proofs.ReferenceLemmas.{word_of-ref_of}
-use Rattle.ist_core.proofs.PrefixLemmas.{goes_on_by}
-use Rattle.laws_links.proofs.ResolvedLemmas.{resolved_gone}
+use Rattle.ist_core.specs.declared.events.Event.TheVariants.{Count, Draw}
+use Rattle.ist_core.specs.declared.states.InnerRow.{InnerRow}
+use Rattle.ist_core.specs.declared.states.RebuildRow.{RebuildRow}
+use Rattle.ist_core.specs.declared.events.Who.TheVariants.{Caller}
+use Rattle.ist_core.specs.LogTerms.{GoesOn, Happened, Resolves, Later, Log, state_of, IsShown}
+use Rattle.ist_core.specs.WordTerms.{ChangeAt, ref_of, SlotHolds, inner_count_offset, rebuild_draw_offset, Inner, Rebuild, as_inner, as_rebuild, start}
+use Rattle.ist_core.proofs.AllWordLemmas.{word_of-ref_of}
+use Rattle.ist_core.proofs.AllLogLemmas.{goes_on_by, on_chain_inner, count_low, inner_there, rebuild_there}
+use Rattle.laws_links.proofs.ResolvedLemmas.{resolved_gone, draw_low}
+use Rattle.ist_rule.specs.RuleTerms.{WentOn, now, GoesOnTo, IsSound, MayCome, IsResolved, CanAdd}
 use Rattle.ist_rule.specs.declared.view.View.{View}
-use Rattle.ist_rule.specs.Going.{WentOn}
-use Rattle.ist_rule.specs.Learning.{now, GoesOnTo}
-use Rattle.ist_rule.specs.Rule.{IsSound}
 use Rattle.laws_stability.specs.Progress.{progress, most_progress}
 use Rattle.laws_stability.proofs.BoundLemmas.{bounded}
-use Rattle.laws_stability.proofs.ProgressLemmas.{never_falls, resolving}
+use Rattle.laws_stability.proofs.OwnLemmas.{never_falls, resolving}
 use Rattle.laws_coming.specs.Further.{CameFurther}
+use Rattle.ist_core.specs.TreeTerms.{CanDraw, CanCount, touch_of_count, touch_of_draw}
+use Rattle.ist_rule.proofs.WatchLemmas.{shown_in_row}
+use Rattle.laws_stability.proofs.IdealLemmas.{next_draw_stays}
+use Rattle.laws_stability.proofs.CountEventLemmas.{count_stays}
+use Rattle.laws_stability.proofs.ChangeEventLemmas.{none_accepted}
+use Rattle.laws_coming.proofs.KnownLemmas.{in_piece, fast_known, grow}
 
 -- progress after an earlier log is progress
 pub later_further : (u v w : View) → GoesOn u.log v.log → CameFurther v w → CameFurther u w
-later_further u v w g k =
-    let first = never_falls u.log v.log g in
-    let more = k.more in
+later_further u v w g k = let first = never_falls u.log v.log g in let more = k.more in
     record { more = omega arith }
 
 -- steps before it take nothing away
@@ -34,9 +39,7 @@ after_load u v w g = later_further u v w (goes_on_by g.later)
 
 -- steps after it keep it
 pub and_on : (P : Event → Type 0) (u v w : View) → CameFurther u v → WentOn P v w → CameFurther u w
-and_on P u v w k g =
-    let then = never_falls v.log w.log (goes_on_by g.later) in
-    let more = k.more in
+and_on P u v w k g = let then = never_falls v.log w.log (goes_on_by g.later) in let more = k.more in
     record { more = omega arith }
 
 -- a change that wasn't resolved before is resolved after
@@ -49,8 +52,7 @@ resolved_further P v w g change before out =
 pub helped_further : (P : Event → Type 0) (v w : View) → IsSound v → WentOn P v w
     → (node i word change : ℕ) → SlotHolds (now v) node i word
     → ref_of word ≡ Some (ChangeAt change) → Happened (Resolves change) w.log → CameFurther v w
-helped_further P v w s g node i word change here is out =
-    resolved_further P v w g change
+helped_further P v w s g node i word change here is out = resolved_further P v w g change
     (λ before. resolved_gone v.start v.words s.lawful.opens v.log s.lawful.enabled change before node
     i
     (subst (SlotHolds (now v) node i) (sym (word_of-ref_of word (ChangeAt change) is).same_word)
@@ -60,7 +62,94 @@ helped_further P v w s g node i word change here is out =
 -- less progress is left then
 pub fewer_left : (v w : View) → IsSound w → CameFurther v w
     → most_progress - progress w.log < most_progress - progress v.log
-fewer_left v w s k =
-    let more = k.more in
-    let most = bounded w.start w.words s.lawful.opens w.log s.lawful.enabled in
-    omega arith
+fewer_left v w s k = let more = k.more in
+    let most = bounded w.start w.words s.lawful.opens w.log s.lawful.enabled in omega arith
+
+-- ---- an add may be the event that it is named for, whatever others do meanwhile. Serves
+-- `laws.enabled_events_come`.
+
+module _ (v : View) (s : IsSound v) (number : ℕ) (mine : v.who ≡ Caller number) where
+  -- ---- counts
+
+  -- the count after a log that may come
+  count_after : (node : ℕ) (row : InnerRow) → (now v).pieces node ≡ Some (Inner row) → (log : Log)
+      → MayCome v log → (found : ℕ)
+      → IsShown (state_of v.start v.words log) (node + inner_count_offset) found
+      → (r : InnerRow) × ((state_of v.start v.words log).pieces node ≡ Some (Inner r))
+      × (found ≡ r.count)
+  count_after node row e log m found shown = let u = state_of v.start v.words log in
+      let on = inner_there (now v).pieces u.pieces (grow v log m) node row e in (
+        on.0,
+        on.1,
+        shown_in_row v.start v.words log m.lawful.enabled node (Inner on.0) 1 on.0.count on.1 refl
+            (node + inner_count_offset) found shown refl,
+      )
+
+  -- an add to the count may be the Count
+  pub count_comes : (node : ℕ) → IsResolved v number
+      → CanCount (start v.start v.words) v.log number node
+      → CanAdd v (node + inner_count_offset) (λ found. Count number node)
+  count_comes node all can =
+      let it = on_chain_inner v.start v.words s.lawful.opens v.log s.lawful.enabled
+      can.update.change.node node can.on_chain in
+      record {
+        make = λ found. record { mine = sym mine; stored = tt; allowed = tt };
+        known = fast_known v _ (in_piece node 1 (Inner it.0) it.1 (omega arith));
+        comes = λ log m found shown. let u = state_of v.start v.words log in
+            let r = count_after node it.0 it.1 log m found shown in record {
+              enabled = count_stays v.start v.words number
+                  (subst (λ who. Later who v.log log) mine m.later) m.lawful.enabled node can
+                  (none_accepted v.start v.words s.lawful.opens v.log s.lawful.enabled number all
+                  u);
+              touches = ap (λ o. touch_of_count node (as_inner o)) r.1
+                  ∙ ap (λ n. Some record {
+                    place = node + inner_count_offset;
+                    found = n;
+                    left = n + 1;
+                  }) (sym r.2);
+            };
+        fits = λ log m found shown. let r = count_after node it.0 it.1 log m found shown in
+            let low = count_low v.start v.words m.lawful.opens log m.lawful.enabled node r.0 r.1 in
+            let is = r.2 in omega arith;
+      }
+
+  -- ---- draws
+
+  -- the draw word after a log that may come
+  draw_after : (rebuild : ℕ) (row : RebuildRow) → (now v).pieces rebuild ≡ Some (Rebuild row)
+      → (log : Log) → MayCome v log → (found : ℕ)
+      → IsShown (state_of v.start v.words log) (rebuild + rebuild_draw_offset) found
+      → (r : RebuildRow) × ((state_of v.start v.words log).pieces rebuild ≡ Some (Rebuild r))
+      × (found ≡ r.draw)
+  draw_after rebuild row e log m found shown = let u = state_of v.start v.words log in
+      let on = rebuild_there (now v).pieces u.pieces (grow v log m) rebuild row e in (
+        on.0,
+        on.1,
+        shown_in_row v.start v.words log m.lawful.enabled rebuild (Rebuild on.0) 4 on.0.draw on.1
+            refl (rebuild + rebuild_draw_offset) found shown refl,
+      )
+
+  -- an add to the draw word may be a Draw
+  pub draw_comes : (rebuild part : ℕ) → CanDraw (now v) v.log number rebuild part
+      → CanAdd v (rebuild + rebuild_draw_offset) (λ found. Draw number rebuild found)
+  draw_comes rebuild part can = record {
+    make = λ found. record { mine = sym mine; stored = tt; allowed = tt };
+    known = fast_known v _ (in_piece rebuild 4 (Rebuild can.row) can.published (omega arith));
+    comes = λ log m found shown. let u = state_of v.start v.words log in
+        let r = draw_after rebuild can.row can.published log m found shown in record {
+          enabled = next_draw_stays v.start v.words m.lawful.opens number
+              (subst (λ who. Later who v.log log) mine m.later) m.lawful.enabled
+              rebuild part found can shown;
+          touches = ap (λ o. touch_of_draw rebuild (as_rebuild o)) r.1
+              ∙ ap (λ n. Some record {
+                place = rebuild + rebuild_draw_offset;
+                found = n;
+                left = n + 1;
+              }) (sym r.2);
+        };
+    fits = λ log m found shown.
+        let r = draw_after rebuild can.row can.published log m found shown in
+        let low = draw_low v.start v.words m.lawful.opens log m.lawful.enabled rebuild r.0 r.1
+        in
+        let is = r.2 in omega arith;
+  }

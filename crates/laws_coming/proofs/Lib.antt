@@ -1,11 +1,7 @@
 pub mod KnownLemmas
-pub mod ComingLemmas
-pub mod AddingLemmas
 pub mod SizeLemmas
 pub mod BeatenLemmas
 pub mod RootLemmas
-pub mod PlacedLemmas
 pub mod FilledLemmas
-pub mod PartLemmas
 pub mod SeenLemmas
 pub mod FurtherLemmas

@@ -4,41 +4,24 @@ use Rattle.std.proofs.lemmas.Bool.Decides.{eqb_tells}
 use Rattle.ist_core.specs.declared.events.Event.TheVariants.{Root, Lose}
 use Rattle.ist_core.specs.declared.lists.Row.{Row}
 use Rattle.ist_core.specs.declared.states.RebuildRow.{RebuildRow}
-use Rattle.ist_core.specs.RowLayout.{rebuild_root_offset}
-use Rattle.ist_core.specs.Shapes.{shape}
-use Rattle.ist_core.specs.References.{unset_word}
-use Rattle.ist_core.specs.Pieces.{Rebuild}
-use Rattle.ist_core.specs.Snapshots.{Snapshot, bases_of, sizes_of, HoldsRows}
-use Rattle.ist_core.specs.Authors.{Later}
-use Rattle.ist_core.specs.StartLayout.{start}
-use Rattle.ist_core.specs.Logs.{Log}
-use Rattle.ist_core.specs.Fairness.{IsBuild, build_whole, build_top}
-use Rattle.ist_core.specs.Building.{HoldsSizes, IsBeaten, CanRoot}
-use Rattle.ist_core.specs.Elements.{Distinct}
-use Rattle.ist_core.specs.Growing.{RebuildGrows}
-use Rattle.ist_core.specs.Rebuilding.{IsStarted, IsFinishedWith}
-use Rattle.ist_core.specs.Lawful.{state_of}
-use Rattle.ist_core.proofs.AddingLemmas.{held_free}
-use Rattle.ist_core.proofs.FateLemmas.{enabled_before}
-use Rattle.ist_core.proofs.GrowingLemmas.{rebuild_there}
-use Rattle.ist_core.proofs.ShapeLemmas.{shape_none, shape_one}
+use Rattle.ist_core.specs.declared.events.Who.TheVariants.{Caller}
+use Rattle.ist_core.specs.WordTerms.{rebuild_root_offset, shape, unset_word, Rebuild, start}
+use Rattle.ist_core.specs.LogTerms.{Snapshot, bases_of, sizes_of, HoldsRows, Later, Log, IsBuild, build_whole, build_top, Distinct, state_of, IsShown}
+use Rattle.ist_core.specs.TreeTerms.{HoldsSizes, IsBeaten, CanRoot, RebuildGrows, IsStarted, IsFinishedWith}
+use Rattle.ist_core.proofs.AllEventLemmas.{held_free}
+use Rattle.ist_core.proofs.AllLogLemmas.{enabled_before, rebuild_there, goes_on_by}
+use Rattle.ist_core.proofs.AllWordLemmas.{shape_none, shape_one}
 use Rattle.laws_links.proofs.FormLemmas.{finished_with_grows, started_grows}
 use Rattle.laws_links.proofs.InductionLemmas.{sound_after}
 use Rattle.laws_links.proofs.NumberLemmas.{number_is}
+use Rattle.ist_rule.specs.RuleTerms.{IsSound, now, MayCome, CanMake, StoredAll, CanExchange, LeavesAt, CanExchangeOrLose}
 use Rattle.ist_rule.specs.declared.view.View.{View}
-use Rattle.ist_core.specs.declared.events.Who.TheVariants.{Caller}
-use Rattle.ist_core.specs.Shown.{IsShown}
-use Rattle.ist_core.proofs.PrefixLemmas.{goes_on_by}
-use Rattle.ist_rule.specs.Rule.{IsSound}
-use Rattle.ist_rule.specs.Learning.{now}
-use Rattle.ist_rule.specs.Conditions.{MayCome, CanMake, StoredAll, CanExchange, LeavesAt, CanExchangeOrLose}
-use Rattle.ist_rule.proofs.GoingOnLemmas.{callers_later}
+use Rattle.ist_rule.proofs.EventLemmas.{callers_later}
 use Rattle.ist_rule.proofs.WatchLemmas.{shown_in_row}
 use Rattle.laws_stability.proofs.HoldingLemmas.{rows_later}
 use Rattle.laws_coming.specs.Builds.{IsRootBuilt, WasUnset}
 use Rattle.laws_coming.proofs.BeatenLemmas.{beaten_root, without_later}
-use Rattle.laws_coming.proofs.ComingLemmas.{exchange_comes}
-use Rattle.laws_coming.proofs.KnownLemmas.{grow, in_piece, fast_known, gone_missed}
+use Rattle.laws_coming.proofs.KnownLemmas.{exchange_comes, grow, in_piece, fast_known, gone_missed}
 use Rattle.laws_coming.proofs.SizeLemmas.{IsRootSizes, of_whole, of_top, root_sizes}
 
 -- ---- rows of a build
@@ -61,8 +44,7 @@ pub rows_lost : (v : View) (s : IsSound v) (number rebuild k : ℕ) (rows : List
     → LeavesAt v log (Lose number (bases_of rows)) place found
 rows_lost v s number rebuild k rows mine row there started finished once held build log m place
     found beaten =
-    let u = state_of v.start v.words log in
-    let g = grow v log m in
+    let u = state_of v.start v.words log in let g = grow v log m in
     let low = s.is_true.low number mine in
     let more = callers_later v.start v.words v.log log m.later in
     let on = rebuild_there (now v).pieces u.pieces g rebuild row there in
@@ -100,8 +82,7 @@ shape_some k rows some e = at k e
     no_rows (x ∷ xs) f = absurd (cc)
 
     at : (n : ℕ) → sizes_of rows ≡ shape n → 2 ≤ n
-    at n f =
-        ⊎_elim (λ none. absurd (some (no_rows rows (f ∙ ap shape none.1 ∙ shape_none))))
+    at n f = ⊎_elim (λ none. absurd (some (no_rows rows (f ∙ ap shape none.1 ∙ shape_none))))
         (λ more. ⊎_elim (λ one. absurd (some (no_rows rows (f ∙ ap shape one.1 ∙ shape_one))))
         (λ two. let a = more.1 in let b = two.1 in omega arith) (eqb_tells n 1))
         (eqb_tells n 0)
@@ -127,8 +108,7 @@ module _ (v : View) (s : IsSound v) (number rebuild word : ℕ) (rows : List Row
       → IsShown (state_of v.start v.words log) (rebuild + rebuild_root_offset) found
       → (r : RebuildRow) × ((state_of v.start v.words log).pieces rebuild ≡ Some (Rebuild r))
       × (found ≡ r.root) × (b.row.root ≢ unset_word → r.root ≡ b.row.root)
-  root_after log m found shown =
-      let u = state_of v.start v.words log in
+  root_after log m found shown = let u = state_of v.start v.words log in
       let on = rebuild_there (now v).pieces u.pieces (grow v log m) rebuild b.row b.published in (
         on.0,
         on.1,
@@ -145,32 +125,29 @@ module _ (v : View) (s : IsSound v) (number rebuild word : ℕ) (rows : List Row
       record { enabled = can none.1; touches = refl })
       (λ set. gone_missed v (Root number rebuild word rows) make_root _ _ _
       (fast_known v _ (in_piece rebuild 3 (Rebuild b.row) b.published (omega arith)))
-      (λ log m shown.
-      let r = root_after log m unset_word shown in
+      (λ log m shown. let r = root_after log m unset_word shown in
       set.1 (sym (r.3 set.1) ∙ sym r.2)))
       (eqb_tells b.row.root unset_word)
     where
       can : b.row.root ≡ unset_word → CanRoot (now v) number rebuild word rows
-      can none =
-          record {
-            known = s.is_true.low number mine;
-            row = b.row;
-            published = b.published;
-            started = b.started;
-            rootless = none;
-            k = b.k;
-            finished = b.finished;
-            leaves = b.leaves;
-            reached = b.reached;
-            root = b.root;
-            once = b.once;
-            held = b.held;
-          }
+      can none = record {
+        known = s.is_true.low number mine;
+        row = b.row;
+        published = b.published;
+        started = b.started;
+        rootless = none;
+        k = b.k;
+        finished = b.finished;
+        leaves = b.leaves;
+        reached = b.reached;
+        root = b.root;
+        once = b.once;
+        held = b.held;
+      }
 
   -- the rows have the sizes of a root over this many keys
   sizes_fit : IsRootSizes b.k (sizes_of rows)
-  sizes_fit =
-      root_sizes (now v).pieces rows word b.k b.leaves b.row.target b.once
+  sizes_fit = root_sizes (now v).pieces rows word b.k b.leaves b.row.target b.once
       (held_free (now v) number rows b.held (sound_after v.start v.words v.log s.lawful.enabled))
       (number_is v.start v.words s.lawful.opens v.log s.lawful.enabled b.row.target b.k b.leaves
       b.finished b.reached)
@@ -201,9 +178,8 @@ module _ (v : View) (s : IsSound v) (number rebuild word : ℕ) (rows : List Row
   pub root_comes_or_loses : rows ≢ [] → WasUnset v number (rebuild + rebuild_root_offset)
       → CanExchangeOrLose v (rebuild + rebuild_root_offset) unset_word word
       (Root number rebuild word rows) (Lose number (bases_of rows))
-  root_comes_or_loses some was =
-      record {
-        hit = root_comes;
-        make = record { mine = sym mine; stored = tt; allowed = tt };
-        miss = λ log m found shown differs. root_loses some was log m found shown differs;
-      }
+  root_comes_or_loses some was = record {
+    hit = root_comes;
+    make = record { mine = sym mine; stored = tt; allowed = tt };
+    miss = λ log m found shown differs. root_loses some was log m found shown differs;
+  }

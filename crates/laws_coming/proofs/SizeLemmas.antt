@@ -6,21 +6,12 @@ use Rattle.std.proofs.lemmas.List.Concat.{flat_map-cons}
 use Rattle.std.proofs.lemmas.List.Sums.{sum_by-cons}
 use Rattle.ist_core.specs.declared.lists.Row.{Row}
 use Rattle.ist_core.specs.declared.states.InnerRow.{InnerRow}
-use Rattle.ist_core.specs.Arithmetic.{degree, part_lens}
-use Rattle.ist_core.specs.RowLayout.{inner_words}
-use Rattle.ist_core.specs.Shapes.{shape, share_from}
-use Rattle.ist_core.specs.Elements.{Among, Each, Distinct}
-use Rattle.ist_core.specs.Parts.{cut, parts}
-use Rattle.ist_core.specs.Pieces.{Piece, Pieces, Inner, size_of, with_inners}
-use Rattle.ist_core.specs.References.{Ref}
-use Rattle.ist_core.specs.Snapshots.{bases_of, sizes_of}
-use Rattle.ist_core.specs.Leaves.{PlacedLeaf}
-use Rattle.ist_core.specs.Ideals.{IsTop, IsIdeal, AreIdeal, of_none, of_one, of_more, no_part, one_part}
-use Rattle.ist_core.specs.Building.{IsRoot, root_whole, root_top}
-use Rattle.ist_core.proofs.PartLemmas.{sum-part_lens}
-use Rattle.ist_core.proofs.PublishingLemmas.{LiesAt, base_among, ideal_stands, publishes-with_inners}
-use Rattle.ist_core.proofs.ShapeLemmas.{shape_none, shape_one, shape_many}
-use Rattle.ist_core.proofs.ShapedLemmas.{StandsShaped, ideal_shaped, root_shaped}
+use Rattle.ist_core.specs.WordTerms.{degree, part_lens, inner_words, shape, share_from, cut, parts, Piece, Pieces, Inner, size_of, with_inners, Ref, IsTop, IsIdeal, AreIdeal, of_none, of_one, of_more, no_part, one_part}
+use Rattle.ist_core.specs.LogTerms.{Among, Each, Distinct, bases_of, sizes_of}
+use Rattle.ist_core.specs.TreeTerms.{PlacedLeaf, IsRoot, root_whole, root_top}
+use Rattle.ist_core.proofs.AllWordLemmas.{sum-part_lens, shape_none, shape_one, shape_many}
+use Rattle.ist_core.proofs.AllEventLemmas.{LiesAt, base_among, ideal_stands, publishes-with_inners}
+use Rattle.ist_core.proofs.AllPlaceLemmas.{StandsShaped, ideal_shaped, root_shaped}
 
 -- ---- the sizes of ideal subtrees
 
@@ -36,10 +27,8 @@ sizes_at ps bases = map (λ base. size_there (ps base)) bases
 -- an inner row that has its degree has the words of that degree
 size_of_degree : (ps : Pieces) (base : ℕ) (s : StandsShaped ps base)
     → size_there (ps base) ≡ inner_words s.row.degree
-size_of_degree ps base s =
-    let both = length-append s.row.keys s.row.slots in
-    let keys = s.shaped.keys in
-    let slots = s.shaped.slots in
+size_of_degree ps base s = let both = length-append s.row.keys s.row.slots in
+    let keys = s.shaped.keys in let slots = s.shaped.slots in
     let size : size_of (Inner s.row) ≡ inner_words s.row.degree = omega arith in
     ap size_there s.published ∙ size
 
@@ -51,24 +40,20 @@ same_degree ps base r s e f = let same : r ≡ s = cc in ap (λ x. x.degree) sam
 top_size : (ps : Pieces) (base : ℕ) (r : InnerRow) (leaves : List PlacedLeaf) (above : ℕ)
     → IsTop ps base r leaves above → StandsShaped ps base
     → size_there (ps base) ≡ inner_words (degree (length leaves))
-top_size ps base r leaves above top s =
-    size_of_degree ps base s
+top_size ps base r leaves above top s = size_of_degree ps base s
     ∙ ap inner_words (same_degree ps base s.row r s.published top.published ∙ top.degree)
 
 -- the lengths of the pieces are those by which a list is cut
 lengths_of_cut : {A : Type 0} (ns : List ℕ) (xs : List A) → sum ns ≤ length xs
     → map length (cut ns xs) ≡ ns
 lengths_of_cut [] xs fits = refl
-lengths_of_cut (n ∷ ns) xs fits =
-    let all = sum_by-cons (λ x. x) n ns in
-    let less = length-drop n xs in
-    ap₂ (λ y ys. y ∷ ys) (length-take-le n xs (omega arith))
+lengths_of_cut (n ∷ ns) xs fits = let all = sum_by-cons (λ x. x) n ns in
+    let less = length-drop n xs in ap₂ (λ y ys. y ∷ ys) (length-take-le n xs (omega arith))
     (lengths_of_cut ns (drop n xs) (omega arith))
 
 -- the lengths of the parts
 pub lengths_of_parts : (leaves : List PlacedLeaf) → map length (parts leaves) ≡ part_lens (length leaves)
-lengths_of_parts leaves =
-    let whole = sum-part_lens (length leaves) in
+lengths_of_parts leaves = let whole = sum-part_lens (length leaves) in
     lengths_of_cut (part_lens (length leaves)) leaves (omega arith)
 
 mutual
@@ -125,11 +110,9 @@ pub published_sizes : (ps : Pieces) (rows : List Row) → Distinct (bases_of row
     → ((base : ℕ) → Among base (bases_of rows) → ps base ≡ None)
     → Each (λ base. LiesAt (with_inners ps rows) base) (bases_of rows)
     → sizes_at (with_inners ps rows) (bases_of rows) ≡ sizes_of rows
-published_sizes ps rows once free all =
-    let p = publishes-with_inners ps rows all in
+published_sizes ps rows once free all = let p = publishes-with_inners ps rows all in
     sizes_by (with_inners ps rows) rows
-    (λ row i.
-    let it = p.named row i in
+    (λ row i. let it = p.named row i in
     ⊎_elim (λ old. absurd (cc (free row.base (base_among row rows i))))
     (λ k. size_is (with_inners ps rows row.base) it.0 it.1
     ∙ k.3 ∙ ap (λ x. length x.words) (one_row rows once k.0 row k.1 i k.2))
@@ -158,8 +141,7 @@ pub root_sizes : (ps : Pieces) (rows : List Row) (word k : ℕ) (leaves : List P
     → ((base : ℕ) → Among base (bases_of rows) → ps base ≡ None) → length leaves ≡ k
     → IsRoot (with_inners ps rows) word k leaves target (bases_of rows)
     → IsRootSizes k (sizes_of rows)
-root_sizes ps rows word k leaves target once free many (root_whole ref few e ideal) =
-    of_whole few
+root_sizes ps rows word k leaves target once free many (root_whole ref few e ideal) = of_whole few
     (sym (published_sizes ps rows once free
     (ideal_stands (with_inners ps rows) ref leaves target (bases_of rows) ideal))
     ∙ ideal_sizes (with_inners ps rows) ref leaves target (bases_of rows) ideal ∙ ap shape many)

@@ -1,29 +1,75 @@
 -- What is found below a slot: of each key the value that the leaves there have for it. Serves the changes law.
-use Rattle.std.proofs.Common.{◌≡◌, ◌≢◌, ℕ, zero, suc, ◌+◌, ◌<◌, ◌⊎◌, ◌==◌, nat_le, if◌then◌else◌, Bool, true, false, List, [], ◌∷◌, ◌++◌, map, length, slice_get, Option, Some, None, refl, sym, ap, ◌∙◌, subst, inl, inr, ⊎_elim, arith}
+use Rattle.std.proofs.Common.{◌≡◌, ◌≢◌, ℕ, ◌<◌, ◌==◌, if◌then◌else◌, true, false, List, [], ◌∷◌, Option, Some, None, refl, sym, ap, ◌∙◌, inl, inr, arith, zero, suc, ◌+◌, ◌⊎◌, nat_le, Bool, ◌++◌, map, length, slice_get, subst, ⊎_elim}
 use Rattle.std.proofs.lemmas.Bool.Decides.{nat_tests}
-use Rattle.std.proofs.lemmas.List.Sums.{count_by-le-length}
+use Rattle.std.specs.Cmp.{nat_cmp_total}
+use Rattle.std.specs.FinMap.{gets, same_map, nat_cmp-IsAntisymmetric}
+use Rattle.ist_core.specs.declared.pairs.Pair.{Pair}
 use Rattle.ist_core.specs.declared.states.InnerRow.{InnerRow}
 use Rattle.ist_core.specs.declared.states.LeafRow.{LeafRow}
-use Rattle.ist_core.specs.Arithmetic.{child_count}
-use Rattle.ist_core.specs.RowLayout.{anchor}
-use Rattle.ist_core.specs.References.{Ref, LeafAt, InnerAt}
-use Rattle.ist_core.specs.Elements.{Among, Each}
+use Rattle.ist_core.specs.TreeTerms.{Map, map_of, PlacedLeaf, pair_of, HasLeaves, none_here, leaf_here, row_here, SlotsHaveLeaves, no_slot, one_slot, value_in}
+use Rattle.ist_core.specs.LogTerms.{Among, Each, Snapshot}
+use Rattle.ist_core.proofs.AllWordLemmas.{each-among, among_left, among_right, each_append}
+use Rattle.ist_core.proofs.AllPlaceLemmas.{AreRisingKeys, WordsName, HasOneHome, key_of_leaf, LiesIn, LeavesLie, lies_above, child_is, SaysWhere, leaves_lie_in, ReadsAs, slot_reads_as}
+use Rattle.std.proofs.lemmas.List.Sums.{count_by-le-length}
+use Rattle.ist_core.specs.WordTerms.{child_count, anchor, Ref, LeafAt, InnerAt, Pieces, Leaf, Inner, in_row, logical}
 use Rattle.ist_core.specs.Naming.{HasDegree}
-use Rattle.ist_core.specs.Pieces.{Pieces, Leaf, Inner}
-use Rattle.ist_core.specs.Snapshots.{Snapshot}
-use Rattle.ist_core.specs.Slots.{in_row, logical}
-use Rattle.ist_core.specs.Leaves.{PlacedLeaf, pair_of, HasLeaves, none_here, leaf_here, row_here, SlotsHaveLeaves, no_slot, one_slot}
-use Rattle.ist_core.specs.Changes.{value_in}
-use Rattle.ist_core.proofs.ElementLemmas.{among_left, among_right, each_append}
-use Rattle.ist_core.proofs.NamingLemmas.{WordsName}
-use Rattle.ist_core.proofs.HomeLemmas.{HasOneHome}
-use Rattle.ist_core.proofs.RisingLemmas.{AreRisingKeys}
-use Rattle.ist_core.proofs.SplitLemmas.{key_of_leaf}
-use Rattle.ist_core.proofs.LeadingLemmas.{LiesIn, LeavesLie, lies_above, child_is}
-use Rattle.ist_core.proofs.UnderLemmas.{SaysWhere, leaves_lie_in, ReadsAs, slot_reads_as}
 use Rattle.laws_histories.specs.Finding.{Finds, in_nothing, in_leaf, in_node}
-use Rattle.laws_histories.proofs.ValueLemmas.{value_of, value_of-none, value_of-among}
 use Rattle.laws_histories.proofs.FindLemmas.{finds_once}
+use Rattle.std.specs.FinMap as fin
+
+-- ---- lists of pairs with strictly increasing keys: the value of a key, and the map that has the pairs.
+-- Serves the changes law.
+
+-- the value of the key in the list, if a pair has it
+unfoldable pub value_of : ℕ → List Pair → Option ℕ
+value_of key [] = None
+value_of key (pair ∷ pairs) = if pair.key == key then Some pair.value else value_of key pairs
+
+-- the map of some pairs has the values of the list
+pub get-map_of : (pairs : List Pair) (key : ℕ) → fin.get (map_of pairs) key ≡ value_of key pairs
+unfolding value_of
+get-map_of [] key = grind (arith, nat_tests, gets)
+get-map_of (pair ∷ pairs) key = grind (arith, nat_tests, gets, get-map_of pairs key)
+
+-- a key that no pair has has no value
+pub value_of-none : (key : ℕ) (pairs : List Pair) → Each (λ pair. pair.key ≢ key) pairs
+    → value_of key pairs ≡ None
+unfolding value_of
+value_of-none key [] h = refl
+value_of-none key (pair ∷ pairs) h = let ne = h.0 in
+    let differs : (pair.key == key) ≡ false = grind (arith, nat_tests) in
+    rw differs (value_of-none key pairs h.1)
+
+-- if the keys are strictly increasing, each pair of the list gives its key its value
+pub value_of-among : (pair : Pair) (pairs : List Pair) → AreRisingKeys (λ p. p.key) pairs → Among pair pairs
+    → value_of pair.key pairs ≡ Some pair.value
+unfolding value_of
+value_of-among pair [] rise i = absurd i
+value_of-among pair (p ∷ pairs) rise (inl e) =
+    let same : (p.key == pair.key) ≡ true =
+    (let k = ap (λ x. x.key) e in grind (arith, nat_tests)) in
+    rw same (ap (λ x. Some x.value) (sym e))
+value_of-among pair (p ∷ pairs) rise (inr i) =
+    let less = each-among (λ q. p.key < q.key) pair pairs rise.0 i in
+    let differs : (p.key == pair.key) ≡ false = grind (arith, nat_tests) in
+    rw differs (value_of-among pair pairs rise.1 i)
+
+-- two pairs of a list with strictly increasing keys are equal if they have one key
+pub same_pair : (p q : Pair) (pairs : List Pair) → AreRisingKeys (λ x. x.key) pairs → Among p pairs
+    → Among q pairs → p.key ≡ q.key → p ≡ q
+same_pair p q [] rise i j e = absurd i
+same_pair p q (x ∷ xs) rise (inl a) (inl b) e = a ∙ sym b
+same_pair p q (x ∷ xs) rise (inl a) (inr j) e =
+    let less = each-among (λ y. x.key < y.key) q xs rise.0 j in let k = ap (λ y. y.key) a in
+    absurd (omega arith)
+same_pair p q (x ∷ xs) rise (inr i) (inl b) e =
+    let less = each-among (λ y. x.key < y.key) p xs rise.0 i in let k = ap (λ y. y.key) b in
+    absurd (omega arith)
+same_pair p q (x ∷ xs) rise (inr i) (inr j) e = same_pair p q xs rise.1 i j e
+
+-- maps with the same look-ups are one
+pub same_gets : (m n : Map) → ((key : ℕ) → fin.get m key ≡ fin.get n key) → m ≡ n
+same_gets m n h = same_map nat_cmp_total nat_cmp-IsAntisymmetric m n h
 
 -- ---- each leaf is found
 
@@ -62,8 +108,7 @@ module _ (ps : Pieces) (In : ℕ → ℕ → Option Ref → Type 0) (Lies : ℕ 
         → ((k m word : ℕ) → m ≡ j + k → slice_get words k ≡ Some word → slice_get r.slots m ≡ Some word) → Each (IsFound (Some (InnerAt base))) leaves
     found_slots _ _ no_slot base r e j slots = tt
     found_slots _ _ (one_slot {word = word} {words = words} {here = here} {rest = rest} first more) base r e j slots =
-        let at = slots 0 j word (omega arith) refl in
-        let reads = says.slot base j word r e at in
+        let at = slots 0 j word (omega arith) refl in let reads = says.slot base j word r e at in
         let lies = leaves_lie_in ps In Lies says (logical ps word) here first base j reads in
         each_append (IsFound (Some (InnerAt base))) here rest
         (through_slot base j word r here e at lies.0 (found_in (logical ps word) here first base j reads))
@@ -106,10 +151,8 @@ module _ (ps : Pieces) (shaped : (base : ℕ) (r : InnerRow) → ps base ≡ Som
     ends_in _ _ none_here = (None, in_nothing, record { cases = inl refl })
     ends_in _ _ (leaf_here {base = base} r e) =
         (value_in (Some (Leaf r)) key, in_leaf r e, leaf_end base r)
-    ends_in _ leaves (row_here {base = base} r e below) =
-        let shape = shaped base r e in
-        let keys = shape.keys in
-        let slots = shape.slots in
+    ends_in _ leaves (row_here {base = base} r e below) = let shape = shaped base r e in
+        let keys = shape.keys in let slots = shape.slots in
         let few = count_by-le-length (λ k. nat_le k key) r.keys in
         let it = ends_slot r.slots leaves below (child_count r.keys key) (omega arith) in
         (it.1, in_node r e it.2 it.3, it.4)
@@ -152,11 +195,9 @@ module _ (ps : Pieces) (shaped : (base : ℕ) (r : InnerRow) → ps base ≡ Som
   pub finds_value : (ref : Option Ref) (leaves : List PlacedLeaf) → HasLeaves ps ref leaves
       → (node i : ℕ) → In node i ref → (key : ℕ)
       → Finds ps key ref (value_of key (map pair_of leaves))
-  finds_value ref leaves h node i m key =
-      let it = ends_in ps shaped key ref leaves h in
+  finds_value ref leaves h node i m key = let it = ends_in ps shaped key ref leaves h in
       let rise = pairs_rise leaves (leaves_lie_in ps In Lies says ref leaves h node i m).1 in
-      let found = found_in ps In Lies says ref leaves h node i m in
-      ⊎_elim
+      let found = found_in ps In Lies says ref leaves h node i m in ⊎_elim
       (λ none. subst (λ v. Finds ps key ref v) (none ∙ sym (value_of-none key (map pair_of leaves) (none_has leaves (subst (λ v. Finds ps key ref v) none it.1) found))) it.1)
       (λ w.
       let value : value_of key (map pair_of leaves) ≡ Some w.0.row.value =
@@ -180,11 +221,10 @@ module _ (ps : Pieces) (shaped : (base : ℕ) (r : InnerRow) → ps base ≡ Som
 -- what a table says of where keys lie
 pub table_says : (t : Snapshot) → WordsName t → HasOneHome t → t.pieces anchor ≡ None → LeavesLie t
     → SaysWhere t.pieces (ReadsAs t) (LiesIn t)
-table_says t names home free lie =
-    record {
-      leaf = λ n j base r m e. lie.each n j base (m.a_leaf base refl) r e;
-      slot = λ base j word r e at. slot_reads_as t base j word names (in_row r e at);
-      up =
-          λ n j base k key m lies. lies_above t names home free n j base k key (m.a_row base refl) lies;
-      child = λ base j key r e lies. child_is t base key j r free e lies.child_for;
-    }
+table_says t names home free lie = record {
+  leaf = λ n j base r m e. lie.each n j base (m.a_leaf base refl) r e;
+  slot = λ base j word r e at. slot_reads_as t base j word names (in_row r e at);
+  up =
+      λ n j base k key m lies. lies_above t names home free n j base k key (m.a_row base refl) lies;
+  child = λ base j key r e lies. child_is t base key j r free e lies.child_for;
+}

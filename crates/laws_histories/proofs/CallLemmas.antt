@@ -7,13 +7,10 @@ use Rattle.std.proofs.lemmas.Option.{slice_get_within}
 use Rattle.ist_core.specs.declared.calls.Call.{Call}
 use Rattle.ist_core.specs.declared.pairs.Pair.{Pair}
 use Rattle.ist_core.specs.declared.events.Event.TheVariants.{Decide}
-use Rattle.ist_core.specs.Map.{Map, map_of}
-use Rattle.ist_core.specs.Elements.{Among, Each}
-use Rattle.ist_core.specs.StartLayout.{start}
-use Rattle.ist_core.specs.Logs.{Log, GoesOn}
-use Rattle.ist_core.specs.Changes.{Entry, changes_of}
-use Rattle.ist_core.specs.Standing.{is_change, entry_by, entries_by, IsRead, position_after, Follows, AllFollow, StandAmong, StandsIn, IsFresh}
-use Rattle.ist_core.proofs.ElementLemmas.{among-append, each-among, each_append}
+use Rattle.ist_core.specs.TreeTerms.{Map, map_of, Entry, changes_of, is_change, entry_by, entries_by, IsRead, position_after, Follows, AllFollow, StandAmong, StandsIn, IsFresh}
+use Rattle.ist_core.specs.LogTerms.{Among, Each, Log, GoesOn}
+use Rattle.ist_core.specs.WordTerms.{start}
+use Rattle.ist_core.proofs.AllWordLemmas.{among-append, each-among, each_append}
 use Rattle.laws_histories.specs.Calls.{MadeNoEntry, HasCalls, TookEffect, IsAdded}
 use Rattle.laws_histories.proofs.ChangeLemmas.{changes_on, get_left, get_at, read_on}
 
@@ -22,13 +19,12 @@ use Rattle.laws_histories.proofs.ChangeLemmas.{changes_on, get_left, get_at, rea
 pub stand_more : (m : Map) (xs ys : List Entry) (number : ℕ) (calls : List Call)
     → entries_by number (xs ++ ys) ≡ entries_by number xs → StandAmong m xs number calls
     → StandAmong m (xs ++ ys) number calls
-stand_more m xs ys number calls none h =
-    record {
-      made = λ call i e. get_left xs ys call.position (entry_by number call) (h.made call i e);
-      exactly = none ∙ h.exactly;
-      read = λ call i e. read_on m xs ys call (h.read call i e);
-      in_order = h.in_order;
-    }
+stand_more m xs ys number calls none h = record {
+  made = λ call i e. get_left xs ys call.position (entry_by number call) (h.made call i e);
+  exactly = none ∙ h.exactly;
+  read = λ call i e. read_on m xs ys call (h.read call i e);
+  in_order = h.in_order;
+}
 
 -- calls that are placed in a log are placed in each longer log
 pub stand_on : (pairs : List Pair) (words : ℕ) (earlier log : Log) (number : ℕ) (calls : List Call)
@@ -51,11 +47,10 @@ stamps_up told stamp (call ∷ calls) h all =
 pub keep_calls : (pairs : List Pair) (words : ℕ) (earlier log : Log) (number told stamp : ℕ) (calls : List Call)
     → GoesOn earlier log → MadeNoEntry pairs words number earlier log → told ≤ stamp
     → HasCalls pairs words earlier number told calls → HasCalls pairs words log number stamp calls
-keep_calls pairs words earlier log number told stamp calls g none low has =
-    record {
-      stand = stand_on pairs words earlier log number calls g none has.stand;
-      stamps = stamps_up told stamp calls low has.stamps;
-    }
+keep_calls pairs words earlier log number told stamp calls g none low has = record {
+  stand = stand_on pairs words earlier log number calls g none has.stand;
+  stamps = stamps_up told stamp calls low has.stamps;
+}
 
 -- ---- order
 
@@ -89,8 +84,7 @@ pub fresh_follows : (pairs : List Pair) (words : ℕ) (seen : Log) (number stamp
     → (call : Call) → Among call calls → call.stamp ≤ stamp → Follows call last
 fresh_follows pairs words seen number stamp calls last s fresh call i low =
     let following = after_within (map_of pairs) (changes_of pairs words seen) number calls s call i in
-    let position = fresh.position in
-    let later = fresh.later in
+    let position = fresh.position in let later = fresh.later in
     record { position = omega arith; stamp = omega arith }
 
 -- ---- lists with one more call
@@ -98,16 +92,14 @@ fresh_follows pairs words seen number stamp calls last s fresh call i low =
 -- an element of a list with one more is one of the list, or the last
 among_last : (call last : Call) (calls : List Call) → Among call (calls ++ last ∷ [])
     → Among call calls ⊎ (call ≡ last)
-among_last call last calls h =
-    ⊎_elim (λ i. inl i) (λ i. ⊎_elim (λ e. inr e) (λ e. absurd e) i)
+among_last call last calls h = ⊎_elim (λ i. inl i) (λ i. ⊎_elim (λ e. inr e) (λ e. absurd e) i)
     (among-append call calls (last ∷ []) h)
 
 -- the entries that are due for calls with one more that changes nothing
 due_reading : (number : ℕ) (calls : List Call) (last : Call) → is_change last ≡ false
     → map (entry_by number) (filter is_change (calls ++ last ∷ [])) ≡ map (entry_by number)
     (filter is_change calls)
-due_reading number calls last plain =
-    ap (map (entry_by number))
+due_reading number calls last plain = ap (map (entry_by number))
     (filter-append is_change calls (last ∷ []) ∙ ap (λ xs. filter is_change calls ++ xs) (none last plain) ∙ append-nil (filter is_change calls))
   where
     none : (call : Call) → is_change call ≡ false → filter is_change (call ∷ []) ≡ []
@@ -117,8 +109,7 @@ due_reading number calls last plain =
 due_update : (number : ℕ) (calls : List Call) (last : Call) → is_change last ≡ true
     → map (entry_by number) (filter is_change (calls ++ last ∷ []))
     ≡ map (entry_by number) (filter is_change calls) ++ entry_by number last ∷ []
-due_update number calls last changing =
-    ap (map (entry_by number))
+due_update number calls last changing = ap (map (entry_by number))
     (filter-append is_change calls (last ∷ []) ∙ ap (λ xs. filter is_change calls ++ xs) (one last changing))
     ∙ map-append (entry_by number) (filter is_change calls) (last ∷ [])
   where
@@ -137,47 +128,36 @@ stamps_last stamp (call ∷ calls) last h all =
 
 -- a call that changes nothing is added
 pub add_reading : (pairs : List Pair) (words : ℕ) (seen log : Log) (number stamp : ℕ)
-    (calls : List Call) (call : Call)
-    → HasCalls pairs words seen number stamp calls
+    (calls : List Call) (call : Call) → HasCalls pairs words seen number stamp calls
     → GoesOn seen log → MadeNoEntry pairs words number seen log
     → is_change call ≡ false → IsFresh pairs words seen stamp call
     → IsRead (map_of pairs) (changes_of pairs words log) call
     → HasCalls pairs words log number call.stamp (calls ++ call ∷ [])
 add_reading pairs words seen log number stamp calls last has g none plain fresh read =
     let s = stand_on pairs words seen log number calls g none has.stand in
-    let entries = changes_of pairs words log in
-    record {
-      stand =
-          record {
-            made = λ call i e.
-                ⊎_elim (λ j. s.made call j e)
-                (λ z. absurd (cc (ap is_change z ∙ plain)))
-                (among_last call last calls i);
-            exactly = s.exactly ∙ sym (due_reading number calls last plain);
-            read = λ call i e.
-                ⊎_elim (λ j. s.read call j e)
-                (λ z. subst (λ x. IsRead (map_of pairs) entries x) (sym z) read)
-                (among_last call last calls i);
-            in_order =
-                follow_more calls last s.in_order
-                (λ call i. fresh_follows pairs words seen number stamp calls last has.stand fresh call i (each-among (λ x. x.stamp ≤ stamp) call calls has.stamps i));
-          };
+    let entries = changes_of pairs words log in record {
+      stand = record {
+        made = λ call i e. ⊎_elim (λ j. s.made call j e)
+            (λ z. absurd (cc (ap is_change z ∙ plain))) (among_last call last calls i);
+        exactly = s.exactly ∙ sym (due_reading number calls last plain);
+        read = λ call i e. ⊎_elim (λ j. s.read call j e)
+            (λ z. subst (λ x. IsRead (map_of pairs) entries x) (sym z) read)
+            (among_last call last calls i);
+        in_order = follow_more calls last s.in_order
+            (λ call i. fresh_follows pairs words seen number stamp calls last has.stand fresh call i (each-among (λ x. x.stamp ≤ stamp) call calls has.stamps i));
+      };
       stamps = stamps_last stamp calls last fresh.later has.stamps;
     }
 
 -- a call that changes the map is added at its entry
 pub add_update : (pairs : List Pair) (words : ℕ) (seen log : Log) (number stamp : ℕ)
-    (calls : List Call) (call : Call)
-    → HasCalls pairs words seen number stamp calls
+    (calls : List Call) (call : Call) → HasCalls pairs words seen number stamp calls
     → TookEffect pairs words seen log number call → is_change call ≡ true → stamp < call.stamp
     → IsAdded pairs words seen log number stamp calls call
 add_update pairs words seen log number stamp calls last has took changing later =
-    let m = map_of pairs in
-    let old = changes_of pairs words seen in
-    let entries = changes_of pairs words log in
-    let first = start pairs words in
-    let one = entry_by number last in
-    let since = changes_on first seen took.earlier took.since in
+    let m = map_of pairs in let old = changes_of pairs words seen in
+    let entries = changes_of pairs words log in let first = start pairs words in
+    let one = entry_by number last in let since = changes_on first seen took.earlier took.since in
     let until =
     changes_on first (Decide took.caller took.base true ∷ took.earlier) log took.until in
     let front = changes_of pairs words took.earlier in
@@ -186,36 +166,27 @@ add_update pairs words seen log number stamp calls last has took changing later 
     ∙ append_assoc front (one ∷ []) until.0 in
     let all : entries ≡ old ++ (since.0 ++ (one ∷ until.0)) =
     are ∙ ap (λ es. es ++ (one ∷ until.0)) since.1 ∙ append_assoc old since.0 (one ∷ until.0) in
-    let lengths = ap length since.1 ∙ length-append old since.0 in
-    let position = took.position in
+    let lengths = ap length since.1 ∙ length-append old since.0 in let position = took.position in
     let fresh : IsFresh pairs words seen stamp last =
     record { position = omega arith; later = later } in
-    let s = has.stand in
-    record {
-      has_calls =
-          record {
-            stand =
-                record {
-                  made = λ call i e.
-                      ⊎_elim
-                      (λ j. subst (λ es. slice_get es call.position ≡ Some (entry_by number call)) (sym all) (get_left old (since.0 ++ (one ∷ until.0)) call.position (entry_by number call) (s.made call j e)))
-                      (λ z.
-                      subst (λ x. slice_get entries x.position ≡ Some (entry_by number x)) (sym z)
-                      (subst (λ p. slice_get entries p ≡ Some one) (sym position) (subst (λ es. slice_get es (length front) ≡ Some one) (sym are) (get_at front until.0 one))))
-                      (among_last call last calls i);
-                  exactly =
-                      took.alone ∙ ap (λ es. es ++ one ∷ []) s.exactly
-                      ∙ sym (due_update number calls last changing);
-                  read = λ call i e.
-                      ⊎_elim
-                      (λ j. subst (λ es. IsRead m es call) (sym all) (read_on m old (since.0 ++ (one ∷ until.0)) call (s.read call j e)))
-                      (λ z. absurd (cc (ap is_change z ∙ changing)))
-                      (among_last call last calls i);
-                  in_order =
-                      follow_more calls last s.in_order
-                      (λ call i. fresh_follows pairs words seen number stamp calls last s fresh call i (each-among (λ x. x.stamp ≤ stamp) call calls has.stamps i));
-                };
-            stamps = stamps_last stamp calls last later has.stamps;
-          };
+    let s = has.stand in record {
+      has_calls = record {
+        stand = record {
+          made = λ call i e. ⊎_elim
+              (λ j. subst (λ es. slice_get es call.position ≡ Some (entry_by number call)) (sym all) (get_left old (since.0 ++ (one ∷ until.0)) call.position (entry_by number call) (s.made call j e)))
+              (λ z.
+              subst (λ x. slice_get entries x.position ≡ Some (entry_by number x)) (sym z)
+              (subst (λ p. slice_get entries p ≡ Some one) (sym position) (subst (λ es. slice_get es (length front) ≡ Some one) (sym are) (get_at front until.0 one))))
+              (among_last call last calls i);
+          exactly = took.alone ∙ ap (λ es. es ++ one ∷ []) s.exactly
+              ∙ sym (due_update number calls last changing);
+          read = λ call i e. ⊎_elim
+              (λ j. subst (λ es. IsRead m es call) (sym all) (read_on m old (since.0 ++ (one ∷ until.0)) call (s.read call j e)))
+              (λ z. absurd (cc (ap is_change z ∙ changing))) (among_last call last calls i);
+          in_order = follow_more calls last s.in_order
+              (λ call i. fresh_follows pairs words seen number stamp calls last s fresh call i (each-among (λ x. x.stamp ≤ stamp) call calls has.stamps i));
+        };
+        stamps = stamps_last stamp calls last later has.stamps;
+      };
       fresh = fresh;
     }

@@ -1,37 +1,33 @@
 -- The contents are the pairs of the map after the changes. Serves `laws.changes_are_told`.
-use Rattle.std.proofs.Common.{◌≡◌, ℕ, T, List, [], ◌∷◌, map, refl, sym, ap, ◌∙◌, subst}
+use Rattle.std.proofs.Common.{◌≡◌, ℕ, T, List, [], ◌∷◌, map, refl, sym, ap, ◌∙◌, subst, ◌≤◌, true, false, length, slice_get, Some, inl, inr, arith}
 use Rattle.std.specs.Cmp.{nat_cmp_total}
 use Rattle.std.specs.Ordering.{nat_cmp}
-use Rattle.std.specs.FinMap as fin
 use Rattle.std.specs.List.Sorted.{IsStrictlyIncreasing}
 use Rattle.ist_core.specs.declared.pairs.Pair.{Pair}
-use Rattle.ist_core.specs.Map.{map_of, pairs_of}
-use Rattle.ist_core.specs.RowLayout.{anchor}
-use Rattle.ist_core.specs.StartLayout.{start}
-use Rattle.ist_core.specs.Logs.{Log}
-use Rattle.ist_core.specs.Slots.{in_anchor, logical}
-use Rattle.ist_core.specs.Leaves.{pair_of, HasContents}
-use Rattle.ist_core.specs.Lawful.{EachEnabled, CanOpen, state_of}
-use Rattle.ist_core.proofs.EntryLemmas.{is_sorted-rising}
-use Rattle.ist_core.proofs.PlaceLemmas.{anchor_free}
-use Rattle.ist_core.proofs.OrderLemmas.{names}
-use Rattle.ist_core.proofs.ParentLemmas.{one_home}
-use Rattle.ist_core.proofs.RisingLemmas.{AreRisingKeys}
-use Rattle.ist_core.proofs.UnderLemmas.{leaves_under, slot_reads_as}
-use Rattle.ist_core.proofs.LeafOrderLemmas.{leaves_lie, next_from_rises}
-use Rattle.ist_core.proofs.MapLemmas.{pairs-entries, entry, pair}
+use Rattle.ist_core.specs.declared.commands.Command.TheVariants.{Put}
+use Rattle.ist_core.specs.declared.calls.Call.{Call}
+use Rattle.ist_core.specs.TreeTerms.{map_of, pairs_of, pair_of, HasContents, Entry, changes_of, is_change, entry_by, IsRead, StandAmong, StandsIn, IsFresh}
+use Rattle.ist_core.specs.WordTerms.{anchor, start, in_anchor, logical, degree, square_root, root_up_to, part_len, part_lens, ideal_words, ideal_words_within, ref_of, rows_within}
+use Rattle.ist_core.specs.LogTerms.{Log, EachEnabled, CanOpen, state_of, Among, same_log, woven, IsLegal}
+use Rattle.ist_core.proofs.AllPlaceLemmas.{is_sorted-rising, anchor_free, names, one_home, AreRisingKeys, leaves_under, slot_reads_as, leaves_lie, next_from_rises, pairs-entries, entry, pair}
 use Rattle.laws_links.proofs.ExistLemmas.{HasSome}
 use Rattle.laws_links.proofs.ContentLemmas.{contents_exist}
 use Rattle.laws_histories.specs.Finding.{Gives}
 use Rattle.laws_histories.specs.Telling.{map_now}
-use Rattle.laws_histories.proofs.ValueLemmas.{value_of, get-map_of, same_gets}
+use Rattle.laws_histories.proofs.BelowLemmas.{value_of, get-map_of, same_gets, pairs_rise}
 use Rattle.laws_histories.proofs.FindLemmas.{finds_once}
-use Rattle.laws_histories.proofs.BelowLemmas.{pairs_rise}
 use Rattle.laws_histories.proofs.RootLemmas.{named_value}
 use Rattle.laws_histories.proofs.TellLemmas.{ToldAfter}
-use Rattle.laws_histories.proofs.ToldLemmas.{told}
+use Rattle.laws_histories.proofs.ToldLemmas.{told, all_needed}
 use Rattle.laws_histories.proofs.OpeningLemmas.{start_contents}
-use Rattle.laws_histories.proofs.NeededLemmas.{all_needed}
+use Rattle.std.proofs.lemmas.Bool.Decides.{nat_tests}
+use Rattle.std.specs.FinMap.{gets}
+use Rattle.std.proofs.lemmas.Bool.{true≢false}
+use Rattle.ist_core.specs.ExampleLogs.{start_pairs, late_marked, late_resolved, late_finished}
+use Rattle.ist_core.proofs.LateExampleLemmas.{late_is_lawful, late_changes}
+use Rattle.laws_histories.specs.ExampleCalls.{the_put, early_find, late_find, writer, reader, one_history}
+use Rattle.laws_histories.proofs.WovenLemmas.{woven_legal}
+use Rattle.std.specs.FinMap as fin
 
 -- ---- the pairs of a map
 
@@ -42,8 +38,7 @@ keys-entries (p ∷ pairs) = ap (λ ks. p.key ∷ ks) (keys-entries pairs)
 
 -- pairs with strictly increasing keys are the pairs of their map
 pairs_of-map_of : (pairs : List Pair) → AreRisingKeys (λ p. p.key) pairs → pairs_of (map_of pairs) ≡ pairs
-pairs_of-map_of pairs rise =
-    let es = map entry pairs in
+pairs_of-map_of pairs rise = let es = map entry pairs in
     let sorted =
     is_sorted-rising es
     (subst IsStrictlyIncreasing (sym (keys-entries pairs)) (next_from_rises (λ p. p.key) pairs rise)) in
@@ -61,16 +56,13 @@ module _ (pairs : List Pair) (words : ℕ) (opens : CanOpen pairs words) where
   tree_value : (log : Log) (h : EachEnabled (start pairs words) log)
       (has : HasSome (state_of pairs words log).pieces (logical (state_of pairs words log).pieces (state_of pairs words log).anchor))
       → (key : ℕ) → Gives (state_of pairs words log) key (value_of key (map pair_of has.leaves))
-  tree_value log h has key =
-      let t = state_of pairs words log in
-      named_value pairs words opens log h
+  tree_value log h has key = let t = state_of pairs words log in named_value pairs words opens log h
       (logical t.pieces t.anchor) has.leaves has.reached anchor 0
       (slot_reads_as t anchor 0 t.anchor (names pairs words opens log h) (in_anchor refl refl refl)) key
 
   -- a new table gives each key what the map of its pairs has
   opening : (key : ℕ) → Gives (start pairs words) key (fin.get (map_of pairs) key)
-  opening key =
-      let it = start_contents pairs words opens in
+  opening key = let it = start_contents pairs words opens in
       subst (λ v. Gives (start pairs words) key v)
       (ap (value_of key) (sym it.pairs_are) ∙ sym (get-map_of pairs key))
       (tree_value [] tt record { leaves = it.leaves; reached = it.reached } key)
@@ -89,20 +81,15 @@ module _ (pairs : List Pair) (words : ℕ) (opens : CanOpen pairs words) where
   -- the keys of the pairs of these leaves are strictly increasing
   rise_at : (log : Log) (h : EachEnabled (start pairs words) log)
       → AreRisingKeys (λ p. p.key) (map pair_of (leaves_at log h).leaves)
-  rise_at log h =
-      let t = state_of pairs words log in
-      let has = leaves_at log h in
-      let o = names pairs words opens log h in
-      pairs_rise has.leaves
+  rise_at log h = let t = state_of pairs words log in let has = leaves_at log h in
+      let o = names pairs words opens log h in pairs_rise has.leaves
       (leaves_under t (logical t.pieces t.anchor) has.leaves o (one_home pairs words opens log h) (anchor_free pairs words log h) (leaves_lie pairs words opens log h) has.reached anchor 0
       (slot_reads_as t anchor 0 t.anchor o (in_anchor refl refl refl))).1
 
   -- the pairs of these leaves are the pairs of the map after the changes
   pairs_at : (log : Log) (h : EachEnabled (start pairs words) log)
       → pairs_of (map_now pairs words log) ≡ map pair_of (leaves_at log h).leaves
-  pairs_at log h =
-      let t = state_of pairs words log in
-      let has = leaves_at log h in
+  pairs_at log h = let t = state_of pairs words log in let has = leaves_at log h in
       let xs = map pair_of has.leaves in
       let same : map_now pairs words log ≡ map_of xs =
       same_gets (map_now pairs words log) (map_of xs)
@@ -125,3 +112,123 @@ module _ (pairs : List Pair) (words : ℕ) (opens : CanOpen pairs words) where
   pairs_rise_at log h =
       subst (λ xs. IsStrictlyIncreasing (map (λ p. p.key) xs)) (sym (pairs_at log h))
       (next_from_rises (λ p. p.key) (map pair_of (leaves_at log h).leaves) (rise_at log h))
+
+-- ---- calls of two passes on a small log. Serves `examples`.
+
+-- the one change
+abbrev the_entry : Entry
+the_entry = record { owner = 1; command = Put 20 9; reply = Some 2 }
+
+-- what the map has before the put
+old_value : fin.get (map_of start_pairs) 20 ≡ Some 2
+unfolding value_of
+old_value = get-map_of start_pairs 20
+
+-- what the map has after the put
+new_value : fin.get (fin.insert (map_of start_pairs) 20 9) 20 ≡ Some 9
+new_value = grind (arith, nat_tests, gets)
+
+-- the put is placed among the changes
+writer_among : StandAmong (map_of start_pairs) (the_entry ∷ []) 1 (the_put ∷ [])
+writer_among = record {
+  made = λ call i changing. at call i;
+  exactly = refl;
+  read = λ call i plain. absurd (plainly call i plain);
+  in_order = (tt, tt);
+}
+  where
+    at : (call : Call) → Among call (the_put ∷ [])
+        → slice_get (the_entry ∷ []) call.position ≡ Some (entry_by 1 call)
+    at call (inl e) =
+        subst (λ c. slice_get (the_entry ∷ []) c.position ≡ Some (entry_by 1 c)) (sym e) refl
+    at call (inr i) = absurd i
+
+    plainly : (call : Call) → Among call (the_put ∷ []) → is_change call ≡ false → ⊥
+    plainly call (inl e) plain = true≢false (subst (λ c. is_change c ≡ false) e plain)
+    plainly call (inr i) plain = absurd i
+
+-- so it is placed in the log
+pub writer_stands : StandsIn start_pairs 100 late_finished 1 (the_put ∷ [])
+writer_stands = subst (λ es. StandAmong (map_of start_pairs) es 1 (the_put ∷ []))
+    (sym late_changes) writer_among
+
+-- the early find reads the map at its position
+early_read : IsRead (map_of start_pairs) (the_entry ∷ []) early_find
+early_read = record { within = omega arith; reply = sym old_value }
+
+-- the late find has the reply of the map at its position
+late_read : IsRead (map_of start_pairs) (the_entry ∷ []) late_find
+late_read = record { within = omega arith; reply = sym new_value }
+
+-- both finds are placed among the changes
+reader_among : StandAmong (map_of start_pairs) (the_entry ∷ []) 2 (early_find ∷ late_find ∷ [])
+reader_among = record {
+  made = λ call i changing. absurd (changing_none call i changing);
+  exactly = refl;
+  read = λ call i plain. reads call i;
+  in_order = ((record { position = omega arith; stamp = omega arith }, tt), (tt, tt));
+}
+  where
+    changing_none : (call : Call) → Among call (early_find ∷ late_find ∷ []) → is_change call ≡ true
+        → ⊥
+    changing_none call (inl e) changing = true≢false (sym (subst (λ c. is_change c ≡ true) e changing))
+    changing_none call (inr (inl e)) changing =
+        true≢false (sym (subst (λ c. is_change c ≡ true) e changing))
+    changing_none call (inr (inr i)) changing = i
+
+    reads : (call : Call) → Among call (early_find ∷ late_find ∷ [])
+        → IsRead (map_of start_pairs) (the_entry ∷ []) call
+    reads call (inl e) =
+        subst (λ c. IsRead (map_of start_pairs) (the_entry ∷ []) c) (sym e) early_read
+    reads call (inr (inl e)) =
+        subst (λ c. IsRead (map_of start_pairs) (the_entry ∷ []) c) (sym e) late_read
+    reads call (inr (inr i)) = absurd i
+
+-- so they are placed in the log
+pub reader_stands : StandsIn start_pairs 100 late_finished 2 (early_find ∷ late_find ∷ [])
+reader_stands = subst (λ es. StandAmong (map_of start_pairs) es 2 (early_find ∷ late_find ∷ []))
+    (sym late_changes) reader_among
+
+-- the early find is placed before the put
+early_among : StandAmong (map_of start_pairs) [] 2 (early_find ∷ [])
+early_among = record {
+  made = λ call i changing. absurd (changing_none call i changing);
+  exactly = refl;
+  read = λ call i plain. reads call i;
+  in_order = (tt, tt);
+}
+  where
+    changing_none : (call : Call) → Among call (early_find ∷ []) → is_change call ≡ true → ⊥
+    changing_none call (inl e) changing = true≢false (sym (subst (λ c. is_change c ≡ true) e changing))
+    changing_none call (inr i) changing = i
+
+    reads : (call : Call) → Among call (early_find ∷ []) → IsRead (map_of start_pairs) [] call
+    reads call (inl e) = subst (λ c. IsRead (map_of start_pairs) [] c)
+        (sym e) record { within = omega arith; reply = sym old_value }
+    reads call (inr i) = absurd i
+
+-- so it is placed in the log of that moment
+pub early_stands : StandsIn start_pairs 100 late_marked 2 (early_find ∷ [])
+unfolding ref_of rows_within degree square_root root_up_to part_len part_lens ideal_words ideal_words_within
+early_stands = early_among
+
+-- one change was made by then
+resolved_changes : changes_of start_pairs 100 late_resolved ≡ the_entry ∷ []
+unfolding ref_of rows_within degree square_root root_up_to part_len part_lens ideal_words ideal_words_within
+resolved_changes = refl
+
+-- the late find is fresh
+pub late_fresh : IsFresh start_pairs 100 late_resolved 1 late_find
+late_fresh =
+    record { position = subst (λ es. length es ≤ 1) (sym resolved_changes) (omega arith); later = omega arith }
+
+-- the two passes, woven
+pub calls_woven : woven (changes_of start_pairs 100 late_finished)
+    (writer ∷ reader ∷ []) ≡ one_history
+calls_woven = subst (λ es. woven es (writer ∷ reader ∷ []) ≡ one_history) (sym late_changes) refl
+
+-- the history is legal by the places of its calls
+pub history_legal : IsLegal (map_of start_pairs) one_history
+history_legal = subst (λ told. IsLegal (map_of start_pairs) told) calls_woven
+    (woven_legal start_pairs 100 late_finished (writer ∷ reader ∷ []) (told_at start_pairs 100 late_is_lawful.opens late_finished late_is_lawful.enabled).legal
+    ((late_finished, same_log, writer_stands), ((late_finished, same_log, reader_stands), tt)))

@@ -4,32 +4,20 @@ use Rattle.ist_core.specs.declared.pairs.Pair.{Pair}
 use Rattle.ist_core.specs.declared.states.ChangeRow.{ChangeRow}
 use Rattle.ist_core.specs.declared.events.Event.{Event}
 use Rattle.ist_core.specs.declared.events.Event.TheVariants.{Okay, Decide}
-use Rattle.ist_core.specs.References.{ChangeAt, ref_of, word_of}
-use Rattle.ist_core.specs.Statuses.{decided_yes}
-use Rattle.ist_core.specs.Pieces.{Change, with_decision}
-use Rattle.ist_core.specs.Snapshots.{Snapshot}
-use Rattle.ist_core.specs.StartLayout.{start}
-use Rattle.ist_core.specs.Logs.{Log, Happened, Okays, Passes, GoesOn, same_log, one_event}
-use Rattle.ist_core.specs.Slots.{SlotHolds, IsOpen}
-use Rattle.ist_core.specs.Deciding.{IsPending, CanOkay}
-use Rattle.ist_core.specs.Freezing.{KeepsWord, holds_it, holds_change}
-use Rattle.ist_core.specs.Lawful.{EachEnabled, CanOpen, state_of}
-use Rattle.ist_core.proofs.RowLemmas.{changed_at-same}
-use Rattle.ist_core.proofs.GrowingLemmas.{change_there}
-use Rattle.ist_core.proofs.FateLemmas.{enabled_before, grow_between}
-use Rattle.ist_core.proofs.PlaceLemmas.{anchor_free}
-use Rattle.ist_core.proofs.SlotLemmas.{slot_once}
-use Rattle.ist_core.proofs.FreezingLemmas.{change_read, same_change_word}
+use Rattle.ist_core.specs.WordTerms.{ChangeAt, ref_of, word_of, decided_yes, Change, with_decision, start, SlotHolds, IsOpen}
+use Rattle.ist_core.specs.LogTerms.{Snapshot, Log, Happened, Okays, Passes, GoesOn, same_log, one_event, EachEnabled, CanOpen, state_of}
+use Rattle.ist_core.specs.TreeTerms.{IsPending, CanOkay, KeepsWord, holds_it, holds_change}
+use Rattle.ist_core.proofs.AllWordLemmas.{changed_at-same, same_change}
+use Rattle.ist_core.proofs.AllLogLemmas.{change_there, enabled_before, grow_between, change_read, same_change_word, goes_on_more}
+use Rattle.ist_core.proofs.AllPlaceLemmas.{anchor_free, slot_once}
 use Rattle.ist_core.proofs.FrozenLemmas as frozen
-use Rattle.ist_core.proofs.PrefixLemmas.{goes_on_more}
-use Rattle.ist_core.proofs.OptionLemmas.{same_change}
 use Rattle.laws_links.specs.Linking.{IsFinished}
 use Rattle.laws_links.proofs.FormLemmas.{finished_grows}
 use Rattle.laws_links.proofs.ChangeLemmas.{said_yes}
 use Rattle.laws_links.proofs.PassLemmas.{passed_no_change}
 use Rattle.laws_links.proofs.InductionLemmas.{changes_by}
 use Rattle.laws_links.proofs.LinkLemmas.{open_unfinished}
-use Rattle.laws_histories.proofs.NeedLemmas.{Needs}
+use Rattle.laws_histories.proofs.LedLemmas.{Needs}
 
 module _ (pairs : List Pair) (words : ℕ) (opens : CanOpen pairs words) where
   -- if a pending change has an Okay, its node isn't finished
@@ -97,8 +85,7 @@ module _ (pairs : List Pair) (words : ℕ) where
     where
       at : (log : Log) (caller base : ℕ) (said : Bool) → said ≡ true
           → Decided (Decide caller base said ∷ log) base
-      at log caller base said is =
-          subst (λ v. Decided (Decide caller base v ∷ log) base)
+      at log caller base said is = subst (λ v. Decided (Decide caller base v ∷ log) base)
           (sym is) record { caller = caller; earlier = log; decided = same_log }
 
   -- after its Decide with yes a change is decided yes
@@ -133,14 +120,11 @@ module _ (pairs : List Pair) (words : ℕ) where
       d = yes_decided log h base new f said
 
       before : ¬ (GoesOn (Decide d.caller base true ∷ d.earlier) earlier)
-      before x =
-          let a = enabled_before (start pairs words) earlier log g h in
+      before x = let a = enabled_before (start pairs words) earlier log g h in
           let m =
-          enabled_before (start pairs words)
-          (Decide d.caller base true ∷ d.earlier) earlier x a in
+          enabled_before (start pairs words) (Decide d.caller base true ∷ d.earlier) earlier x a in
           let it =
-          change_there (state_of pairs words d.earlier).pieces
-          (state_of pairs words earlier).pieces
+          change_there (state_of pairs words d.earlier).pieces (state_of pairs words earlier).pieces
           (grow_between pairs words d.earlier earlier a (goes_on_more (one_event (Decide d.caller base true) same_log) x)) base m.1.change m.1.pending.published in
           not_yet it.0 it.1 (decided_after d.caller base d.earlier earlier x a it.0 it.1)
 
@@ -160,8 +144,7 @@ module _ (pairs : List Pair) (words : ℕ) where
       → (state_of pairs words earlier).pieces base ≡ Some (Change old)
       → old.decision ≢ decided_yes → (state_of pairs words log).pieces base ≡ Some (Change new)
       → new.decision ≡ decided_yes → Turning earlier log base
-  turning earlier log g h base old new e not_yet f said =
-      turns_since earlier log g h base new
+  turning earlier log g h base old new e not_yet f said = turns_since earlier log g h base new
       (λ other p turned. not_yet (ap (λ c. c.decision) (same_change ((state_of pairs words earlier).pieces base) old other e p) ∙ turned))
       f said
 
@@ -182,8 +165,7 @@ module _ (pairs : List Pair) (words : ℕ) (opens : CanOpen pairs words) where
       t = state_of pairs words log
 
       at : (ev : Event) → EachEnabled (start pairs words) (ev ∷ log) → Okays base ev → ⊥
-      at (Okay caller b) j same =
-          let grows = grow_between pairs words earlier log h.0 g in
+      at (Okay caller b) j same = let grows = grow_between pairs words earlier log h.0 g in
           let it =
           change_there (state_of pairs words earlier).pieces t.pieces grows base change e in
           let can : CanOkay t caller base = subst (λ x. CanOkay t caller x) same j.1 in

@@ -9,33 +9,22 @@ use Rattle.ist_core.specs.declared.commands.Command.{Command}
 use Rattle.ist_core.specs.declared.pairs.Pair.{Pair}
 use Rattle.ist_core.specs.declared.states.ChangeRow.{ChangeRow}
 use Rattle.ist_core.specs.declared.events.Event.TheVariants.{Decide}
-use Rattle.ist_core.specs.Statuses.{decided_yes}
-use Rattle.ist_core.specs.Elements.{Each}
-use Rattle.ist_core.specs.Pieces.{Change}
-use Rattle.ist_core.specs.StartLayout.{start}
-use Rattle.ist_core.specs.Logs.{Log, GoesOn, same_log, one_event}
-use Rattle.ist_core.specs.Changes.{Entry, command_of, reply_of, entry_for, entry_of, changes_of}
-use Rattle.ist_core.specs.Lawful.{EachEnabled, CanOpen, state_of}
-use Rattle.ist_core.specs.Standing.{makes_entry, entry_by, entries_by}
-use Rattle.ist_core.specs.Growing.{ChangeGrows}
-use Rattle.ist_core.specs.Snapshots.{Snapshot}
-use Rattle.ist_core.proofs.GrowingLemmas.{change_there}
-use Rattle.ist_core.proofs.FateLemmas.{enabled_before, grow_between}
-use Rattle.ist_core.proofs.PrefixLemmas.{goes_on_more}
-use Rattle.ist_core.proofs.OptionLemmas.{same_change}
+use Rattle.ist_core.specs.WordTerms.{decided_yes, Change, start}
+use Rattle.ist_core.specs.LogTerms.{Each, Log, GoesOn, same_log, one_event, EachEnabled, CanOpen, state_of, Snapshot}
+use Rattle.ist_core.specs.TreeTerms.{Entry, command_of, reply_of, entry_for, entry_of, changes_of, makes_entry, entry_by, entries_by, ChangeGrows}
+use Rattle.ist_core.proofs.AllLogLemmas.{change_there, enabled_before, grow_between, goes_on_more}
+use Rattle.ist_core.proofs.AllWordLemmas.{same_change}
 use Rattle.laws_histories.specs.Telling.{IsEntryOf}
 use Rattle.laws_histories.specs.Calls.{CameToCall}
 use Rattle.laws_histories.proofs.ChangeLemmas.{changes_on, get_at}
 use Rattle.laws_histories.proofs.DecisionLemmas.{Turning, turns_since}
-use Rattle.laws_histories.proofs.EntryLemmas.{command_stays, entry_made}
-use Rattle.laws_histories.proofs.EntryChangeLemmas.{entries_change}
+use Rattle.laws_histories.proofs.EntryLemmas.{command_stays, entry_made, entries_change}
 
 -- if the owner has at most one more entry, this entry of the owner is it
 alone : (number : ℕ) (xs mid rest : List Entry) (entry : Entry) → entry.owner ≡ number
     → length (entries_by number ((xs ++ mid) ++ (entry ∷ rest))) ≤ length (entries_by number xs) + 1
     → entries_by number ((xs ++ mid) ++ (entry ∷ rest)) ≡ entries_by number xs ++ entry ∷ []
-alone number xs mid rest entry own few =
-    parts
+alone number xs mid rest entry own few = parts
     ∙ ap (λ es. (entries_by number xs ++ es) ++ (entry ∷ entries_by number rest))
     (nil_from_length (entries_by number mid) (let a = lengths in omega arith))
     ∙ ap (λ es. es ++ (entry ∷ entries_by number rest)) (append-nil (entries_by number xs))
@@ -46,20 +35,17 @@ alone number xs mid rest entry own few =
     kept = let test : (entry.owner == number) ≡ true = grind (arith, nat_tests) in rw test refl
 
     parts : entries_by number ((xs ++ mid) ++ (entry ∷ rest)) ≡ (entries_by number xs ++ entries_by number mid) ++ (entry ∷ entries_by number rest)
-    parts =
-        filter-append (λ e. e.owner == number) (xs ++ mid) (entry ∷ rest)
+    parts = filter-append (λ e. e.owner == number) (xs ++ mid) (entry ∷ rest)
         ∙ ap (λ es. es ++ entries_by number (entry ∷ rest))
         (filter-append (λ e. e.owner == number) xs mid)
         ∙ ap (λ es. (entries_by number xs ++ entries_by number mid) ++ es) kept
 
     lengths : (length (entries_by number xs) + length (entries_by number mid)) + suc (length (entries_by number rest)) ≤ length (entries_by number xs) + 1
-    lengths =
-        let a = ap length parts in
+    lengths = let a = ap length parts in
         let b =
         length-append (entries_by number xs ++ entries_by number mid)
         (entry ∷ entries_by number rest) in
-        let c = length-append (entries_by number xs) (entries_by number mid) in
-        omega arith
+        let c = length-append (entries_by number xs) (entries_by number mid) in omega arith
 
 -- one element of a list at a place
 same_first : (xs : List Entry) (i : ℕ) (x y : Entry) → slice_get xs i ≡ Some x
@@ -82,30 +68,27 @@ module _ (pairs : List Pair) (words : ℕ) (opens : CanOpen pairs words) where
       → ((old : ChangeRow) → (state_of pairs words seen).pieces base ≡ Some (Change old) → old.decision ≢ decided_yes)
       → length (entries_by number (changes_of pairs words log)) ≤ length (entries_by number (changes_of pairs words seen)) + 1
       → CameToCall pairs words seen log number stamp command change
-  took_effect seen log h g number stamp base change command e said own is unsaid few =
-      record {
-        position = length front;
-        call = call;
-        call_is = refl;
-        changes =
-            each_get (λ entry. makes_entry entry.command entry.reply ≡ true)
-            (changes_of pairs words log) (length front) (entry_by number call)
-            (entries_change pairs words opens log h) (has ∙ ap (λ x. Some x) one);
-        effect = record {
-          earlier = turn.at;
-          caller = turn.caller;
-          base = base;
-          since = turn.since;
-          until = turn.until;
-          entry = made ∙ ap (λ x. x ∷ []) one;
-          position = refl;
-          alone =
-              ap (entries_by number) are
-              ∙ alone number old mid.0 rest.0 first (ap (λ x. x.owner) one)
-              (subst (λ es. length (entries_by number es) ≤ length (entries_by number old) + 1) are few)
-              ∙ ap (λ x. entries_by number old ++ x ∷ []) one;
-        };
-      }
+  took_effect seen log h g number stamp base change command e said own is unsaid few = record {
+    position = length front;
+    call = call;
+    call_is = refl;
+    changes = each_get (λ entry. makes_entry entry.command entry.reply ≡ true)
+        (changes_of pairs words log) (length front) (entry_by number call)
+        (entries_change pairs words opens log h) (has ∙ ap (λ x. Some x) one);
+    effect = record {
+      earlier = turn.at;
+      caller = turn.caller;
+      base = base;
+      since = turn.since;
+      until = turn.until;
+      entry = made ∙ ap (λ x. x ∷ []) one;
+      position = refl;
+      alone = ap (entries_by number) are
+          ∙ alone number old mid.0 rest.0 first (ap (λ x. x.owner) one)
+          (subst (λ es. length (entries_by number es) ≤ length (entries_by number old) + 1) are few)
+          ∙ ap (λ x. entries_by number old ++ x ∷ []) one;
+    };
+  }
     where
       turn : Turning seen log base
       turn = turns_since pairs words seen log g h base change unsaid e said
@@ -136,15 +119,12 @@ module _ (pairs : List Pair) (words : ℕ) (opens : CanOpen pairs words) where
       before = m.1.change
 
       there : (later : ChangeRow) × ((state_of pairs words log).pieces base ≡ Some (Change later)) × ChangeGrows before later
-      there =
-          change_there t.pieces (state_of pairs words log).pieces
+      there = change_there t.pieces (state_of pairs words log).pieces
           (grow_between pairs words turn.at log h on) base before m.1.pending.published
 
       -- the row had the command when it was decided
       command_was : command_of before ≡ Some command
-      command_was =
-          sym (command_stays before there.0 there.2)
-          ∙ ap command_of
+      command_was = sym (command_stays before there.0 there.2) ∙ ap command_of
           (same_change ((state_of pairs words log).pieces base) there.0 change there.1 e) ∙ is
 
       -- its entry then
@@ -169,8 +149,7 @@ module _ (pairs : List Pair) (words : ℕ) (opens : CanOpen pairs words) where
       are = following ∙ ap (λ es. es ++ (first ∷ rest.0)) mid.1
 
       has : slice_get (changes_of pairs words log) (length front) ≡ Some first
-      has =
-          subst (λ es. slice_get es (length front) ≡ Some first) (sym following)
+      has = subst (λ es. slice_get es (length front) ≡ Some first) (sym following)
           (get_at front rest.0 first)
 
       it : IsEntryOf pairs words log (length front) base

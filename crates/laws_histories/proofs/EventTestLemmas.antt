@@ -4,15 +4,9 @@ use Rattle.std.proofs.lemmas.Bool.Decides.{nat_tests}
 use Rattle.std.proofs.lemmas.Bool.{eqb-true}
 use Rattle.ist_core.specs.declared.events.Event.{Event}
 use Rattle.ist_core.specs.declared.events.Event.TheVariants.{Pass, Mark, Finish}
-use Rattle.ist_core.specs.References.{Ref, Empty, LeafAt, InnerAt, ChangeAt, ref_of, unset_word}
-use Rattle.ist_core.specs.Statuses.{finished_word}
-use Rattle.ist_core.specs.Pieces.{Piece, Inner}
-use Rattle.ist_core.specs.Snapshots.{Snapshot}
-use Rattle.ist_core.specs.Logs.{Log, state, Happened, Passes}
-use Rattle.ist_core.specs.Rebuilding.{IsFinishedWith}
-use Rattle.ist_core.specs.Marking.{as_child, CanMark, CanPass, CountsFor, no_key, one_key, of_child, ArePassed, past_end, one_passed, CanFinish}
-use Rattle.ist_core.specs.Enabled.{Enabled}
-use Rattle.ist_core.specs.Lawful.{EachEnabled}
+use Rattle.ist_core.specs.WordTerms.{Ref, Empty, LeafAt, InnerAt, ChangeAt, ref_of, unset_word, finished_word, Piece, Inner}
+use Rattle.ist_core.specs.LogTerms.{Snapshot, Log, state, Happened, Passes, Enabled, EachEnabled}
+use Rattle.ist_core.specs.TreeTerms.{IsFinishedWith, as_child, CanMark, CanPass, CountsFor, no_key, one_key, of_child, ArePassed, past_end, one_passed, CanFinish}
 
 -- ---- numbers
 
@@ -60,8 +54,7 @@ pass_here node i _ = None
 abbrev pub pass_in : (node i : ℕ) (log : Log)
     → Option ((word : ℕ) × Happened (Passes node i word) log)
 pass_in node i [] = None
-pass_in node i (event ∷ log) =
-    either (then (pass_here node i event) (λ p. Some (p.0, inl p.1)))
+pass_in node i (event ∷ log) = either (then (pass_here node i event) (λ p. Some (p.0, inl p.1)))
     (then (pass_in node i log) (λ p. Some (p.0, inr p.1)))
 
 -- the reference is the row
@@ -91,8 +84,7 @@ call_in t node (event ∷ log) =
 
 -- the test whether the row at the base may be marked
 abbrev pub mark_by : (t : Snapshot) (log : Log) (caller node : ℕ) (o : Option Piece)
-    → t.pieces node ≡ o
-    → Option (CanMark t log caller node)
+    → t.pieces node ≡ o → Option (CanMark t log caller node)
 mark_by t log caller node (Some (Inner r)) e =
     then (less caller t.callers) (λ known. then (equal r.status 0) (λ row_open.
     then (call_in t node log) (λ p.
@@ -116,28 +108,26 @@ pub record IsNoChangeWord (word : ℕ) : Type 0 where
 -- 7 is Unset, which no reference below is
 pub plain_leaf : (word base : ℕ) → ref_of word ≡ Some (LeafAt base) → IsNoChangeWord word
 unfolding ref_of
-plain_leaf word base e =
-    record {
-      no_change = λ change k. cc;
-      set = λ k.
-          let at : ref_of 7 ≡ Some (LeafAt base) =
-          subst (λ w. ref_of w ≡ Some (LeafAt base)) k e
-          in
-          cc;
-    }
+plain_leaf word base e = record {
+  no_change = λ change k. cc;
+  set = λ k.
+      let at : ref_of 7 ≡ Some (LeafAt base) =
+      subst (λ w. ref_of w ≡ Some (LeafAt base)) k e
+      in
+      cc;
+}
 
 -- the word of an inner row is plain
 pub plain_row : (word base : ℕ) → ref_of word ≡ Some (InnerAt base) → IsNoChangeWord word
 unfolding ref_of
-plain_row word base e =
-    record {
-      no_change = λ change k. cc;
-      set = λ k.
-          let at : ref_of 7 ≡ Some (InnerAt base) =
-          subst (λ w. ref_of w ≡ Some (InnerAt base)) k e
-          in
-          cc;
-    }
+plain_row word base e = record {
+  no_change = λ change k. cc;
+  set = λ k.
+      let at : ref_of 7 ≡ Some (InnerAt base) =
+      subst (λ w. ref_of w ≡ Some (InnerAt base)) k e
+      in
+      cc;
+}
 
 -- the word is plain, or nothing is said
 abbrev pub plain_by : (word : ℕ) (o : Option Ref) → ref_of word ≡ o → Option (IsNoChangeWord word)
@@ -174,8 +164,7 @@ pass_by t caller node i word _ e = None
 -- the row is finished with some number of keys
 abbrev pub finished_by : (t : Snapshot) (node : ℕ) (o : Option Piece) → t.pieces node ≡ o
     → Option ((k : ℕ) × IsFinishedWith t node k)
-finished_by t node (Some (Inner r)) e =
-    then (equal r.status (finished_word (r.status / 4)))
+finished_by t node (Some (Inner r)) e = then (equal r.status (finished_word (r.status / 4)))
     (λ status. Some (r.status / 4, record { row = r; published = e; status = status }))
 finished_by t node _ e = None
 
@@ -198,8 +187,7 @@ counts_by t log node i (slot ∷ slots) =
 
 -- the row may be finished
 abbrev pub finish_by : (t : Snapshot) (log : Log) (caller node k : ℕ) (o : Option Piece)
-    → t.pieces node ≡ o
-    → Option (CanFinish t log caller node k)
+    → t.pieces node ≡ o → Option (CanFinish t log caller node k)
 finish_by t log caller node k (Some (Inner r)) e =
     then (less caller t.callers) (λ known. then (equal r.status 1) (λ marked.
     then (counts_by t log node 0 r.slots) (λ p. then (equal p.0 k) (λ same.
@@ -217,10 +205,8 @@ finish_by t log caller node k _ e = None
 -- the event is enabled, or nothing is said
 abbrev pub enabled_by : (first : Snapshot) (log : Log) (event : Event)
     → Option (Enabled first log event)
-enabled_by first log (Mark c n) =
-    let t = state first log in mark_by t log c n (t.pieces n) refl
-enabled_by first log (Pass c n i w) =
-    let t = state first log in pass_by t c n i w (t.pieces n) refl
+enabled_by first log (Mark c n) = let t = state first log in mark_by t log c n (t.pieces n) refl
+enabled_by first log (Pass c n i w) = let t = state first log in pass_by t c n i w (t.pieces n) refl
 enabled_by first log (Finish c n k) =
     let t = state first log in finish_by t log c n k (t.pieces n) refl
 enabled_by first log _ = None

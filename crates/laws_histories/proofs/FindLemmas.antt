@@ -3,23 +3,12 @@ use Rattle.std.proofs.Common.{◌≡◌, ◌≢◌, ℕ, ◌<◌, List, ◌∷�
 use Rattle.ist_core.specs.declared.pairs.Pair.{Pair}
 use Rattle.ist_core.specs.declared.states.InnerRow.{InnerRow}
 use Rattle.ist_core.specs.declared.events.Event.{Event}
-use Rattle.ist_core.specs.Arithmetic.{child_count}
-use Rattle.ist_core.specs.RowLayout.{anchor}
-use Rattle.ist_core.specs.References.{Ref, Unset, InnerAt, ref_of}
-use Rattle.ist_core.specs.Pieces.{Pieces, Leaf, Inner}
-use Rattle.ist_core.specs.Snapshots.{Snapshot}
-use Rattle.ist_core.specs.StartLayout.{start}
-use Rattle.ist_core.specs.Logs.{Log}
-use Rattle.ist_core.specs.Slots.{SlotHolds, in_anchor, in_row, IsChildFor, of_anchor, of_row, past_rebuild, logical}
-use Rattle.ist_core.specs.Links.{Leads, from_anchor, down}
-use Rattle.ist_core.specs.Changes.{value_in}
-use Rattle.ist_core.specs.Lawful.{EachEnabled, CanOpen, state_of}
-use Rattle.ist_core.proofs.GrowingLemmas.{leaf_there, inner_there}
-use Rattle.ist_core.proofs.PlaceLemmas.{anchor_free}
-use Rattle.ist_core.proofs.SlotLemmas.{no_row}
-use Rattle.ist_core.proofs.OrderLemmas.{names, child_above}
-use Rattle.ist_core.proofs.OptionLemmas.{same_leaf, same_inner}
-use Rattle.ist_core.proofs.FateLemmas.{grow_after}
+use Rattle.ist_core.specs.WordTerms.{child_count, anchor, Ref, Unset, InnerAt, ref_of, Pieces, Leaf, Inner, start, SlotHolds, in_anchor, in_row, IsChildFor, of_anchor, of_row, past_rebuild, logical}
+use Rattle.ist_core.specs.LogTerms.{Snapshot, Log, EachEnabled, CanOpen, state_of}
+use Rattle.ist_core.specs.TreeTerms.{Leads, from_anchor, down, value_in}
+use Rattle.ist_core.proofs.AllLogLemmas.{leaf_there, inner_there, grow_after}
+use Rattle.ist_core.proofs.AllPlaceLemmas.{anchor_free, no_row, names, child_above}
+use Rattle.ist_core.proofs.AllWordLemmas.{same_leaf, same_inner}
 use Rattle.laws_histories.specs.Finding.{Finds, in_nothing, in_leaf, in_node, Gives}
 use Rattle.laws_histories.proofs.ReadLemmas.{ReadsAs, Turns, reads_step}
 use Rattle.laws_histories.proofs.SeenLemmas.{row_holds}
@@ -48,8 +37,7 @@ finds_set ps key _ _ (in_node r f g h) e = cc
 
 -- what is found from a slot on to which the key leads is what the tree gives
 pub finds_above : (t : Snapshot) (key node i word : ℕ) (value : Option ℕ) → t.pieces anchor ≡ None
-    → Leads t key node
-    → IsChildFor t node key i → SlotHolds t node i word
+    → Leads t key node → IsChildFor t node key i → SlotHolds t node i word
     → Finds t.pieces key (logical t.pieces word) value → Gives t key value
 finds_above t key node i word value free led index (in_anchor a b e) f =
     subst (λ w. Finds t.pieces key (logical t.pieces w) value) (sym e) f
@@ -100,9 +88,7 @@ module _ (pairs : List Pair) (words : ℕ) (opens : CanOpen pairs words) (log : 
   finds_step key alike _ _ (in_leaf {base = base} r e) =
       in_leaf r (leaf_there Before.pieces Following.pieces (grow_after pairs words log event h) base r e)
   finds_step key alike _ value (in_node {base = base} {word = word} r e g f) =
-      let ref = logical Before.pieces word in
-      let i = child_count r.keys key in
-      ⊎_elim
+      let ref = logical Before.pieces word in let i = child_count r.keys key in ⊎_elim
       (λ read. finds_through key base i r ref value e refl read (finds_step key alike ref value f))
       (λ turn. finds_through key base i r (past_rebuild Before.pieces (ref_of turn.change.to)) value e refl turn.now (alike base i ref value turn f))
       (reads_step pairs words opens log event h base i ref (finds_set Before.pieces key ref value f) record { word = word; holds = in_row r e g; reads = refl })
@@ -110,8 +96,7 @@ module _ (pairs : List Pair) (words : ℕ) (opens : CanOpen pairs words) (log : 
   -- what the anchor's slot reads as is what the tree reads as
   anchor_reads : (key : ℕ) (ref : Option Ref) (value : Option ℕ) → ReadsAs Following anchor 0 ref
       → Finds Following.pieces key ref value → Gives Following key value
-  anchor_reads key ref value read f =
-      subst (λ x. Finds Following.pieces key x value)
+  anchor_reads key ref value read f = subst (λ x. Finds Following.pieces key x value)
       (sym (ap (logical Following.pieces) (at read.holds) ∙ read.reads)) f
     where
       at : SlotHolds Following anchor 0 read.word → Following.anchor ≡ read.word
@@ -124,9 +109,7 @@ module _ (pairs : List Pair) (words : ℕ) (opens : CanOpen pairs words) (log : 
       → ((node i : ℕ) (ref : Option Ref) (value : Option ℕ) (turn : Turns Before Following event node i ref) → Finds Before.pieces key ref value
       → Finds Following.pieces key (past_rebuild Before.pieces (ref_of turn.change.to)) value)
       → (value : Option ℕ) → Gives Before key value → Gives Following key value
-  gives_step key alike value f =
-      let ref = logical Before.pieces Before.anchor in
-      ⊎_elim
+  gives_step key alike value f = let ref = logical Before.pieces Before.anchor in ⊎_elim
       (λ read. anchor_reads key ref value read (finds_step key alike ref value f))
       (λ turn. anchor_reads key (past_rebuild Before.pieces (ref_of turn.change.to)) value turn.now (alike anchor 0 ref value turn f))
       (reads_step pairs words opens log event h anchor 0 ref (finds_set Before.pieces key ref value f) record { word = Before.anchor; holds = in_anchor refl refl refl; reads = refl })
@@ -144,10 +127,8 @@ module _ (pairs : List Pair) (words : ℕ) (opens : CanOpen pairs words) (log : 
   finds_high key node here _ _ high (in_leaf {base = base} r e) =
       in_leaf r (leaf_there Before.pieces Following.pieces (grow_after pairs words log event h) base r e)
   finds_high key node here _ value high (in_node {base = base} {word = word} r e g f) =
-      let ref = logical Before.pieces word in
-      let i = child_count r.keys key in
-      let up = high base refl in
-      let o = names pairs words opens log h.0 in
+      let ref = logical Before.pieces word in let i = child_count r.keys key in
+      let up = high base refl in let o = names pairs words opens log h.0 in
       let above : IsHigh node ref = λ child is.
       (let more = child_above Before base i child o record { word = word; holds = in_row r e g; reads = is } in omega arith) in
       ⊎_elim

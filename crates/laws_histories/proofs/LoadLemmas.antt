@@ -7,46 +7,24 @@ use Rattle.ist_core.specs.declared.pairs.Pair.{Pair}
 use Rattle.ist_core.specs.declared.states.InnerRow.{InnerRow}
 use Rattle.ist_core.specs.declared.states.LeafRow.{LeafRow}
 use Rattle.ist_core.specs.declared.states.ChangeRow.{ChangeRow}
-use Rattle.ist_core.specs.RowLayout.{anchor, anchor_slot_place, slot_place}
-use Rattle.ist_core.specs.References.{Ref, Empty, Unset, LeafAt, InnerAt, ChangeAt, RebuildAt, ref_of}
-use Rattle.ist_core.specs.Statuses.{decided_yes}
-use Rattle.ist_core.specs.Pieces.{Piece, Leaf, Inner, Change, Rebuild, words_of, as_inner}
-use Rattle.ist_core.specs.Snapshots.{Snapshot}
-use Rattle.ist_core.specs.StartLayout.{start}
-use Rattle.ist_core.specs.After.{side_of}
-use Rattle.ist_core.specs.Logs.{Log, GoesOn}
-use Rattle.ist_core.specs.Slots.{SlotHolds, in_anchor, in_row, IsChildFor, of_anchor, of_row, rebuild_reads, past_rebuild, logical}
-use Rattle.ist_core.specs.Writing.{place_in, place_of_slot}
-use Rattle.ist_core.specs.Changes.{value_in}
-use Rattle.ist_core.specs.Growing.{AllGrow}
-use Rattle.ist_core.specs.Lawful.{EachEnabled, CanOpen, state_of}
-use Rattle.ist_core.proofs.GrowingLemmas.{leaf_there, change_there, rebuild_there}
-use Rattle.ist_core.proofs.FateLemmas.{enabled_before, grow_between}
-use Rattle.ist_core.proofs.PlaceLemmas.{anchor_free}
-use Rattle.ist_core.proofs.SlotLemmas.{no_row}
-use Rattle.ist_core.proofs.ShapedLemmas.{shaped}
-use Rattle.ist_core.proofs.ImageLemmas.{get-words_of_slot, has_word}
-use Rattle.ist_core.proofs.NamingLemmas.{IsChangeFor, IsRebuildFor, SideNames, SlotNames, slot_names, side_slot}
-use Rattle.ist_core.proofs.NamingStepLemmas.{side_names}
-use Rattle.ist_core.proofs.OrderLemmas.{names}
-use Rattle.ist_core.proofs.FreezingLemmas.{side_not_yes}
+use Rattle.ist_core.specs.WordTerms.{anchor, anchor_slot_place, slot_place, Ref, Empty, Unset, LeafAt, InnerAt, ChangeAt, RebuildAt, ref_of, decided_yes, Piece, Leaf, Inner, Change, Rebuild, words_of, as_inner, start, SlotHolds, in_anchor, in_row, IsChildFor, of_anchor, of_row, rebuild_reads, past_rebuild, logical}
+use Rattle.ist_core.specs.LogTerms.{Snapshot, side_of, Log, GoesOn, EachEnabled, CanOpen, state_of}
+use Rattle.ist_core.specs.TreeTerms.{place_in, place_of_slot, value_in, AllGrow}
+use Rattle.ist_core.proofs.AllLogLemmas.{leaf_there, change_there, rebuild_there, enabled_before, grow_between, side_not_yes, shown_in_anchor, shown_in_row, goes_on_more, past_no_change}
+use Rattle.ist_core.proofs.AllPlaceLemmas.{anchor_free, no_row, shaped, get-words_of_slot, has_word, IsChangeFor, IsRebuildFor, SideNames, SlotNames, slot_names, side_slot, side_names, names}
 use Rattle.laws_links.proofs.ReadLemmas.{side_yes}
-use Rattle.ist_core.proofs.ShownLemmas.{shown_in_anchor, shown_in_row}
-use Rattle.ist_core.proofs.PrefixLemmas.{goes_on_more}
-use Rattle.ist_core.proofs.FrozenLemmas.{past_no_change}
 use Rattle.laws_histories.specs.Finding.{Finds, in_nothing, in_leaf}
 use Rattle.laws_histories.specs.Loads.{log_at, IsLoad}
 use Rattle.laws_histories.specs.Searching.{ReadsSide, no_change, by_to, by_from, ReadsTarget, no_rebuild, by_target, LooksAt, ComesTo, begins, goes_down, ReadsValue, of_nothing, of_other, of_key}
 use Rattle.laws_histories.proofs.ReadLemmas.{change_logical}
-use Rattle.laws_histories.proofs.LoadOnLemmas.{at_on, at_rises}
+use Rattle.laws_histories.proofs.ChangeLemmas.{at_on, at_rises}
 use Rattle.laws_histories.proofs.SearchLemmas as search
 
 -- ---- words of rows
 
 -- a load from a published row
 pub load_word : (pairs : List Pair) (words : ℕ) (log : Log) (place least : ℕ) (load : Load)
-    → IsLoad pairs words log place least load
-    → (base k word : ℕ) (p : Piece)
+    → IsLoad pairs words log place least load → (base k word : ℕ) (p : Piece)
     → (state_of pairs words (log_at log load.length)).pieces base ≡ Some p → place ≡ base + k
     → slice_get (words_of p) k ≡ Some word → load.word ≡ word
 load_word pairs words log place least load h base k word p e is read =
@@ -54,8 +32,7 @@ load_word pairs words log place least load h base k word p e is read =
 
 -- the place of a slot that isn't the anchor's
 slot_of_row : (t : Snapshot) (node i : ℕ) (r : InnerRow) → node ≢ anchor
-    → t.pieces node ≡ Some (Inner r)
-    → place_of_slot t node i ≡ slot_place node r.degree i
+    → t.pieces node ≡ Some (Inner r) → place_of_slot t node i ≡ slot_place node r.degree i
 slot_of_row t node i r out e = at (node == anchor) refl ∙ ap (place_in node i) (ap as_inner e)
   where
     at : (v : Bool) → (node == anchor) ≡ v
@@ -96,17 +73,14 @@ module _ (pairs : List Pair) (words : ℕ) (opens : CanOpen pairs words) (log : 
   pub slot_load : (key least node i : ℕ) (slot : Load) → IsChildFor (At slot.length) node key i
       → IsLoad pairs words log (place_of_slot (At slot.length) node i) least slot
       → SlotHolds (At slot.length) node i slot.word
-  slot_load key least node i slot (of_anchor a b) load =
-      in_anchor a b
+  slot_load key least node i slot (of_anchor a b) load = in_anchor a b
       (sym (load.tells (At slot.length).anchor (shown_in_anchor (load.place_is ∙ slot_of_anchor (At slot.length) node i a) refl)))
-  slot_load key least node i slot (of_row r e is) load =
-      let t = At slot.length in
+  slot_load key least node i slot (of_row r e is) load = let t = At slot.length in
       let out : node ≢ anchor =
       λ a. no_row t.pieces node r (anchor_free pairs words (log_at log slot.length) (enabled_at slot.length)) a e in
       let shape =
       shaped pairs words (log_at log slot.length) (enabled_at slot.length) node (Inner r) e in
-      let keys = shape.keys in
-      let slots = shape.slots in
+      let keys = shape.keys in let slots = shape.slots in
       let few = count_by-le-length (λ k. nat_le k key) r.keys in
       let word = has_word r.slots i (omega arith) in
       let place : place_of_slot t node i ≡ node + (4 + length r.keys + i) =
@@ -128,16 +102,13 @@ module _ (pairs : List Pair) (words : ℕ) (opens : CanOpen pairs words) (log : 
 
   -- a side of a change, by its decision
   side_told : (node i : ℕ) (slot : Load) (base : ℕ) (decision side : Load) (k : ℕ)
-      → SlotHolds (At slot.length) node i slot.word
-      → ref_of slot.word ≡ Some (ChangeAt base)
+      → SlotHolds (At slot.length) node i slot.word → ref_of slot.word ≡ Some (ChangeAt base)
       → IsLoad pairs words log (base + 0) slot.length decision
       → IsLoad pairs words log (base + k) slot.length side
       → ((x y : ChangeRow) → decision.word ≡ x.decision → y.from ≡ x.from → y.to ≡ x.to → slice_get (words_of (Change y)) k ≡ Some (side_of x))
       → SideTold node i slot side.word decision.length
-  side_told node i slot base decision side k held is by with choice =
-      let a = At slot.length in
-      let t = At decision.length in
-      let u = At side.length in
+  side_told node i slot base decision side k held is by with choice = let a = At slot.length in
+      let t = At decision.length in let u = At side.length in
       let o = names pairs words opens (log_at log slot.length) (enabled_at slot.length) in
       let named = change_named (slot_names a node i slot.word o held) in
       let x =
@@ -159,14 +130,11 @@ module _ (pairs : List Pair) (words : ℕ) (opens : CanOpen pairs words) (log : 
       (Change x.0) x.1 in
       let node_is : x.0.node ≡ node = ap (λ c. c.node) x.2.others ∙ named.node_is in
       let index : x.0.index ≡ i = ap (λ c. c.index) x.2.others ∙ named.index in
-      let side_is = side_names t.pieces x.0.node x.0.index x.0 row.0 row.1 in
-      record {
+      let side_is = side_names t.pieces x.0.node x.0.index x.0 row.0 row.1 in record {
         since = by.since;
-        reads =
-            change_logical t.pieces slot.word base x.0 is x.1
+        reads = change_logical t.pieces slot.word base x.0 is x.1
             ∙ ap (λ w. past_rebuild t.pieces (ref_of w)) (sym word);
-        names_it =
-            subst (λ w. SlotNames t.pieces node i (ref_of w)) (sym word)
+        names_it = subst (λ w. SlotNames t.pieces node i (ref_of w)) (sym word)
             (side_slot t.pieces node i (ref_of (side_of x.0)) (subst (λ n. SideNames t.pieces n i (ref_of (side_of x.0))) node_is (subst (λ j. SideNames t.pieces x.0.node j (ref_of (side_of x.0))) index side_is)));
       }
     where
@@ -177,15 +145,12 @@ module _ (pairs : List Pair) (words : ℕ) (opens : CanOpen pairs words) (log : 
   -- what a slot read as, by its loads
   sided : (node i : ℕ) (slot : Load) (side last : ℕ) → SlotHolds (At slot.length) node i slot.word
       → ReadsSide pairs words log slot side last → SideTold node i slot side last
-  sided node i slot _ _ held (no_change plain) =
-      let t = At slot.length in
-      record {
-        since = le_refl slot.length;
-        reads = ap (past_rebuild t.pieces) (past_no_change t.pieces (ref_of slot.word) plain);
-        names_it =
-            slot_names t node i slot.word
-            (names pairs words opens (log_at log slot.length) (enabled_at slot.length)) held;
-      }
+  sided node i slot _ _ held (no_change plain) = let t = At slot.length in record {
+    since = le_refl slot.length;
+    reads = ap (past_rebuild t.pieces) (past_no_change t.pieces (ref_of slot.word) plain);
+    names_it = slot_names t node i slot.word
+        (names pairs words opens (log_at log slot.length) (enabled_at slot.length)) held;
+  }
   sided node i slot _ _ held (by_to base decision side is load yes_word other) =
       side_told node i slot base decision side 5 held is load other
       (λ x y dec from to. ap (λ w. Some w) (to_word x y.to (sym dec ∙ yes_word) to))
@@ -207,8 +172,7 @@ module _ (pairs : List Pair) (words : ℕ) (opens : CanOpen pairs words) (log : 
       at (LeafAt base) is plain = ap (past_rebuild (At last).pieces) is
       at (InnerAt base) is plain = ap (past_rebuild (At last).pieces) is
       at (ChangeAt base) is plain = ap (past_rebuild (At last).pieces) is
-  target_told node i side last _ named (by_target base target is load) =
-      let t = At last in
+  target_told node i side last _ named (by_target base target is load) = let t = At last in
       let here : IsRebuildFor t.pieces node i base =
       subst (λ ref. SlotNames t.pieces node i ref) is named in
       let x =
@@ -224,11 +188,9 @@ module _ (pairs : List Pair) (words : ℕ) (opens : CanOpen pairs words) (log : 
   pub look_of : (key least last node : ℕ) (ref : Ref)
       → LooksAt pairs words log key least last node ref
       → search.Look pairs words key (log_at log least) (log_at log last) node (Some ref)
-  look_of key least last node ref look =
-      let slot = look.slot in
+  look_of key least last node ref look = let slot = look.slot in
       let held = slot_load key least node look.index slot look.index_is look.is_load in
-      let told = sided node look.index slot look.side last held look.side_is in
-      record {
+      let told = sided node look.index slot look.side last held look.side_is in record {
         index = look.index;
         word = slot.word;
         loaded = log_at log slot.length;
@@ -252,8 +214,7 @@ module _ (pairs : List Pair) (words : ℕ) (opens : CanOpen pairs words) (log : 
 
   -- what the loads of a leaf give is what is found there at an earlier moment
   pub value_of : (at : Log) (key least : ℕ) (ref : Ref) (value found : Option ℕ)
-      → GoesOn at (log_at log least)
-      → ReadsValue pairs words log key least ref value
+      → GoesOn at (log_at log least) → ReadsValue pairs words log key least ref value
       → Finds (state_of pairs words at).pieces key (Some ref) found → value ≡ found
   value_of at key least _ _ _ g of_nothing in_nothing = refl
   value_of at key least _ _ _ g (of_other {base = base} load is_load other) (in_leaf r e) =
@@ -263,15 +224,13 @@ module _ (pairs : List Pair) (words : ℕ) (opens : CanOpen pairs words) (log : 
       let word =
       load_word pairs words log (base + 0) least load is_load base 0 r.key
       (Leaf r) there refl refl in
-      let differs : (r.key == key) ≡ false = grind (arith, nat_tests) in
-      sym (leaf_none r differs)
+      let differs : (r.key == key) ≡ false = grind (arith, nat_tests) in sym (leaf_none r differs)
     where
       leaf_none : (r : LeafRow) → (r.key == key) ≡ false → value_in (Some (Leaf r)) key ≡ None
       leaf_none r e = rw e refl
   value_of at key least _ _ _ g (of_key {base = base} load value is_load same is_value) (in_leaf r e) =
       let on : (x : Load) → least ≤ x.length → (At x.length).pieces base ≡ Some (Leaf r) =
-      λ x since.
-      leaf_there (state_of pairs words at).pieces (At x.length).pieces
+      λ x since. leaf_there (state_of pairs words at).pieces (At x.length).pieces
       (grow_between pairs words at (log_at log x.length) (enabled_at x.length) (goes_on_more g (at_rises log least x.length since)))
       base r e in
       let word =

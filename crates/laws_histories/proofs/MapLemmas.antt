@@ -7,11 +7,8 @@ use Rattle.std.specs.FinMap as fin
 use Rattle.std.specs.FinMap.{gets, same_map, nat_cmp-IsAntisymmetric}
 use Rattle.ist_core.specs.declared.commands.Command.{Command}
 use Rattle.ist_core.specs.declared.commands.Command.TheVariants.{Put, Remove, Get}
-use Rattle.ist_core.specs.Map.{Map, map_after, reply_to, replay}
-use Rattle.ist_core.specs.Replies.{Answered}
-use Rattle.ist_core.specs.Changes.{Entry, map_after_entries}
-use Rattle.ist_core.specs.Standing.{makes_entry}
-use Rattle.ist_core.specs.Histories.{told_by_entry, IsLegal}
+use Rattle.ist_core.specs.TreeTerms.{Map, map_after, reply_to, replay, Entry, map_after_entries, makes_entry}
+use Rattle.ist_core.specs.LogTerms.{Answered, told_by_entry, IsLegal}
 use Rattle.laws_histories.specs.Telling.{AreLegal}
 
 -- ---- lists of commands
@@ -43,16 +40,14 @@ map_told m history = replay m (map (λ told. told.command) history)
 pub legal_append : (m : Map) (xs ys : List Answered) → IsLegal m xs → IsLegal (map_told m xs) ys
     → IsLegal m (xs ++ ys)
 legal_append m [] ys h k = k
-legal_append m (x ∷ xs) ys h k =
-    same_cons _ _ _ _ (same_head _ _ _ _ h)
+legal_append m (x ∷ xs) ys h k = same_cons _ _ _ _ (same_head _ _ _ _ h)
     (legal_append (map_after m x.command) xs ys (same_tail _ _ _ _ h) k)
 
 -- ---- commands that leave the map
 
 -- a remove of a key that isn't there leaves the map
 remove_none : (m : Map) (key : ℕ) → fin.get m key ≡ None → fin.remove m key ≡ m
-remove_none m key h =
-    same_map nat_cmp_total nat_cmp-IsAntisymmetric _ _
+remove_none m key h = same_map nat_cmp_total nat_cmp-IsAntisymmetric _ _
     (λ q. ⊎_elim (λ e. (let i = e.1 in grind (arith, nat_tests, gets))) (λ e. (let i = e.1 in grind (arith, nat_tests, gets))) (eqb_tells q key))
 
 -- a reply is a value or none
@@ -79,13 +74,11 @@ map_told-entries m (entry ∷ entries) = map_told-entries (map_after m entry.com
 -- together
 pub entries_append : (m : Map) (xs ys : List Entry) → AreLegal m xs → AreLegal (map_after_entries m xs) ys
     → AreLegal m (xs ++ ys)
-entries_append m xs ys h k =
-    subst (λ hs. IsLegal m hs) (sym (map-append told_by_entry xs ys))
+entries_append m xs ys h k = subst (λ hs. IsLegal m hs) (sym (map-append told_by_entry xs ys))
     (legal_append m (map told_by_entry xs) (map told_by_entry ys) h (subst (λ n. AreLegal n ys) (sym (map_told-entries m xs)) k))
 
 -- the map after two lists of entries is the map after the second on the map after the first
 pub map_after_entries-append : (m : Map) (xs ys : List Entry)
     → map_after_entries m (xs ++ ys) ≡ map_after_entries (map_after_entries m xs) ys
-map_after_entries-append m xs ys =
-    ap (replay m) (map-append (λ e. e.command) xs ys)
+map_after_entries-append m xs ys = ap (replay m) (map-append (λ e. e.command) xs ys)
     ∙ replay-append m (map (λ e. e.command) xs) (map (λ e. e.command) ys)

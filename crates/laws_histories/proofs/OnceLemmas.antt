@@ -5,14 +5,10 @@ use Rattle.std.proofs.lemmas.List.{map-append}
 use Rattle.std.proofs.lemmas.List.Sorted.{IsPermutation-refl, IsPermutation-sym, IsPermutation-cons, IsPermutation-map, IsPermutation-append_left, IsPermutation-append_right, IsPermutation-trans, IsPermutation-middle, IsPermutation-append_comm, IsPermutation-filter_both}
 use Rattle.std.specs.List.Sorted.{IsPermutation}
 use Rattle.ist_core.specs.declared.pairs.Pair.{Pair}
-use Rattle.ist_core.specs.Map.{map_of}
-use Rattle.ist_core.specs.Elements.{Among, Each}
-use Rattle.ist_core.specs.StartLayout.{start}
-use Rattle.ist_core.specs.Logs.{Log, GoesOn}
-use Rattle.ist_core.specs.Changes.{Entry, changes_of}
-use Rattle.ist_core.specs.Standing.{IsRead, StandsIn}
-use Rattle.ist_core.specs.Histories.{PassCalls, StandInPrefixes, Reading, readings, comes_first, put_in, in_order, at_position, told_by_entry, told_by_reading, woven_from}
-use Rattle.ist_core.proofs.ElementLemmas.{each-among, each_of}
+use Rattle.ist_core.specs.TreeTerms.{map_of, Entry, changes_of, IsRead, StandsIn}
+use Rattle.ist_core.specs.LogTerms.{Among, Each, Log, GoesOn, PassCalls, StandInPrefixes, Reading, readings, comes_first, put_in, in_order, at_position, told_by_entry, told_by_reading, woven_from}
+use Rattle.ist_core.specs.WordTerms.{start}
+use Rattle.ist_core.proofs.AllWordLemmas.{each-among, each_of}
 use Rattle.laws_histories.specs.Placing.{Item, change_at, reading_by, told_by, changes_from, items}
 use Rattle.laws_histories.proofs.ChangeLemmas.{changes_on, read_on}
 use Rattle.laws_histories.proofs.WovenLemmas.{of_passes, among-in_order}
@@ -22,12 +18,10 @@ use Rattle.laws_histories.proofs.WovenLemmas.{of_passes, among-in_order}
 -- inserting a reading keeps each reading once
 put_in_moves : (x : Reading) (ys : List Reading) → IsPermutation (x ∷ ys) (put_in x ys)
 put_in_moves x [] = IsPermutation-refl (x ∷ [])
-put_in_moves x (y ∷ ys) =
-    elim (comes_first x y) as
+put_in_moves x (y ∷ ys) = elim (comes_first x y) as
     (λ v. IsPermutation (x ∷ y ∷ ys) (if v then x ∷ y ∷ ys else y ∷ put_in x ys)) [
       | true ↦ IsPermutation-refl (x ∷ y ∷ ys)
-      | false ↦
-          IsPermutation-trans (x ∷ y ∷ ys) (y ∷ x ∷ ys) (y ∷ put_in x ys)
+      | false ↦ IsPermutation-trans (x ∷ y ∷ ys) (y ∷ x ∷ ys) (y ∷ put_in x ys)
           (IsPermutation-sym (y ∷ x ∷ ys) (x ∷ y ∷ ys) (IsPermutation-middle (y ∷ []) x ys))
           (IsPermutation-cons y (x ∷ ys) (put_in x ys) (put_in_moves x ys))
     ]
@@ -35,8 +29,7 @@ put_in_moves x (y ∷ ys) =
 -- in order they are the same ones
 in_order_moves : (xs : List Reading) → IsPermutation xs (in_order xs)
 in_order_moves [] = IsPermutation-refl []
-in_order_moves (x ∷ xs) =
-    IsPermutation-trans (x ∷ xs) (x ∷ in_order xs) (put_in x (in_order xs))
+in_order_moves (x ∷ xs) = IsPermutation-trans (x ∷ xs) (x ∷ in_order xs) (put_in x (in_order xs))
     (IsPermutation-cons x xs (in_order xs) (in_order_moves xs)) (put_in_moves x (in_order xs))
 
 -- ---- readings by position
@@ -57,8 +50,7 @@ here_only position [] = refl
 here_only position (x ∷ xs) = grind (arith, nat_tests, here_only position xs)
 
 -- the others are those from the next position on
-after_only : (position : ℕ) (xs : List Reading)
-    → filter (λ x. not (is_at position x))
+after_only : (position : ℕ) (xs : List Reading) → filter (λ x. not (is_at position x))
     (from_position position xs) ≡ from_position (position + 1) xs
 unfolding from_position is_at
 after_only position [] = refl
@@ -84,8 +76,7 @@ from_first (x ∷ xs) =
 -- the items from a position on: the readings there, then the change there, and so on
 abbrev pub placed_from : ℕ → List Entry → List Reading → List Item
 placed_from position [] xs = map reading_by (at_position position xs)
-placed_from position (entry ∷ entries) xs =
-    map reading_by
+placed_from position (entry ∷ entries) xs = map reading_by
     (at_position position xs) ++ (change_at position entry ∷ placed_from (position + 1) entries xs)
 
 -- readings as items have the same commands and replies
@@ -107,8 +98,7 @@ told_placed position (entry ∷ entries) xs =
 
 -- two lists before a third, in the other order
 exchange : (xs ys zs : List Item) → IsPermutation (xs ++ (ys ++ zs)) (ys ++ (xs ++ zs))
-exchange xs ys zs =
-    subst (λ ls. IsPermutation ls (ys ++ (xs ++ zs))) (append_assoc xs ys zs)
+exchange xs ys zs = subst (λ ls. IsPermutation ls (ys ++ (xs ++ zs))) (append_assoc xs ys zs)
     (subst (λ ls. IsPermutation ((xs ++ ys) ++ zs) ls) (append_assoc ys xs zs) (IsPermutation-append_left zs (xs ++ ys) (ys ++ xs) (IsPermutation-append_comm xs ys)))
 
 -- readings from a position on, as items
@@ -116,8 +106,7 @@ split : (position : ℕ) (xs : List Reading)
     → IsPermutation (map reading_by (from_position position xs))
     (map reading_by (at_position position xs) ++ map reading_by (from_position (position + 1) xs))
 unfolding is_at
-split position xs =
-    let ys = from_position position xs in
+split position xs = let ys = from_position position xs in
     let both =
     IsPermutation-filter_both (is_at position) (λ x. not (is_at position x)) (λ x. refl) ys in
     let parted =
@@ -139,8 +128,7 @@ placed_moves position [] xs h =
     (let same : position + 0 ≡ position = omega arith in same) h in
     subst (λ ys. IsPermutation (map reading_by (from_position position xs)) (map reading_by ys))
     (last_only position xs low) (IsPermutation-refl (map reading_by (from_position position xs)))
-placed_moves position (entry ∷ entries) xs h =
-    let first = change_at position entry in
+placed_moves position (entry ∷ entries) xs h = let first = change_at position entry in
     let front = changes_from (position + 1) entries in
     let from = map reading_by (from_position position xs) in
     let here = map reading_by (at_position position xs) in
@@ -169,8 +157,7 @@ pub placed_once : (pairs : List Pair) (words : ℕ) (log : Log) (passes : List P
     → StandInPrefixes pairs words log passes
     → IsPermutation (items (changes_of pairs words log) passes)
     (placed_from 0 (changes_of pairs words log) (in_order (readings passes)))
-placed_once pairs words log passes all =
-    let entries = changes_of pairs words log in
+placed_once pairs words log passes all = let entries = changes_of pairs words log in
     let xs = readings passes in
     let low =
     each_of (λ x. x.call.position ≤ 0 + length entries) (in_order xs)
@@ -183,13 +170,11 @@ placed_once pairs words log passes all =
   where
     within : (x : Reading) → Among x (readings passes)
         → x.call.position ≤ 0 + length (changes_of pairs words log)
-    within x i =
-        let it = of_passes passes x i in
+    within x i = let it = of_passes passes x i in
         let stands =
         each-among (λ pass. (prefix : Log) × GoesOn prefix log × StandsIn pairs words prefix pass.number pass.calls) it.0 passes all it.1 in
         let on = changes_on (start pairs words) stands.0 log stands.1 in
         let read : IsRead (map_of pairs) (changes_of pairs words log) x.call =
         subst (λ es. IsRead (map_of pairs) es x.call) (sym on.1)
         (read_on (map_of pairs) (changes_of pairs words stands.0) on.0 x.call (stands.2.read x.call it.2.call it.2.plain)) in
-        let low = read.within in
-        omega arith
+        let low = read.within in omega arith

@@ -4,31 +4,20 @@ use Rattle.std.proofs.lemmas.List.{map-append, take-append-drop}
 use Rattle.std.specs.List.{flat_map}
 use Rattle.ist_core.specs.declared.pairs.Pair.{Pair}
 use Rattle.ist_core.specs.declared.states.LeafRow.{LeafRow}
-use Rattle.ist_core.specs.Arithmetic.{part_lens}
-use Rattle.ist_core.specs.RowLayout.{anchor, first_row}
-use Rattle.ist_core.specs.References.{Ref, ref_of}
-use Rattle.ist_core.specs.Elements.{Among, Each}
-use Rattle.ist_core.specs.Parts.{cut, parts}
-use Rattle.ist_core.specs.Pieces.{Pieces, Piece, Leaf}
-use Rattle.ist_core.specs.StartLayout.{start, tree_at, placed_parts, rows_within, rows_from}
-use Rattle.ist_core.specs.Slots.{past_change, past_rebuild, logical}
-use Rattle.ist_core.specs.Leaves.{PlacedLeaf, pair_of, HasLeaves, none_here, leaf_here, row_here, SlotsHaveLeaves, no_slot, one_slot, HasContents}
-use Rattle.ist_core.specs.Lawful.{CanOpen}
-use Rattle.ist_core.proofs.ElementLemmas.{among_left, among_right, each-among, each_append}
-use Rattle.ist_core.proofs.PieceLemmas.{among-pieces_of}
-use Rattle.ist_core.proofs.RisingLemmas.{AreRisingKeys}
-use Rattle.ist_core.proofs.SplitLemmas.{key_of_leaf, Splits, split_none, split_leaf, split_row, SplitAll, no_split, one_split}
-use Rattle.ist_core.proofs.StartTreeLemmas.{start_hangs, start_anchor}
-use Rattle.ist_core.proofs.LeafOrderLemmas.{rises_from_next}
-use Rattle.laws_links.proofs.IdealLeafLemmas.{joined, joined_parts}
-use Rattle.laws_histories.proofs.ValueLemmas.{same_pair}
+use Rattle.ist_core.specs.WordTerms.{part_lens, anchor, first_row, Ref, ref_of, cut, parts, Pieces, Piece, Leaf, start, tree_at, placed_parts, rows_within, rows_from, past_change, past_rebuild, logical}
+use Rattle.ist_core.specs.LogTerms.{Among, Each, CanOpen}
+use Rattle.ist_core.specs.TreeTerms.{PlacedLeaf, pair_of, HasLeaves, none_here, leaf_here, row_here, SlotsHaveLeaves, no_slot, one_slot, HasContents}
+use Rattle.ist_core.proofs.AllWordLemmas.{among_left, among_right, each-among, each_append, among-pieces_of}
+use Rattle.ist_core.proofs.AllPlaceLemmas.{AreRisingKeys, key_of_leaf, Splits, split_none, split_leaf, split_row, SplitAll, no_split, one_split, rises_from_next}
+use Rattle.ist_core.proofs.AllEventLemmas.{start_hangs, start_anchor}
+use Rattle.laws_links.proofs.ReadLemmas.{joined, joined_parts}
+use Rattle.laws_histories.proofs.BelowLemmas.{same_pair}
 
 -- ---- the leaves of a tree over keys
 
 -- a tree over keys reads as itself
 split_plain : {A : Type 0} (key : A → ℕ) (ps : Pieces) (ref : Ref) (xs : List A) (rows : List ℕ)
-    → Splits key ps ref xs rows
-    → (word : ℕ) → ref_of word ≡ Some ref → logical ps word ≡ Some ref
+    → Splits key ps ref xs rows → (word : ℕ) → ref_of word ≡ Some ref → logical ps word ≡ Some ref
 split_plain key ps _ _ _ split_none word e = ap (λ x. past_rebuild ps (past_change ps x)) e
 split_plain key ps _ _ _ (split_leaf r f is) word e = ap (λ x. past_rebuild ps (past_change ps x)) e
 split_plain key ps _ _ _ (split_row r f two keys below) word e =
@@ -63,13 +52,11 @@ module _ {A : Type 0} (key : A → ℕ) (ps : Pieces) where
     split_all_leaves _ _ _ no_split = record { leaves = []; reached = no_slot; keys = refl }
     split_all_leaves _ _ _ (one_split {word = word} {words = words} {here = here} {rest = rest} {part = part} {following = following} ref e first more) =
         let one = split_leaves ref part here first in
-        let others = split_all_leaves words following rest more in
-        record {
+        let others = split_all_leaves words following rest more in record {
           leaves = one.leaves ++ others.leaves;
           reached =
               one_slot (subst (λ x. HasLeaves ps x one.leaves) (sym (split_plain key ps ref part here first word e)) one.reached) others.reached;
-          keys =
-              map-append key_of_leaf one.leaves others.leaves
+          keys = map-append key_of_leaf one.leaves others.leaves
               ∙ ap (λ ks. ks ++ map key_of_leaf others.leaves) one.keys
               ∙ ap (λ ks. map key part ++ ks) others.keys
               ∙ sym (map-append key part (joined following));
@@ -112,8 +99,7 @@ among_zip p (x ∷ xs) (y ∷ ys) (inr i) = inr (among_zip p xs ys i)
 each_flat_map : {A B : Type 0} (P : B → Type 0) (f : A → List B) (xs : List A)
     → ((x : A) → Among x xs → Each P (f x)) → Each P (flat_map f xs)
 each_flat_map P f [] all = tt
-each_flat_map P f (x ∷ xs) all =
-    each_append P (f x) (flat_map f xs) (all x (inl refl))
+each_flat_map P f (x ∷ xs) all = each_append P (f x) (flat_map f xs) (all x (inl refl))
     (each_flat_map P f xs (λ y i. all y (inr i)))
 
 -- the rows of a tree over pairs have leaves of these pairs
@@ -146,8 +132,7 @@ same_pairs : (xs ys all : List Pair) → AreRisingKeys (λ p. p.key) all
 same_pairs [] [] all rise e h k = refl
 same_pairs [] (y ∷ ys) all rise e h k = absurd (cc)
 same_pairs (x ∷ xs) [] all rise e h k = absurd (cc)
-same_pairs (x ∷ xs) (y ∷ ys) all rise e h k =
-    let one = same_pair x y all rise h.0 k.0 (cc) in
+same_pairs (x ∷ xs) (y ∷ ys) all rise e h k = let one = same_pair x y all rise h.0 k.0 (cc) in
     let rest = same_pairs xs ys all rise (cc) h.1 k.1 in
     ap (λ p. p ∷ xs) one ∙ ap (λ ps. y ∷ ps) rest
 
@@ -186,8 +171,7 @@ pair_keys (leaf ∷ leaves) = ap (λ ks. leaf.row.key ∷ ks) (pair_keys leaves)
 -- the contents of a new table are its pairs
 pub start_contents : (pairs : List Pair) (words : ℕ) → CanOpen pairs words
     → HasContents (start pairs words) pairs
-start_contents pairs words opens =
-    let t = start pairs words in
+start_contents pairs words opens = let t = start pairs words in
     let hang = start_hangs pairs words opens anchor (omega arith) in
     let it =
     split_leaves (λ pair. pair.key) t.pieces
@@ -198,8 +182,7 @@ start_contents pairs words opens =
     (start_anchor pairs words opens) in
     let published : (base : ℕ) (r : LeafRow) → t.pieces base ≡ Some (Leaf r) → Among (record { key = r.key; value = r.value }) pairs =
     λ base r e. each-among (IsLeafOfPairs pairs) (base, Leaf r) (rows_from first_row pairs) (rows_of (length pairs) first_row pairs pairs (λ p i. i)) (among-pieces_of (rows_from first_row pairs) base (Leaf r) e) r refl in
-    let rise = rises_from_next (λ pair. pair.key) pairs opens.rising in
-    record {
+    let rise = rises_from_next (λ pair. pair.key) pairs opens.rising in record {
       leaves = it.leaves;
       reached = subst (λ ref. HasLeaves t.pieces ref it.leaves) (sym reads) it.reached;
       pairs_are =

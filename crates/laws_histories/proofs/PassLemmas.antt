@@ -1,10 +1,8 @@
 -- The words with which slots were passed. Serves the search law.
 use Rattle.std.proofs.Common.{◌≢◌, ℕ, [], ◌∷◌, Some, inl, inr}
-use Rattle.ist_core.specs.References.{Unset, ChangeAt, ref_of}
-use Rattle.ist_core.specs.Snapshots.{Snapshot}
-use Rattle.ist_core.specs.Logs.{Log, Happened, Passes}
-use Rattle.ist_core.specs.Lawful.{EachEnabled}
-use Rattle.ist_core.proofs.InstallNamingLemmas.{not_unset}
+use Rattle.ist_core.specs.WordTerms.{Unset, ChangeAt, ref_of}
+use Rattle.ist_core.specs.LogTerms.{Snapshot, Log, Happened, Passes, EachEnabled}
+use Rattle.ist_core.proofs.AllEventLemmas.{not_unset}
 use Rattle.laws_links.proofs.PassLemmas.{passing}
 
 -- a word with which a slot may be passed: it is set, and no change

@@ -2,11 +2,9 @@
 use Rattle.std.proofs.Common.{◌≡◌, ℕ, ◌+◌, ◌<◌, ◌≤◌, ◌==◌, nat_lt, if◌then◌else◌, Bool, true, false, List, [], ◌∷◌, ◌++◌, map, refl, inl, inr, arith}
 use Rattle.std.proofs.lemmas.Bool.Decides.{nat_tests}
 use Rattle.ist_core.specs.declared.pairs.Pair.{Pair}
-use Rattle.ist_core.specs.Elements.{Each}
-use Rattle.ist_core.specs.Logs.{Log}
-use Rattle.ist_core.specs.Changes.{Entry, changes_of}
-use Rattle.ist_core.specs.Histories.{PassCalls, StandInPrefixes, Reading, readings, comes_first, put_in, in_order, at_position}
-use Rattle.ist_core.proofs.ElementLemmas.{each_append}
+use Rattle.ist_core.specs.LogTerms.{Each, Log, PassCalls, StandInPrefixes, Reading, readings, comes_first, put_in, in_order, at_position}
+use Rattle.ist_core.specs.TreeTerms.{Entry, changes_of}
+use Rattle.ist_core.proofs.AllWordLemmas.{each_append}
 use Rattle.laws_histories.specs.Placing.{Item, change_at, reading_by, StandsBefore, AllInOrder, HasPlaces}
 use Rattle.laws_histories.proofs.OnceLemmas.{placed_from, told_placed, placed_once}
 
@@ -61,11 +59,9 @@ put_in_rises x (y ∷ ys) h = at (put_in_rises x ys h.1) (comes_first x y) refl
   where
     at : StampsRise (put_in x ys) → (v : Bool) → comes_first x y ≡ v
         → StampsRise (if v then x ∷ y ∷ ys else y ∷ put_in x ys)
-    at rest true e =
-        let low : x.call.stamp ≤ y.call.stamp = first_low x y e in
+    at rest true e = let low : x.call.stamp ≤ y.call.stamp = first_low x y e in
         ((low, each_higher x.call.stamp y.call.stamp low ys h.0), h)
-    at rest false e =
-        let high : y.call.stamp ≤ x.call.stamp = last_high x y e in
+    at rest false e = let high : y.call.stamp ≤ x.call.stamp = last_high x y e in
         (each_put_in (λ z. y.call.stamp ≤ z.call.stamp) x ys high h.0, rest)
 
 -- readings in order have stamps that don't fall
@@ -102,8 +98,7 @@ here_from position [] = tt
 here_from position (x ∷ xs) = at (here_from position xs) (x.call.position == position) refl
   where
     at : Each (IsFrom position) (map reading_by (at_position position xs)) → (v : Bool)
-        → (x.call.position == position) ≡ v
-        → Each (IsFrom position)
+        → (x.call.position == position) ≡ v → Each (IsFrom position)
         (map reading_by (if v then x ∷ at_position position xs else at_position position xs))
     at rest true e =
         (let same : x.call.position ≡ position = grind (arith, nat_tests) in omega arith, rest)
@@ -118,8 +113,7 @@ one_before position x same (y ∷ ys) h =
     at (one_before position x same ys h.1) (y.call.position == position) refl
   where
     at : Each (StandsBefore (reading_by x)) (map reading_by (at_position position ys)) → (v : Bool)
-        → (y.call.position == position) ≡ v
-        → Each (StandsBefore (reading_by x))
+        → (y.call.position == position) ≡ v → Each (StandsBefore (reading_by x))
         (map reading_by (if v then y ∷ at_position position ys else at_position position ys))
     at rest true e =
         (inr (let there : y.call.position ≡ position = grind (arith, nat_tests) in omega arith, h.0), rest)
@@ -142,8 +136,7 @@ here_in_order position (x ∷ xs) h =
 
 -- readings at a position come before the change there, and before all later items
 here_before : (position : ℕ) (entry : Entry) (ys : List Item) → Each (IsFrom (position + 1)) ys
-    → (xs : List Reading)
-    → Each (λ x. Each (StandsBefore x) (change_at position entry ∷ ys))
+    → (xs : List Reading) → Each (λ x. Each (StandsBefore x) (change_at position entry ∷ ys))
     (map reading_by (at_position position xs))
 unfolding IsFrom
 here_before position entry ys h [] = tt
@@ -156,12 +149,10 @@ here_before position entry ys h (x ∷ xs) =
     following same (reading_by y) low = inl (omega arith)
 
     at : Each (λ z. Each (StandsBefore z) (change_at position entry ∷ ys))
-        (map reading_by (at_position position xs))
-        → (v : Bool) → (x.call.position == position) ≡ v
+        (map reading_by (at_position position xs)) → (v : Bool) → (x.call.position == position) ≡ v
         → Each (λ z. Each (StandsBefore z) (change_at position entry ∷ ys))
         (map reading_by (if v then x ∷ at_position position xs else at_position position xs))
-    at rest true e =
-        let same : x.call.position ≡ position = grind (arith, nat_tests) in
+    at rest true e = let same : x.call.position ≡ position = grind (arith, nat_tests) in
         ((omega arith, each_item (IsFrom (position + 1)) (StandsBefore (reading_by x)) (following same) ys h), rest)
     at rest false e = rest
 
@@ -172,8 +163,7 @@ unfolding IsFrom
 placed_high position [] xs = here_from position xs
 placed_high position (entry ∷ entries) xs =
     each_append (IsFrom position) (map reading_by (at_position position xs))
-    (change_at position entry ∷ placed_from (position + 1) entries xs)
-    (here_from position xs)
+    (change_at position entry ∷ placed_from (position + 1) entries xs) (here_from position xs)
     (omega arith, each_item (IsFrom (position + 1)) (IsFrom position) lower (placed_from (position + 1) entries xs) (placed_high (position + 1) entries xs))
   where
     lower : (item : Item) → IsFrom (position + 1) item → IsFrom position item
@@ -200,12 +190,9 @@ placed_in_order position (entry ∷ entries) xs h =
 
 -- the woven history has its places
 pub has_places : (pairs : List Pair) (words : ℕ) (log : Log) (passes : List PassCalls)
-    → StandInPrefixes pairs words log passes
-    → HasPlaces (changes_of pairs words log) passes
-has_places pairs words log passes all =
-    let entries = changes_of pairs words log in
-    let xs = in_order (readings passes) in
-    record {
+    → StandInPrefixes pairs words log passes → HasPlaces (changes_of pairs words log) passes
+has_places pairs words log passes all = let entries = changes_of pairs words log in
+    let xs = in_order (readings passes) in record {
       placed = placed_from 0 entries xs;
       told = told_placed 0 entries xs;
       once = placed_once pairs words log passes all;

@@ -1,17 +1,11 @@
 -- A table of three pairs, and what a put of it meets. Serves `examples`.
-use Rattle.std.proofs.Common.{◌≡◌, ℕ, zero, suc, [], ◌∷◌, map, Some, arith}
+use Rattle.std.proofs.Common.{◌≡◌, ℕ, zero, suc, [], ◌∷◌, map, Some, arith, ◌<◌, ◌⊎◌, refl, inl, inr}
 use Rattle.std.specs.List.Sorted.{IsStrictlyIncreasing}
 use Rattle.ist_core.specs.declared.states.LeafRow.{LeafRow}
 use Rattle.ist_core.specs.declared.states.InnerRow.{InnerRow}
 use Rattle.ist_core.specs.declared.states.ChangeRow.{ChangeRow}
-use Rattle.ist_core.specs.Arithmetic.{degree, square_root, root_up_to, part_len, part_lens}
-use Rattle.ist_core.specs.Shapes.{ideal_words, ideal_words_within}
-use Rattle.ist_core.specs.References.{LeafAt, ref_of}
-use Rattle.ist_core.specs.Statuses.{put_kind}
-use Rattle.ist_core.specs.Pieces.{Leaf, Inner}
-use Rattle.ist_core.specs.Snapshots.{Snapshot}
-use Rattle.ist_core.specs.StartLayout.{start}
-use Rattle.ist_core.specs.Lawful.{CanOpen}
+use Rattle.ist_core.specs.WordTerms.{degree, square_root, root_up_to, part_len, part_lens, ideal_words, ideal_words_within, LeafAt, ref_of, put_kind, Leaf, Inner, start}
+use Rattle.ist_core.specs.LogTerms.{Snapshot, CanOpen, IsFair, at_end, from_right, no_build}
 use Rattle.laws_histories.specs.ExampleRebuilds.{three_pairs}
 
 -- the table at its start
@@ -31,18 +25,17 @@ three_open = record { rising = rising; room = omega arith; within = omega arith 
 
 -- the put, with a decision
 abbrev pub again : ℕ → ℕ → ℕ → ChangeRow
-again from to decision =
-    record {
-      decision = decision;
-      kind = put_kind;
-      node = 11;
-      index = 0;
-      from = from;
-      to = to;
-      owner = 0;
-      key = 10;
-      value = 1;
-    }
+again from to decision = record {
+  decision = decision;
+  kind = put_kind;
+  node = 11;
+  index = 0;
+  from = from;
+  to = to;
+  owner = 0;
+  key = 10;
+  value = 1;
+}
 
 -- the leaf of the put
 abbrev pub ten : LeafRow
@@ -50,27 +43,25 @@ ten = record { key = 10; value = 1 }
 
 -- the left row, with a status, a count and the word in its first slot
 abbrev pub left : ℕ → ℕ → ℕ → InnerRow
-left status count word =
-    record {
-      status = status;
-      count = count;
-      degree = 2;
-      size = 2;
-      keys = 20 ∷ [];
-      slots = word ∷ 161 ∷ [];
-    }
+left status count word = record {
+  status = status;
+  count = count;
+  degree = 2;
+  size = 2;
+  keys = 20 ∷ [];
+  slots = word ∷ 161 ∷ [];
+}
 
 -- the top row, with a status and the word in its first slot
 abbrev pub top : ℕ → ℕ → InnerRow
-top status word =
-    record {
-      status = status;
-      count = 0;
-      degree = 2;
-      size = 3;
-      keys = 30 ∷ [];
-      slots = word ∷ 177 ∷ [];
-    }
+top status word = record {
+  status = status;
+  count = 0;
+  degree = 2;
+  size = 3;
+  keys = 30 ∷ [];
+  slots = word ∷ 177 ∷ [];
+}
 
 -- the state before a put: both rows are as at the start, except for their counts, and the old leaf
 -- is in the slot
@@ -87,14 +78,9 @@ pub record IsBeforePut (t : Snapshot) (leaf from old count : ℕ) : Type 0 where
 
 -- the state before a put, part by part
 pub before_put : (t : Snapshot) (leaf from old count : ℕ) → t.callers ≡ 2 → t.next ≡ leaf
-    → t.words ≡ 200
-    → t.held ≡ []
-    → t.anchor ≡ 34
-    → t.pieces 4 ≡ Some (Inner (top 0 90))
-    → t.pieces 11 ≡ Some (Inner (left 0 count from))
-    → ref_of from ≡ Some (LeafAt old)
-    → t.pieces old ≡ Some (Leaf ten)
-    → IsBeforePut t leaf from old count
+    → t.words ≡ 200 → t.held ≡ [] → t.anchor ≡ 34 → t.pieces 4 ≡ Some (Inner (top 0 90))
+    → t.pieces 11 ≡ Some (Inner (left 0 count from)) → ref_of from ≡ Some (LeafAt old)
+    → t.pieces old ≡ Some (Leaf ten) → IsBeforePut t leaf from old count
 before_put t leaf from old count a b c d e f g h i = record {
   callers = a;
   next = b;
@@ -105,4 +91,77 @@ before_put t leaf from old count a b c d e f g h i = record {
   left_row = g;
   old_is = h;
   old_leaf = i;
+}
+
+-- ---- what the small logs' callers hold is fair. Serves `examples`.
+
+-- two sizes differ
+apart : (a b : ℕ) → a < b → (a ≡ b) ⊎ ⊥ → ⊥
+apart a b h (inl e) = omega arith
+apart a b h (inr e) = e
+
+-- a leaf is fair
+pub leaf_fair : (t : Snapshot) → IsFair t (2 ∷ [])
+leaf_fair t = record {
+  building = [];
+  spare = 2 ∷ [];
+  merge = from_right 2 at_end;
+  builds = no_build;
+  few = (inl refl, tt);
+  one_each = ((λ k. k), tt);
+}
+
+-- a leaf and a change are fair
+pub put_fair : (t : Snapshot) → IsFair t (2 ∷ 9 ∷ [])
+put_fair t = record {
+  building = [];
+  spare = 2 ∷ 9 ∷ [];
+  merge = from_right 2 (from_right 9 at_end);
+  builds = no_build;
+  few = (inl refl, (inr (inr (inr (inl refl))), tt));
+  one_each = ((λ k. apart 2 9 (omega arith) k), ((λ k. k), tt));
+}
+
+-- a rebuild is fair
+pub rebuild_fair : (t : Snapshot) → IsFair t (5 ∷ [])
+rebuild_fair t = record {
+  building = [];
+  spare = 5 ∷ [];
+  merge = from_right 5 at_end;
+  builds = no_build;
+  few = (inr (inl refl), tt);
+  one_each = ((λ k. k), tt);
+}
+
+-- holding a pair row is fair
+pub pair_fair : (t : Snapshot) → IsFair t (7 ∷ [])
+pair_fair t = record {
+  building = [];
+  spare = 7 ∷ [];
+  merge = from_right 7 at_end;
+  builds = no_build;
+  few = (inr (inr (inl refl)), tt);
+  one_each = ((λ k. k), tt);
+}
+
+-- holding a change is fair
+pub change_fair : (t : Snapshot) → IsFair t (9 ∷ [])
+change_fair t = record {
+  building = [];
+  spare = 9 ∷ [];
+  merge = from_right 9 at_end;
+  builds = no_build;
+  few = (inr (inr (inr (inl refl))), tt);
+  one_each = ((λ k. k), tt);
+}
+
+-- holding a rebuild and a change is fair
+pub start_fair : (t : Snapshot) → IsFair t (5 ∷ 9 ∷ [])
+start_fair t = record {
+  building = [];
+  spare = 5 ∷ 9 ∷ [];
+  merge = from_right 5 (from_right 9 at_end);
+  builds = no_build;
+  few = (inr (inl refl), (inr (inr (inr (inl refl))), tt));
+  one_each = ((λ k. apart 5 9 (omega arith) k), ((λ k. k), tt));
 }

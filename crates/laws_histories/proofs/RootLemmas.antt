@@ -3,27 +3,13 @@ use Rattle.std.proofs.Common.{◌≡◌, ◌≢◌, ℕ, List, map, Option, Some
 use Rattle.ist_core.specs.declared.pairs.Pair.{Pair}
 use Rattle.ist_core.specs.declared.states.ChangeRow.{ChangeRow}
 use Rattle.ist_core.specs.declared.states.RebuildRow.{RebuildRow}
-use Rattle.ist_core.specs.References.{Ref, Empty, Unset, LeafAt, InnerAt, ChangeAt, RebuildAt, ref_of, unset_word}
-use Rattle.ist_core.specs.Pieces.{Inner, Change, Rebuild}
-use Rattle.ist_core.specs.Snapshots.{Snapshot}
-use Rattle.ist_core.specs.StartLayout.{start}
-use Rattle.ist_core.specs.Logs.{Log}
-use Rattle.ist_core.specs.Slots.{rebuild_reads, past_rebuild}
-use Rattle.ist_core.specs.Leaves.{PlacedLeaf, pair_of, HasLeaves}
-use Rattle.ist_core.specs.Lawful.{EachEnabled, CanOpen, state_of}
-use Rattle.ist_core.proofs.PlaceLemmas.{anchor_free}
-use Rattle.ist_core.proofs.NamingLemmas.{IsRebuildFor, RootNames, SideNames}
-use Rattle.ist_core.proofs.InstallNamingLemmas.{not_unset}
-use Rattle.ist_core.proofs.OrderLemmas.{names}
-use Rattle.ist_core.proofs.HomeLemmas.{Mentions}
-use Rattle.ist_core.proofs.ParentLemmas.{one_home}
-use Rattle.ist_core.proofs.ShapedLemmas.{shaped}
-use Rattle.ist_core.proofs.LeadingLemmas.{LiesIn}
-use Rattle.ist_core.proofs.UnderLemmas.{ReadsAs}
-use Rattle.ist_core.proofs.LeafOrderLemmas.{leaves_lie}
+use Rattle.ist_core.specs.WordTerms.{Ref, Empty, Unset, LeafAt, InnerAt, ChangeAt, RebuildAt, ref_of, unset_word, Inner, Change, Rebuild, start, rebuild_reads, past_rebuild}
+use Rattle.ist_core.specs.LogTerms.{Snapshot, Log, EachEnabled, CanOpen, state_of}
+use Rattle.ist_core.specs.TreeTerms.{PlacedLeaf, pair_of, HasLeaves}
+use Rattle.ist_core.proofs.AllPlaceLemmas.{anchor_free, IsRebuildFor, RootNames, SideNames, names, Mentions, one_home, shaped, LiesIn, ReadsAs, leaves_lie}
+use Rattle.ist_core.proofs.AllEventLemmas.{not_unset}
 use Rattle.laws_histories.specs.Finding.{Finds}
-use Rattle.laws_histories.proofs.ValueLemmas.{value_of}
-use Rattle.laws_histories.proofs.BelowLemmas.{finds_value, table_says}
+use Rattle.laws_histories.proofs.BelowLemmas.{value_of, finds_value, table_says}
 use Rattle.laws_histories.proofs.FindLemmas.{finds_once}
 use Rattle.laws_links.proofs.ReturnLemmas.{one_inner}
 
@@ -46,14 +32,12 @@ module _ (pairs : List Pair) (words : ℕ) (opens : CanOpen pairs words) (log : 
   -- the target of a rebuild is named for its slot
   target_named : (node i base : ℕ) → IsRebuildFor Here.pieces node i base
       → ReadsAs Here node i (past_rebuild Here.pieces (Some (RebuildAt base)))
-  target_named node i base is =
-      let read = ap rebuild_reads is.published in
-      record {
-        a_leaf = λ leaf e. absurd (cc (sym read ∙ e));
-        a_row = λ child e.
-            (let same = one_inner is.row.target child (sym read ∙ e) in
-            inr (base, Rebuild is.row, is.published, (sym is.parent, sym is.index, inl (ap InnerAt same))));
-      }
+  target_named node i base is = let read = ap rebuild_reads is.published in record {
+    a_leaf = λ leaf e. absurd (cc (sym read ∙ e));
+    a_row = λ child e.
+        (let same = one_inner is.row.target child (sym read ∙ e) in
+        inr (base, Rebuild is.row, is.published, (sym is.parent, sym is.index, inl (ap InnerAt same))));
+  }
 
   -- the root of a rebuild in a slot names what may be in the slot
   root_named : (node i base : ℕ) (is : IsRebuildFor Here.pieces node i base)
@@ -84,8 +68,7 @@ module _ (pairs : List Pair) (words : ℕ) (opens : CanOpen pairs words) (log : 
   pub root_finds : (base rebuild : ℕ) (change : ChangeRow) (row : RebuildRow)
       → Here.pieces base ≡ Some (Change change)
       → ref_of change.from ≡ Some (RebuildAt rebuild) → Here.pieces rebuild ≡ Some (Rebuild row)
-      → change.to ≡ row.root → row.root ≢ unset_word
-      → (leaves : List PlacedLeaf)
+      → change.to ≡ row.root → row.root ≢ unset_word → (leaves : List PlacedLeaf)
       → HasLeaves Here.pieces (past_rebuild Here.pieces (ref_of change.from)) leaves
       → HasLeaves Here.pieces (past_rebuild Here.pieces (ref_of change.to)) leaves
       → (key : ℕ) (value : Option ℕ)

@@ -3,22 +3,12 @@ use Rattle.std.proofs.Common.{◌<◌, List, [], ◌∷◌, Some, refl, inl, ari
 use Rattle.ist_core.specs.declared.states.LeafRow.{LeafRow}
 use Rattle.ist_core.specs.declared.states.InnerRow.{InnerRow}
 use Rattle.ist_core.specs.declared.events.Event.TheVariants.{Reserve}
-use Rattle.ist_core.specs.Arithmetic.{degree, square_root, root_up_to, part_len, part_lens}
-use Rattle.ist_core.specs.Shapes.{ideal_words, ideal_words_within}
-use Rattle.ist_core.specs.References.{LeafAt, InnerAt, ref_of}
-use Rattle.ist_core.specs.Pieces.{Pieces, with_inners}
-use Rattle.ist_core.specs.StartLayout.{rows_within}
-use Rattle.ist_core.specs.Logs.{state, Log}
-use Rattle.ist_core.specs.Leaves.{PlacedLeaf, HasLeaves, leaf_here, row_here, no_slot, one_slot}
-use Rattle.ist_core.specs.Ideals.{IsTop, IsIdeal, of_one, of_more, no_part, one_part}
-use Rattle.ist_core.specs.Rebuilding.{IsStarted}
-use Rattle.ist_core.specs.Building.{CanRoot, root_whole}
-use Rattle.ist_core.specs.Enabled.{CanReserve}
-use Rattle.ist_core.specs.Lawful.{EachEnabled}
+use Rattle.ist_core.specs.WordTerms.{degree, square_root, root_up_to, part_len, part_lens, ideal_words, ideal_words_within, LeafAt, InnerAt, ref_of, Pieces, with_inners, rows_within, IsTop, IsIdeal, of_one, of_more, no_part, one_part}
+use Rattle.ist_core.specs.LogTerms.{state, Log, CanReserve, EachEnabled}
+use Rattle.ist_core.specs.TreeTerms.{PlacedLeaf, HasLeaves, leaf_here, row_here, no_slot, one_slot, IsStarted, CanRoot, root_whole}
 use Rattle.ist_core.proofs.RebuildExampleLemmas.{two_is_few}
 use Rattle.laws_histories.specs.ExampleRebuilds.{left_finished, new_left_rows, left_rooted}
-use Rattle.laws_histories.proofs.ReadyExampleLemmas.{three, ten, left}
-use Rattle.laws_histories.proofs.HeldExampleLemmas.{pair_fair}
+use Rattle.laws_histories.proofs.ReadyExampleLemmas.{three, ten, left, pair_fair}
 use Rattle.laws_histories.proofs.LeftExampleLemmas.{the_start, the_rebuild, left_finished_enabled}
 
 -- the new row may be reserved
@@ -50,64 +40,59 @@ new_left = left 0 0 809
 -- it is the top of an ideal subtree
 root_top : IsTop with_root_row 126 new_left both 11
 unfolding ref_of rows_within degree square_root root_up_to part_len part_lens ideal_words ideal_words_within
-root_top =
-    record {
-      published = refl;
-      two = omega arith;
-      higher = omega arith;
-      status = refl;
-      count = refl;
-      degree = refl;
-      size = refl;
-      keys = refl;
-    }
+root_top = record {
+  published = refl;
+  two = omega arith;
+  higher = omega arith;
+  status = refl;
+  count = refl;
+  degree = refl;
+  size = refl;
+  keys = refl;
+}
 
 -- the new row is an ideal subtree over the leaves
 root_ideal : IsIdeal with_root_row (InnerAt 126) both 11 (126 ∷ [])
 unfolding ref_of rows_within degree square_root root_up_to part_len part_lens ideal_words ideal_words_within
-root_ideal =
-    of_more new_left root_top
+root_ideal = of_more new_left root_top
     (one_part (LeafAt 101) refl (of_one refl refl)
     (one_part (LeafAt 20) refl (of_one refl refl) no_part))
 
 -- the rebuild is still started
 still_started : IsStarted (state three root_held) 112
 unfolding ref_of rows_within degree square_root root_up_to part_len part_lens ideal_words ideal_words_within
-still_started =
-    record {
-      base = 117;
-      change = the_start 1;
-      published = refl;
-      kind = refl;
-      decision = refl;
-      to = refl;
-    }
+still_started = record {
+  base = 117;
+  change = the_start 1;
+  published = refl;
+  kind = refl;
+  decision = refl;
+  to = refl;
+}
 
 -- the leaves of the target
 target_leaves : HasLeaves (state three root_held).pieces (Some (InnerAt 11)) both
 unfolding ref_of rows_within degree square_root root_up_to part_len part_lens ideal_words ideal_words_within
-target_leaves =
-    row_here (left 11 8 809) refl
+target_leaves = row_here (left 11 8 809) refl
     (one_slot (leaf_here ten refl) (one_slot (leaf_here twenty refl) no_slot))
 
 -- so the new row may become the root
 rooted : CanRoot (state three root_held) 0 112 1010 new_left_rows
 unfolding ref_of rows_within degree square_root root_up_to part_len part_lens ideal_words ideal_words_within
-rooted =
-    record {
-      known = omega arith;
-      row = the_rebuild 7;
-      published = refl;
-      started = still_started;
-      rootless = refl;
-      k = 2;
-      finished = record { row = left 11 8 809; published = refl; status = refl };
-      leaves = both;
-      reached = target_leaves;
-      root = root_whole (InnerAt 126) two_is_few refl root_ideal;
-      once = ((λ k. k), tt);
-      held = (inl refl, tt);
-    }
+rooted = record {
+  known = omega arith;
+  row = the_rebuild 7;
+  published = refl;
+  started = still_started;
+  rootless = refl;
+  k = 2;
+  finished = record { row = left 11 8 809; published = refl; status = refl };
+  leaves = both;
+  reached = target_leaves;
+  root = root_whole (InnerAt 126) two_is_few refl root_ideal;
+  once = ((λ k. k), tt);
+  held = (inl refl, tt);
+}
 
 -- the log is enabled until the rebuild has its root
 pub left_rooted_enabled : EachEnabled three left_rooted

@@ -3,27 +3,14 @@
 use Rattle.std.proofs.Common.{◌≡◌, ℕ, ◌<◌, ◌⊎◌, List, [], ◌∷◌, Option, Some, None, slice_get, refl, sym, ap, ◌∙◌, subst, inl, inr, ⊎_elim}
 use Rattle.ist_core.specs.declared.pairs.Pair.{Pair}
 use Rattle.ist_core.specs.declared.states.InnerRow.{InnerRow}
-use Rattle.ist_core.specs.Arithmetic.{child_count}
-use Rattle.ist_core.specs.RowLayout.{anchor}
-use Rattle.ist_core.specs.References.{Ref, InnerAt}
-use Rattle.ist_core.specs.Pieces.{Pieces, Inner}
-use Rattle.ist_core.specs.Snapshots.{Snapshot}
-use Rattle.ist_core.specs.StartLayout.{start}
-use Rattle.ist_core.specs.Logs.{Log, state, Ever, GoesOn, same_log, one_event}
-use Rattle.ist_core.specs.Slots.{SlotHolds, in_anchor, in_row, IsChildFor, of_anchor, of_row, logical}
-use Rattle.ist_core.specs.Links.{Leads, from_anchor, down}
-use Rattle.ist_core.specs.Lawful.{EachEnabled, CanOpen, state_of}
-use Rattle.ist_core.proofs.GrowingLemmas.{inner_there}
-use Rattle.ist_core.proofs.FateLemmas.{enabled_before, grow_between}
-use Rattle.ist_core.proofs.SlotLemmas.{no_row}
-use Rattle.ist_core.proofs.OrderLemmas.{names, child_above}
-use Rattle.ist_core.proofs.HomeLemmas.{mentioned_here}
-use Rattle.ist_core.proofs.MentionLemmas.{child_mentioned}
-use Rattle.ist_core.proofs.PrefixLemmas.{goes_on_more}
-use Rattle.ist_core.proofs.OptionLemmas.{same_inner}
+use Rattle.ist_core.specs.WordTerms.{child_count, anchor, Ref, InnerAt, Pieces, Inner, start, SlotHolds, in_anchor, in_row, IsChildFor, of_anchor, of_row, logical}
+use Rattle.ist_core.specs.LogTerms.{Snapshot, Log, state, Ever, GoesOn, same_log, one_event, EachEnabled, CanOpen, state_of}
+use Rattle.ist_core.specs.TreeTerms.{Leads, from_anchor, down}
+use Rattle.ist_core.proofs.AllLogLemmas.{inner_there, enabled_before, grow_between, goes_on_more}
+use Rattle.ist_core.proofs.AllPlaceLemmas.{no_row, names, child_above, mentioned_here, child_mentioned}
+use Rattle.ist_core.proofs.AllWordLemmas.{same_inner}
 use Rattle.laws_histories.specs.Finding.{Finds, in_node, Gives}
-use Rattle.laws_histories.proofs.NeedLemmas.{AllNeeds}
-use Rattle.laws_histories.proofs.LedLemmas.{WasLeft, led_on}
+use Rattle.laws_histories.proofs.LedLemmas.{AllNeeds, WasLeft, led_on}
 use Rattle.laws_histories.proofs.SeenLemmas.{Saw, saw_led, saw_left}
 
 -- ---- looks
@@ -49,12 +36,10 @@ pub data Comes (pairs : List Pair) (words key : ℕ) (first : Log) : Log → ℕ
 
 -- a search reaches its nodes at later logs
 pub comes_on : (pairs : List Pair) (words key : ℕ) (first now : Log) (node : ℕ)
-    → Comes pairs words key first now node
-    → GoesOn first now
+    → Comes pairs words key first now node → GoesOn first now
 comes_on pairs words key first _ _ begins = same_log
 comes_on pairs words key first _ _ (goes {before = before} {now = now} {node = node} c look) =
-    goes_on_more (comes_on pairs words key first before node c)
-    (goes_on_more look.after look.later)
+    goes_on_more (comes_on pairs words key first before node c) (goes_on_more look.after look.later)
 
 -- ---- the node that a search has reached
 
@@ -76,8 +61,7 @@ module _ (pairs : List Pair) (words : ℕ) (opens : CanOpen pairs words)
       let left : WasLeft pairs words key first look.loaded node → Saw pairs words key first now node ref = λ w.
       saw_left pairs words opens needs key first look.loaded now look.later h node look.index look.word ref w look.index_is look.held look.reads in
       ⊎_elim
-      (λ led.
-      ⊎_elim
+      (λ led. ⊎_elim
       (λ x.
       let s =
       saw_led pairs words opens needs key look.loaded now look.later h node look.index look.word ref x look.index_is look.held look.reads in
@@ -96,18 +80,15 @@ module _ (pairs : List Pair) (words : ℕ) (opens : CanOpen pairs words)
 
   -- a node that a search has reached is led to, or was until it was finished
   pub standing : (first now : Log) (node : ℕ) → EachEnabled (start pairs words) now
-      → Comes pairs words key first now node
-      → LedOrFinished pairs words key first now node
+      → Comes pairs words key first now node → LedOrFinished pairs words key first now node
   standing first _ _ h begins = inl from_anchor
   standing first _ _ h (goes {before = before} {now = now} {node = node} {child = child} c look) =
       let l =
-      enabled_before (start pairs words) before now
-      (goes_on_more look.after look.later) h in
+      enabled_before (start pairs words) before now (goes_on_more look.after look.later) h in
       let s =
       saw first before now (comes_on pairs words key first before node c) h node
       (Some (InnerAt child)) (standing first before node l c) look in
-      ⊎_elim
-      (λ x. inl x)
+      ⊎_elim (λ x. inl x)
       (λ w. inr record { at = w.at; since = goes_on_more s.since w.since; until = w.until; led = w.led; finished = w.finished })
       (led_on pairs words opens needs s.at now s.until h key child (saw_led_down first now node child s))
 
@@ -118,16 +99,14 @@ module _ (pairs : List Pair) (words : ℕ) (opens : CanOpen pairs words)
       → Saw pairs words key first now node ref
   seen first before now node ref h c look =
       let l =
-      enabled_before (start pairs words) before now
-      (goes_on_more look.after look.later) h in
+      enabled_before (start pairs words) before now (goes_on_more look.after look.later) h in
       saw first before now (comes_on pairs words key first before node c) h node ref
       (standing first before node l c) look
 
   -- a look that leads to a child leads up
   pub goes_up : (first before now : Log) (node child : ℕ) → EachEnabled (start pairs words) now
       → Comes pairs words key first before node
-      → Look pairs words key before now node (Some (InnerAt child))
-      → node < child
+      → Look pairs words key before now node (Some (InnerAt child)) → node < child
   goes_up first before now node child h c look =
       let s = seen first before now node (Some (InnerAt child)) h c look in
       child_above (state_of pairs words s.at) node s.index child
@@ -180,8 +159,7 @@ row_finds ps key base value r i word (in_node {word = other} x e g f) there is r
 
 -- what the tree gives the key is found from a slot on to which the key leads
 pub finds_below : (t : Snapshot) (key node i word : ℕ) (value : Option ℕ) → t.pieces anchor ≡ None
-    → Leads t key node
-    → IsChildFor t node key i → SlotHolds t node i word → Gives t key value
+    → Leads t key node → IsChildFor t node key i → SlotHolds t node i word → Gives t key value
     → Finds t.pieces key (logical t.pieces word) value
 finds_below t key node i word value free led index (in_anchor a b e) f =
     subst (λ w. Finds t.pieces key (logical t.pieces w) value) e f

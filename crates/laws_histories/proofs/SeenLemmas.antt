@@ -4,38 +4,20 @@ use Rattle.ist_core.specs.declared.pairs.Pair.{Pair}
 use Rattle.ist_core.specs.declared.states.InnerRow.{InnerRow}
 use Rattle.ist_core.specs.declared.states.ChangeRow.{ChangeRow}
 use Rattle.ist_core.specs.declared.events.Event.TheVariants.{Decide}
-use Rattle.ist_core.specs.Arithmetic.{child_count}
-use Rattle.ist_core.specs.References.{Ref, ChangeAt, ref_of, word_of}
-use Rattle.ist_core.specs.Statuses.{decided_yes}
-use Rattle.ist_core.specs.Pieces.{Inner, Change, with_decision}
-use Rattle.ist_core.specs.Snapshots.{Snapshot}
-use Rattle.ist_core.specs.StartLayout.{start}
-use Rattle.ist_core.specs.Logs.{Log, Happened, Passes, GoesOn, same_log, one_event}
-use Rattle.ist_core.specs.Slots.{SlotHolds, in_anchor, in_row, IsChildFor, of_anchor, of_row, past_rebuild, logical}
-use Rattle.ist_core.specs.Links.{Leads}
-use Rattle.ist_core.specs.Freezing.{KeepsWord, holds_it, holds_change}
-use Rattle.ist_core.specs.Lawful.{EachEnabled, CanOpen, state_of}
-use Rattle.ist_core.proofs.RowLemmas.{changed_at-same}
-use Rattle.ist_core.proofs.GrowingLemmas.{inner_there, change_there, child_remains, get_alike}
-use Rattle.ist_core.proofs.FateLemmas.{enabled_before, grow_between}
-use Rattle.ist_core.proofs.PlaceLemmas.{anchor_free}
-use Rattle.ist_core.proofs.SlotLemmas.{slot_once, no_row}
-use Rattle.ist_core.proofs.NamingLemmas.{SideNames, SlotNames, IsChangeFor, slot_names}
-use Rattle.ist_core.proofs.OrderLemmas.{names}
-use Rattle.ist_core.proofs.SlotStepLemmas.{slot_stays}
-use Rattle.ist_core.proofs.FreezingLemmas.{change_read, side_not_yes}
+use Rattle.ist_core.specs.WordTerms.{child_count, Ref, ChangeAt, ref_of, word_of, decided_yes, Inner, Change, with_decision, start, SlotHolds, in_anchor, in_row, IsChildFor, of_anchor, of_row, past_rebuild, logical}
+use Rattle.ist_core.specs.LogTerms.{Snapshot, Log, Happened, Passes, GoesOn, same_log, one_event, EachEnabled, CanOpen, state_of}
+use Rattle.ist_core.specs.TreeTerms.{Leads, KeepsWord, holds_it, holds_change}
+use Rattle.ist_core.proofs.AllWordLemmas.{changed_at-same, same_change, same_inner}
+use Rattle.ist_core.proofs.AllLogLemmas.{inner_there, change_there, child_remains, get_alike, enabled_before, grow_between, change_read, side_not_yes, goes_on_more, past_no_change}
+use Rattle.ist_core.proofs.AllPlaceLemmas.{anchor_free, slot_once, no_row, SideNames, SlotNames, IsChangeFor, slot_names, names, slot_stays}
 use Rattle.ist_core.proofs.FrozenLemmas as frozen
-use Rattle.ist_core.proofs.PrefixLemmas.{goes_on_more}
-use Rattle.ist_core.proofs.OptionLemmas.{same_change, same_inner}
-use Rattle.ist_core.proofs.FrozenLemmas.{past_no_change}
 use Rattle.laws_links.specs.Linking.{IsFinished}
 use Rattle.laws_links.proofs.FormLemmas.{finished_grows}
 use Rattle.laws_links.proofs.InductionLemmas.{sound_after}
 use Rattle.laws_links.proofs.ReadLemmas.{side_yes, plain_side}
 use Rattle.laws_histories.proofs.PassLemmas.{passed_plain}
-use Rattle.laws_histories.proofs.NeedLemmas.{AllNeeds}
+use Rattle.laws_histories.proofs.LedLemmas.{AllNeeds, led_step, WasLeft, led_on}
 use Rattle.laws_histories.proofs.ReadLemmas.{side_reads, change_logical, IsTurned, word_reads, ReadsAs}
-use Rattle.laws_histories.proofs.LedLemmas.{led_step, WasLeft, led_on}
 use Rattle.laws_histories.proofs.DecisionLemmas.{unfinished, turning, never_yes}
 
 -- after some log in between the node was led to, and its slot for the key read as this reference
@@ -51,8 +33,7 @@ pub record Saw (pairs : List Pair) (words key : ℕ) (earlier log : Log) (node :
 
 -- what a slot of an inner row holds is in its list
 pub row_holds : (t : Snapshot) (node i word : ℕ) (r : InnerRow) → t.pieces 2 ≡ None
-    → t.pieces node ≡ Some (Inner r)
-    → SlotHolds t node i word → slice_get r.slots i ≡ Some word
+    → t.pieces node ≡ Some (Inner r) → SlotHolds t node i word → slice_get r.slots i ≡ Some word
 row_holds t node i word r free e (in_row s f g) =
     ap (λ x. slice_get x.slots i) (same_inner (t.pieces node) r s e f) ∙ g
 row_holds t node i word r free e (in_anchor a b c) = absurd (no_row t.pieces node r free a e)
@@ -72,16 +53,11 @@ module _ (pairs : List Pair) (words : ℕ) (opens : CanOpen pairs words)
   saw_turned key loaded now g h node i word ref led index it reads =
       let turn =
       turning pairs words loaded now g h it.base it.old it.new it.published it.not_yet it.later it.yes in
-      let mid = turn.at in
-      let log = Decide turn.caller it.base true ∷ mid in
+      let mid = turn.at in let log = Decide turn.caller it.base true ∷ mid in
       let m = enabled_before (start pairs words) log now turn.until h in
-      let first = state_of pairs words loaded in
-      let t = state_of pairs words mid in
-      let u = state_of pairs words log in
-      let last = state_of pairs words now in
-      let can = m.1 in
-      let n = needs mid m.0 in
-      let to_mid = grow_between pairs words loaded mid m.0 turn.since in
+      let first = state_of pairs words loaded in let t = state_of pairs words mid in
+      let u = state_of pairs words log in let last = state_of pairs words now in let can = m.1 in
+      let n = needs mid m.0 in let to_mid = grow_between pairs words loaded mid m.0 turn.since in
       let old = change_there first.pieces t.pieces to_mid it.base it.old it.published in
       let same = same_change (t.pieces it.base) old.0 can.change old.1 can.pending.published in
       let node_is : can.change.node ≡ node =
@@ -109,32 +85,25 @@ module _ (pairs : List Pair) (words : ℕ) (opens : CanOpen pairs words)
       let to : it.new.to ≡ can.change.to =
       ap (λ c. c.to) (same_change (last.pieces it.base) it.new later.0 it.later later.1)
       ∙ ap (λ c. c.to) later.2.others in
-      let row = (names pairs words opens log m).rows it.base (Change turned) there in
-      record {
+      let row = (names pairs words opens log m).rows it.base (Change turned) there in record {
         at = log;
         since = one_event (Decide turn.caller it.base true) turn.since;
         until = turn.until;
         led = led_now;
         index = i;
-        index_is =
-            child_remains first u
+        index_is = child_remains first u
             (grow_between pairs words loaded log m (one_event (Decide turn.caller it.base true) turn.since)) node key i index;
-        read =
-            record {
-              word = word_of (ChangeAt it.base);
-              holds =
-                  slot_stays (start pairs words) mid (Decide turn.caller it.base true) can
-                  (sound_after pairs words mid m.0) tt node i (word_of (ChangeAt it.base)) slot;
-              reads =
-                  change_logical u.pieces (word_of (ChangeAt it.base)) it.base turned
-                  (change_read pairs words opens log m it.base turned there) there
-                  ∙ ap (λ w. past_rebuild u.pieces (ref_of w)) (side_yes turned refl)
-                  ∙ sym (side_reads u.pieces last.pieces on turned.node turned.index (ref_of turned.to) row.1)
-                  ∙ ap (λ w. past_rebuild last.pieces (ref_of w))
-                  (sym (side_yes it.new it.yes ∙ to))
-                  ∙ sym (change_logical last.pieces word it.base it.new it.is it.later)
-                  ∙ reads;
-            };
+        read = record {
+          word = word_of (ChangeAt it.base);
+          holds = slot_stays (start pairs words) mid (Decide turn.caller it.base true) can
+              (sound_after pairs words mid m.0) tt node i (word_of (ChangeAt it.base)) slot;
+          reads = change_logical u.pieces (word_of (ChangeAt it.base)) it.base turned
+              (change_read pairs words opens log m it.base turned there) there
+              ∙ ap (λ w. past_rebuild u.pieces (ref_of w)) (side_yes turned refl)
+              ∙ sym (side_reads u.pieces last.pieces on turned.node turned.index (ref_of turned.to) row.1)
+              ∙ ap (λ w. past_rebuild last.pieces (ref_of w)) (sym (side_yes it.new it.yes ∙ to))
+              ∙ sym (change_logical last.pieces word it.base it.new it.is it.later) ∙ reads;
+        };
       }
 
   -- the node is led to when the slot is loaded
@@ -147,8 +116,7 @@ module _ (pairs : List Pair) (words : ℕ) (opens : CanOpen pairs words)
       → Saw pairs words key loaded now node ref
   saw_led key loaded now g h node i word ref led index slot reads =
       let o = names pairs words opens loaded (enabled_before (start pairs words) loaded now g h) in
-      let first = state_of pairs words loaded in
-      ⊎_elim
+      let first = state_of pairs words loaded in ⊎_elim
       (λ same. record { at = loaded; since = same_log; until = g; led = led; index = i; index_is = index; read = record { word = word; holds = slot; reads = sym same ∙ reads } })
       (λ it. saw_turned key loaded now g h node i word ref led index it reads)
       (word_reads first (state_of pairs words now) (grow_between pairs words loaded now h g) o node i (ref_of word) (slot_names first node i word o slot))
@@ -164,12 +132,10 @@ module _ (pairs : List Pair) (words : ℕ) (opens : CanOpen pairs words) where
       t = state_of pairs words log
 
       at : KeepsWord t log node i v → SideNames t.pieces node i (ref_of v)
-      at (holds_it k) =
-          let plain = passed_plain (start pairs words) log node i v h p in
+      at (holds_it k) = let plain = passed_plain (start pairs words) log node i v h p in
           plain_side t.pieces node i (ref_of v)
           (slot_names t node i v (names pairs words opens log h) k) plain.set plain.no_change
-      at (holds_change x) =
-          let o = names pairs words opens log h in
+      at (holds_change x) = let o = names pairs words opens log h in
           let here : IsChangeFor t.pieces node i x.base =
           subst (λ ref. SlotNames t.pieces node i ref)
           (change_read pairs words opens log h x.base x.change x.published)
@@ -199,8 +165,7 @@ module _ (pairs : List Pair) (words : ℕ) (opens : CanOpen pairs words) where
       l = enabled_before (start pairs words) loaded now g h
 
       at : KeepsWord t loaded node i v → logical u.pieces word ≡ past_rebuild u.pieces (ref_of v)
-      at (holds_it k) =
-          ap (logical u.pieces)
+      at (holds_it k) = ap (logical u.pieces)
           (slot_once t node i word v (anchor_free pairs words loaded l) slot k)
           ∙ ap (past_rebuild u.pieces)
           (past_no_change u.pieces (ref_of v) (passed_plain (start pairs words) loaded node i v l p).no_change)
@@ -236,40 +201,32 @@ module _ (pairs : List Pair) (words : ℕ) (opens : CanOpen pairs words)
       → Saw pairs words key first now node ref
   unfolding AllNeeds
   saw_left key first loaded now g h node i word ref was index slot reads =
-      let l = enabled_before (start pairs words) loaded now g h in
-      let at = was.at in
+      let l = enabled_before (start pairs words) loaded now g h in let at = was.at in
       let m = enabled_before (start pairs words) at loaded was.until l in
-      let a = state_of pairs words at in
-      let t = state_of pairs words loaded in
-      let u = state_of pairs words now in
-      let row = was.finished.1.row in
+      let a = state_of pairs words at in let t = state_of pairs words loaded in
+      let u = state_of pairs words now in let row = was.finished.1.row in
       let grows = grow_between pairs words at loaded l was.until in
       let all = goes_on_more was.until g in
       let it = inner_there a.pieces t.pieces grows node row was.finished.1.published in
       let here = row_holds t node i word it.0 (anchor_free pairs words loaded l) it.1 slot in
       let old = get_alike it.0.slots row.slots i word (sym it.2.slots) here in
       let held : SlotHolds a node i old.0 = in_row row was.finished.1.published old.1 in
-      let v = (needs at m).passed node i old.0 was.finished held in
-      let p = v.1 in
-      record {
+      let v = (needs at m).passed node i old.0 was.finished held in let p = v.1 in record {
         at = at;
         since = was.since;
         until = all;
         led = was.led;
         index = i;
-        index_is =
-            of_row row was.finished.1.published
+        index_is = of_row row was.finished.1.published
             (index_back it.0 it.1 it.2.keys (anchor_free pairs words loaded l) index);
-        read =
-            record {
-              word = old.0;
-              holds = held;
-              reads =
-                  frozen.frozen_reads pairs words opens at m node i v.0 old.0 p held
-                  ∙ sym (side_reads a.pieces u.pieces (grow_between pairs words at now h all) node i (ref_of v.0) (passed_side pairs words opens at m node i v.0 p))
-                  ∙ sym (reads_passed pairs words opens loaded now g h node i word v.0 (finished_grows a t grows node was.finished) slot (on_happened v.0 at loaded was.until p))
-                  ∙ reads;
-            };
+        read = record {
+          word = old.0;
+          holds = held;
+          reads = frozen.frozen_reads pairs words opens at m node i v.0 old.0 p held
+              ∙ sym (side_reads a.pieces u.pieces (grow_between pairs words at now h all) node i (ref_of v.0) (passed_side pairs words opens at m node i v.0 p))
+              ∙ sym (reads_passed pairs words opens loaded now g h node i word v.0 (finished_grows a t grows node was.finished) slot (on_happened v.0 at loaded was.until p))
+              ∙ reads;
+        };
       }
     where
       index_back : (x : InnerRow) → (state_of pairs words loaded).pieces node ≡ Some (Inner x)
@@ -278,8 +235,7 @@ module _ (pairs : List Pair) (words : ℕ) (opens : CanOpen pairs words)
           → i ≡ child_count was.finished.1.row.keys key
       index_back x e same free (of_anchor a b) =
           absurd (no_row (state_of pairs words loaded).pieces node x free a e)
-      index_back x e same free (of_row r k b) =
-          b ∙ ap (λ y. child_count y.keys key)
+      index_back x e same free (of_row r k b) = b ∙ ap (λ y. child_count y.keys key)
           (same_inner ((state_of pairs words loaded).pieces node) r x k e)
           ∙ ap (λ ks. child_count ks key) same
 

@@ -5,27 +5,12 @@ use Rattle.ist_core.specs.declared.states.InnerRow.{InnerRow}
 use Rattle.ist_core.specs.declared.states.ChangeRow.{ChangeRow}
 use Rattle.ist_core.specs.declared.states.RebuildRow.{RebuildRow}
 use Rattle.ist_core.specs.declared.events.Event.TheVariants.{Enter, Reserve, Okay, Decide}
-use Rattle.ist_core.specs.Arithmetic.{degree, square_root, root_up_to, part_len, part_lens}
-use Rattle.ist_core.specs.Shapes.{ideal_words, ideal_words_within}
-use Rattle.ist_core.specs.References.{ref_of}
-use Rattle.ist_core.specs.Statuses.{start_kind}
-use Rattle.ist_core.specs.Pieces.{Piece, Leaf, Inner, Change, Rebuild}
-use Rattle.ist_core.specs.Snapshots.{Snapshot}
-use Rattle.ist_core.specs.RowLayout.{first_row}
-use Rattle.ist_core.specs.StartLayout.{start, rows_within, rows_from}
-use Rattle.ist_core.specs.Logs.{state}
-use Rattle.ist_core.specs.Slots.{in_anchor, anchor_is}
-use Rattle.ist_core.specs.Links.{at_anchor}
-use Rattle.ist_core.specs.Rebuilding.{IsStarted}
-use Rattle.ist_core.specs.Installing.{CanInstall, a_start}
-use Rattle.ist_core.specs.Deciding.{CanOkay, CanDecide, CanResolve}
-use Rattle.ist_core.specs.Marking.{CanMark, as_target}
-use Rattle.ist_core.specs.Enabled.{CanEnter, CanReserve}
-use Rattle.ist_core.specs.Lawful.{EachEnabled}
-use Rattle.ist_core.specs.Elements.{Among}
-use Rattle.ist_core.proofs.PieceLemmas.{among-pieces_of}
+use Rattle.ist_core.specs.WordTerms.{degree, square_root, root_up_to, part_len, part_lens, ideal_words, ideal_words_within, ref_of, start_kind, Piece, Leaf, Inner, Change, Rebuild, first_row, start, rows_within, rows_from, in_anchor, anchor_is}
+use Rattle.ist_core.specs.LogTerms.{Snapshot, state, CanEnter, CanReserve, EachEnabled, Among}
+use Rattle.ist_core.specs.TreeTerms.{at_anchor, IsStarted, CanInstall, a_start, CanOkay, CanDecide, CanResolve, CanMark, as_target}
+use Rattle.ist_core.proofs.AllWordLemmas.{among-pieces_of}
 use Rattle.laws_histories.specs.ExampleShares.{many_pairs, top_keys, share_rows, share_installed, share_started, share_marked, finish_of, share_finished}
-use Rattle.laws_histories.proofs.HeldExampleLemmas.{rebuild_fair, start_fair}
+use Rattle.laws_histories.proofs.ReadyExampleLemmas.{rebuild_fair, start_fair}
 use Rattle.laws_histories.proofs.EventTestLemmas.{each_by, known}
 
 -- the table at its start
@@ -34,18 +19,17 @@ many = start many_pairs 3000
 
 -- the start, with a decision
 abbrev pub share_start : ℕ → ChangeRow
-share_start decision =
-    record {
-      decision = decision;
-      kind = start_kind;
-      node = 2;
-      index = 0;
-      from = 34;
-      to = 16572;
-      owner = 0;
-      key = 0;
-      value = 0;
-    }
+share_start decision = record {
+  decision = decision;
+  kind = start_kind;
+  node = 2;
+  index = 0;
+  from = 34;
+  to = 16572;
+  owner = 0;
+  key = 0;
+  value = 0;
+}
 
 -- caller 0 enters
 entered : CanEnter many 0
@@ -65,21 +49,19 @@ start_reserved =
 
 -- the slots of the top row
 abbrev pub top_slots : List ℕ
-top_slots =
-    314 ∷ 1330 ∷ 2346 ∷ 3362 ∷ 4378 ∷ 5394 ∷ 6410 ∷ 7426
+top_slots = 314 ∷ 1330 ∷ 2346 ∷ 3362 ∷ 4378 ∷ 5394 ∷ 6410 ∷ 7426
     ∷ 8442 ∷ 9458 ∷ 10474 ∷ 11490 ∷ 12506 ∷ 13522 ∷ 14538 ∷ 15554 ∷ []
 
 -- the top row, with a status
 abbrev pub big_top : ℕ → InnerRow
-big_top status =
-    record {
-      status = status;
-      count = 0;
-      degree = 16;
-      size = 256;
-      keys = top_keys;
-      slots = top_slots;
-    }
+big_top status = record {
+  status = status;
+  count = 0;
+  degree = 16;
+  size = 256;
+  keys = top_keys;
+  slots = top_slots;
+}
 
 -- the row is a change
 IsChange : Piece → Type 0
@@ -100,18 +82,12 @@ among_unchanged : (rows : List (ℕ × Piece)) → plain rows ≡ true → (base
 unfolding plain IsChange
 among_unchanged [] e base change k = k
 among_unchanged ((b, Change r) ∷ rows) e base change k = false≢true e
-among_unchanged ((b, Leaf r) ∷ rows) e base change (inl k) =
-    subst (λ row. IsChange row.1) k tt
-among_unchanged ((b, Leaf r) ∷ rows) e base change (inr k) =
-    among_unchanged rows e base change k
-among_unchanged ((b, Inner r) ∷ rows) e base change (inl k) =
-    subst (λ row. IsChange row.1) k tt
-among_unchanged ((b, Inner r) ∷ rows) e base change (inr k) =
-    among_unchanged rows e base change k
-among_unchanged ((b, Rebuild r) ∷ rows) e base change (inl k) =
-    subst (λ row. IsChange row.1) k tt
-among_unchanged ((b, Rebuild r) ∷ rows) e base change (inr k) =
-    among_unchanged rows e base change k
+among_unchanged ((b, Leaf r) ∷ rows) e base change (inl k) = subst (λ row. IsChange row.1) k tt
+among_unchanged ((b, Leaf r) ∷ rows) e base change (inr k) = among_unchanged rows e base change k
+among_unchanged ((b, Inner r) ∷ rows) e base change (inl k) = subst (λ row. IsChange row.1) k tt
+among_unchanged ((b, Inner r) ∷ rows) e base change (inr k) = among_unchanged rows e base change k
+among_unchanged ((b, Rebuild r) ∷ rows) e base change (inl k) = subst (λ row. IsChange row.1) k tt
+among_unchanged ((b, Rebuild r) ∷ rows) e base change (inr k) = among_unchanged rows e base change k
 
 -- the new table has no change
 all_plain : plain (rows_from first_row many_pairs) ≡ true
@@ -120,88 +96,81 @@ all_plain = refl
 
 -- no change lies in the new table
 unchanged : (base : ℕ) (change : ChangeRow) → many.pieces base ≡ Some (Change change) → ⊥
-unchanged base change e =
-    among_unchanged (rows_from first_row many_pairs) all_plain base change
+unchanged base change e = among_unchanged (rows_from first_row many_pairs) all_plain base change
     (among-pieces_of (rows_from first_row many_pairs) base (Change change) e)
 
 -- the start is installed
 installed : CanInstall many (Reserve 0 2076 9 ∷ Reserve 0 2071 5 ∷ Enter 0 ∷ []) 0 2076 share_rows
 unfolding ref_of rows_within degree square_root root_up_to part_len part_lens ideal_words ideal_words_within
-installed =
-    record {
-      known = omega arith;
-      change = share_start 0;
-      fresh = record { base = 2071; words = 4 ∷ 2 ∷ 0 ∷ 7 ∷ 0 ∷ [] } ∷ [];
-      rows_are = refl;
-      held = (inr (inl refl), (inl refl, tt));
-      owned = refl;
-      unset = refl;
-      in_slot = in_anchor refl refl refl;
-      linked = inl at_anchor;
-      unrefused = λ base earlier e _ _ _. absurd (unchanged base earlier e);
-      fits =
-          a_start record {
-            kind = refl;
-            key = refl;
-            value = refl;
-            target = 4;
-            row = big_top 0;
-            from = refl;
-            published = refl;
-            due = inr refl;
-            rebuild = 2071;
-            to = refl;
-            fresh_are = refl;
-          };
-    }
+installed = record {
+  known = omega arith;
+  change = share_start 0;
+  fresh = record { base = 2071; words = 4 ∷ 2 ∷ 0 ∷ 7 ∷ 0 ∷ [] } ∷ [];
+  rows_are = refl;
+  held = (inr (inl refl), (inl refl, tt));
+  owned = refl;
+  unset = refl;
+  in_slot = in_anchor refl refl refl;
+  linked = inl at_anchor;
+  unrefused = λ base earlier e _ _ _. absurd (unchanged base earlier e);
+  fits = a_start record {
+    kind = refl;
+    key = refl;
+    value = refl;
+    target = 4;
+    row = big_top 0;
+    from = refl;
+    published = refl;
+    due = inr refl;
+    rebuild = 2071;
+    to = refl;
+    fresh_are = refl;
+  };
+}
 
 -- the anchor is open
 okayed : CanOkay (state many share_installed) 0 2076
 unfolding ref_of rows_within degree square_root root_up_to part_len part_lens ideal_words ideal_words_within
-okayed =
-    record {
-      known = omega arith;
-      change = share_start 0;
-      pending = record { published = refl; unset = refl };
-      node_open = anchor_is refl;
-    }
+okayed = record {
+  known = omega arith;
+  change = share_start 0;
+  pending = record { published = refl; unset = refl };
+  node_open = anchor_is refl;
+}
 
 -- the start is decided
 decided : CanDecide (state many (Okay 0 2076 ∷ share_installed))
     (Okay 0 2076 ∷ share_installed) 0 2076 true
 unfolding ref_of rows_within degree square_root root_up_to part_len part_lens ideal_words ideal_words_within
-decided =
-    record {
-      known = omega arith;
-      change = share_start 0;
-      pending = record { published = refl; unset = refl };
-      outcome = inl refl;
-    }
+decided = record {
+  known = omega arith;
+  change = share_start 0;
+  pending = record { published = refl; unset = refl };
+  outcome = inl refl;
+}
 
 -- the start's change leaves the slot
 resolved : CanResolve (state many (Decide 0 2076 true ∷ Okay 0 2076 ∷ share_installed)) 0 2076
 unfolding ref_of rows_within degree square_root root_up_to part_len part_lens ideal_words ideal_words_within
-resolved =
-    record {
-      known = omega arith;
-      change = share_start 1;
-      published = refl;
-      decided = λ e. omega arith;
-      in_slot = in_anchor refl refl refl;
-    }
+resolved = record {
+  known = omega arith;
+  change = share_start 1;
+  published = refl;
+  decided = λ e. omega arith;
+  in_slot = in_anchor refl refl refl;
+}
 
 -- the rebuild is started
 is_started : IsStarted (state many share_started) 2071
 unfolding ref_of rows_within degree square_root root_up_to part_len part_lens ideal_words ideal_words_within
-is_started =
-    record {
-      base = 2076;
-      change = share_start 1;
-      published = refl;
-      kind = refl;
-      decision = refl;
-      to = refl;
-    }
+is_started = record {
+  base = 2076;
+  change = share_start 1;
+  published = refl;
+  kind = refl;
+  decision = refl;
+  to = refl;
+}
 
 -- the rebuild
 abbrev pub share_rebuild : ℕ → ℕ → RebuildRow
@@ -210,16 +179,14 @@ share_rebuild root draw = record { target = 4; parent = 2; index = 0; root = roo
 -- so its target may be marked
 marked : CanMark (state many share_started) share_started 0 4
 unfolding ref_of rows_within degree square_root root_up_to part_len part_lens ideal_words ideal_words_within
-marked =
-    record {
-      known = omega arith;
-      row = big_top 0;
-      published = refl;
-      row_open = refl;
-      called =
-          as_target 2071 record { row = share_rebuild 7 0; published = refl; target_is = refl }
-          is_started;
-    }
+marked = record {
+  known = omega arith;
+  row = big_top 0;
+  published = refl;
+  row_open = refl;
+  called = as_target 2071 record { row = share_rebuild 7 0; published = refl; target_is = refl }
+      is_started;
+}
 
 -- the log is enabled until then
 marked_enabled : EachEnabled many share_marked

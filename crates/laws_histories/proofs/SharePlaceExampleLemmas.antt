@@ -1,19 +1,10 @@
 -- The first part of a shared root is placed. Serves `examples`.
 use Rattle.std.proofs.Common.{◌≡◌, List, [], ◌∷◌, ◌++◌, replicate, slice_get, Some, refl, inl, inr, arith}
 use Rattle.ist_core.specs.declared.states.InnerRow.{InnerRow}
-use Rattle.ist_core.specs.Arithmetic.{degree, square_root, root_up_to, part_len, part_lens}
-use Rattle.ist_core.specs.Shapes.{ideal_words, ideal_words_within}
-use Rattle.ist_core.specs.References.{InnerAt, ref_of}
-use Rattle.ist_core.specs.Elements.{Distinct}
-use Rattle.ist_core.specs.Parts.{parts}
-use Rattle.ist_core.specs.Snapshots.{bases_of, HoldsRows}
-use Rattle.ist_core.specs.StartLayout.{rows_within}
-use Rattle.ist_core.specs.Logs.{state}
-use Rattle.ist_core.specs.Leaves.{PlacedLeaf, HasLeaves}
-use Rattle.ist_core.specs.Ideals.{IsIdeal, of_more, no_part, one_part}
-use Rattle.ist_core.specs.Building.{CanPlace}
-use Rattle.ist_core.specs.Lawful.{EachEnabled}
-use Rattle.ist_core.proofs.StartTreeLemmas.{between_once}
+use Rattle.ist_core.specs.WordTerms.{degree, square_root, root_up_to, part_len, part_lens, ideal_words, ideal_words_within, InnerAt, ref_of, parts, rows_within, IsIdeal, of_more, no_part, one_part}
+use Rattle.ist_core.specs.LogTerms.{Distinct, bases_of, HoldsRows, state, EachEnabled}
+use Rattle.ist_core.specs.TreeTerms.{PlacedLeaf, HasLeaves, CanPlace}
+use Rattle.ist_core.proofs.AllEventLemmas.{between_once}
 use Rattle.laws_histories.specs.ExampleShares.{finish_of, share_held, share_part_rows, share_placed}
 use Rattle.laws_histories.proofs.EventTestLemmas.{known}
 use Rattle.laws_histories.proofs.ShareExampleLemmas.{many, share_rebuild}
@@ -33,21 +24,19 @@ part_leaves = leaves_0 ++ (leaves_4 ++ (leaves_8 ++ leaves_12))
 
 -- the row of the part
 abbrev part_top : InnerRow
-part_top =
-    record {
-      status = 0;
-      count = 0;
-      degree = 4;
-      size = 16;
-      keys = 5 ∷ 9 ∷ 13 ∷ [];
-      slots = 17050 ∷ 17218 ∷ 17386 ∷ 17554 ∷ [];
-    }
+part_top = record {
+  status = 0;
+  count = 0;
+  degree = 4;
+  size = 16;
+  keys = 5 ∷ 9 ∷ 13 ∷ [];
+  slots = 17050 ∷ 17218 ∷ 17386 ∷ 17554 ∷ [];
+}
 
 -- the part is ideal
 part_ideal : IsIdeal with_part_rows (InnerAt 2120) part_leaves 2085 (bases_of share_part_rows)
 unfolding finish_of ref_of rows_within degree square_root root_up_to part_len part_lens ideal_words ideal_words_within
-part_ideal =
-    of_more part_top
+part_ideal = of_more part_top
     record {
       published = refl;
       two = omega arith;
@@ -154,26 +143,25 @@ once =
 -- so the part is placed
 placed : CanPlace (state many share_held) 0 2071 0 16962 share_part_rows
 unfolding finish_of ref_of rows_within degree square_root root_up_to part_len part_lens ideal_words ideal_words_within
-placed =
-    record {
-      known = omega arith;
-      row = share_rebuild 16682 1;
-      published = refl;
-      root = 2085;
-      root_is = refl;
-      root_row = new_top (replicate 16 7);
-      root_published = refl;
-      free = refl;
-      leaves = held_leaves.0;
-      reached = held_leaves.1;
-      part = part_leaves;
-      part_is = part_is_first;
-      ref = InnerAt 2120;
-      ref_is = refl;
-      ideal = part_ideal;
-      once = once;
-      held = all_held;
-    }
+placed = record {
+  known = omega arith;
+  row = share_rebuild 16682 1;
+  published = refl;
+  root = 2085;
+  root_is = refl;
+  root_row = new_top (replicate 16 7);
+  root_published = refl;
+  free = refl;
+  leaves = held_leaves.0;
+  reached = held_leaves.1;
+  part = part_leaves;
+  part_is = part_is_first;
+  ref = InnerAt 2120;
+  ref_is = refl;
+  ideal = part_ideal;
+  once = once;
+  held = all_held;
+}
 
 -- the log is enabled
 pub share_placed_enabled : EachEnabled many share_placed

@@ -2,21 +2,9 @@
 use Rattle.std.proofs.Common.{◌≡◌, ℕ, zero, suc, ◌≤◌, ◌⊎◌, List, [], ◌∷◌, ◌++◌, length, replicate, Option, Some, None, refl, inl, inr, arith}
 use Rattle.ist_core.specs.declared.states.InnerRow.{InnerRow}
 use Rattle.ist_core.specs.declared.events.Event.TheVariants.{Reserve, Draw}
-use Rattle.ist_core.specs.Arithmetic.{degree, square_root, root_up_to, part_len, part_lens}
-use Rattle.ist_core.specs.Shapes.{ideal_words, ideal_words_within, share_from, share_from_is}
-use Rattle.ist_core.specs.References.{Ref, Empty, LeafAt, InnerAt, ref_of}
-use Rattle.ist_core.specs.Pieces.{Pieces, Piece, Leaf, Inner, with_inners}
-use Rattle.ist_core.specs.Snapshots.{Snapshot}
-use Rattle.ist_core.specs.StartLayout.{rows_within}
-use Rattle.ist_core.specs.Slots.{logical}
-use Rattle.ist_core.specs.Logs.{state, Log, Happened, Draws}
-use Rattle.ist_core.specs.Leaves.{PlacedLeaf, HasLeaves, SlotsHaveLeaves, none_here, leaf_here, row_here, no_slot, one_slot}
-use Rattle.ist_core.specs.Ideals.{IsTop}
-use Rattle.ist_core.specs.Rebuilding.{IsStarted, IsFinishedWith}
-use Rattle.ist_core.specs.Fairness.{IsBuild, build_top, IsBuilding, IsMerge, IsFair, at_end, from_left, last_build}
-use Rattle.ist_core.specs.Building.{CanRoot, root_top, CanDraw}
-use Rattle.ist_core.specs.Enabled.{CanReserve}
-use Rattle.ist_core.specs.Lawful.{EachEnabled}
+use Rattle.ist_core.specs.WordTerms.{degree, square_root, root_up_to, part_len, part_lens, ideal_words, ideal_words_within, share_from, share_from_is, Ref, Empty, LeafAt, InnerAt, ref_of, Pieces, Piece, Leaf, Inner, with_inners, rows_within, logical, IsTop}
+use Rattle.ist_core.specs.LogTerms.{Snapshot, state, Log, Happened, Draws, IsBuild, build_top, IsBuilding, IsMerge, IsFair, at_end, from_left, last_build, CanReserve, EachEnabled}
+use Rattle.ist_core.specs.TreeTerms.{PlacedLeaf, HasLeaves, SlotsHaveLeaves, none_here, leaf_here, row_here, no_slot, one_slot, IsStarted, IsFinishedWith, CanRoot, root_top, CanDraw}
 use Rattle.laws_histories.specs.ExampleShares.{top_keys, finish_of, share_finished, share_root_rows, share_rooted, share_drawn}
 use Rattle.laws_histories.proofs.EventTestLemmas.{then, known}
 use Rattle.laws_histories.proofs.ShareExampleLemmas.{many, share_start, share_rebuild, big_top, share_finished_enabled}
@@ -70,15 +58,14 @@ merge_left (size ∷ sizes) = from_left size (merge_left sizes)
 -- a beginning of a build is fair
 pub build_fair : (t : Snapshot) (sizes rest : List ℕ) → IsBuilding t (sizes ++ rest)
     → IsFair t sizes
-build_fair t sizes rest building =
-    record {
-      building = sizes;
-      spare = [];
-      merge = merge_left sizes;
-      builds = last_build rest building;
-      few = tt;
-      one_each = tt;
-    }
+build_fair t sizes rest building = record {
+  building = sizes;
+  spare = [];
+  merge = merge_left sizes;
+  builds = last_build rest building;
+  few = tt;
+  one_each = tt;
+}
 
 -- the target is finished
 target_finished : IsFinishedWith (state many share_finished) 4 256
@@ -88,15 +75,14 @@ target_finished = record { row = big_top 1027; published = refl; status = refl }
 -- the rebuild is started
 still_started : IsStarted (state many share_finished) 2071
 unfolding finish_of ref_of rows_within degree square_root root_up_to part_len part_lens ideal_words ideal_words_within
-still_started =
-    record {
-      base = 2076;
-      change = share_start 1;
-      published = refl;
-      kind = refl;
-      decision = refl;
-      to = refl;
-    }
+still_started = record {
+  base = 2076;
+  change = share_start 1;
+  published = refl;
+  kind = refl;
+  decision = refl;
+  to = refl;
+}
 
 -- the new top row is a build
 top_builds : IsBuild 256 (35 ∷ [])
@@ -106,22 +92,20 @@ top_builds = build_top many_are_shared
 -- so its row may be reserved
 root_reserved : CanReserve (state many share_finished) 0 2085 35
 unfolding finish_of ref_of rows_within degree square_root root_up_to part_len part_lens ideal_words ideal_words_within
-root_reserved =
-    record {
-      known = omega arith;
-      base_is = refl;
-      room = omega arith;
-      fair =
-          build_fair _ (35 ∷ []) [] record {
-            rebuild = 2071;
-            row = share_rebuild 7 0;
-            published = refl;
-            started = still_started;
-            k = 256;
-            finished = target_finished;
-            build = top_builds;
-          };
-    }
+root_reserved = record {
+  known = omega arith;
+  base_is = refl;
+  room = omega arith;
+  fair = build_fair _ (35 ∷ []) [] record {
+    rebuild = 2071;
+    row = share_rebuild 7 0;
+    published = refl;
+    started = still_started;
+    k = 256;
+    finished = target_finished;
+    build = top_builds;
+  };
+}
 
 -- the new top row is held
 abbrev root_held : Log
@@ -130,15 +114,14 @@ root_held = Reserve 0 2085 35 ∷ share_finished
 -- the rebuild is still started
 held_started : IsStarted (state many root_held) 2071
 unfolding finish_of ref_of rows_within degree square_root root_up_to part_len part_lens ideal_words ideal_words_within
-held_started =
-    record {
-      base = 2076;
-      change = share_start 1;
-      published = refl;
-      kind = refl;
-      decision = refl;
-      to = refl;
-    }
+held_started = record {
+  base = 2076;
+  change = share_start 1;
+  published = refl;
+  kind = refl;
+  decision = refl;
+  to = refl;
+}
 
 -- the leaves of the target
 root_leaves : (leaves : List PlacedLeaf)
@@ -155,18 +138,16 @@ new_top slots =
 is_top : IsTop (with_inners (state many root_held).pieces share_root_rows) 2085
     (new_top (replicate 16 7)) root_leaves.0 4
 unfolding root_leaves finish_of ref_of rows_within degree square_root root_up_to part_len part_lens ideal_words ideal_words_within
-is_top =
-    let many_leaves : length root_leaves.0 ≡ 256 = refl in
-    record {
-      published = refl;
-      two = omega arith;
-      higher = omega arith;
-      status = refl;
-      count = refl;
-      degree = refl;
-      size = refl;
-      keys = refl;
-    }
+is_top = let many_leaves : length root_leaves.0 ≡ 256 = refl in record {
+  published = refl;
+  two = omega arith;
+  higher = omega arith;
+  status = refl;
+  count = refl;
+  degree = refl;
+  size = refl;
+  keys = refl;
+}
 
 -- all slots of the root are Unset
 unset_slots : replicate {A = ℕ} 16 7 ≡ replicate (degree (length root_leaves.0)) 7
@@ -176,21 +157,20 @@ unset_slots = refl
 -- so it may become the root
 rooted : CanRoot (state many root_held) 0 2071 16682 share_root_rows
 unfolding finish_of ref_of rows_within degree square_root root_up_to part_len part_lens ideal_words ideal_words_within
-rooted =
-    record {
-      known = omega arith;
-      row = share_rebuild 7 0;
-      published = refl;
-      started = held_started;
-      rootless = refl;
-      k = 256;
-      finished = record { row = big_top 1027; published = refl; status = refl };
-      leaves = root_leaves.0;
-      reached = root_leaves.1;
-      root = root_top 2085 (new_top (replicate 16 7)) many_are_shared refl is_top unset_slots refl;
-      once = ((λ k. k), tt);
-      held = (inl refl, tt);
-    }
+rooted = record {
+  known = omega arith;
+  row = share_rebuild 7 0;
+  published = refl;
+  started = held_started;
+  rootless = refl;
+  k = 256;
+  finished = record { row = big_top 1027; published = refl; status = refl };
+  leaves = root_leaves.0;
+  reached = root_leaves.1;
+  root = root_top 2085 (new_top (replicate 16 7)) many_are_shared refl is_top unset_slots refl;
+  once = ((λ k. k), tt);
+  held = (inl refl, tt);
+}
 
 -- ---- the draw
 
@@ -219,18 +199,17 @@ none_drawn = known (no_draw share_rooted) refl
 -- so the first part is drawn
 drawn : CanDraw (state many share_rooted) share_rooted 0 2071 0
 unfolding finish_of ref_of rows_within degree square_root root_up_to part_len part_lens ideal_words ideal_words_within
-drawn =
-    record {
-      known = omega arith;
-      row = share_rebuild 16682 0;
-      published = refl;
-      rooted = λ e. omega arith;
-      k = 256;
-      finished = record { row = big_top 1027; published = refl; status = refl };
-      shared = many_are_shared;
-      part_is = refl;
-      not_past = λ earlier h. absurd (none_drawn earlier h);
-    }
+drawn = record {
+  known = omega arith;
+  row = share_rebuild 16682 0;
+  published = refl;
+  rooted = λ e. omega arith;
+  k = 256;
+  finished = record { row = big_top 1027; published = refl; status = refl };
+  shared = many_are_shared;
+  part_is = refl;
+  not_past = λ earlier h. absurd (none_drawn earlier h);
+}
 
 -- the log is enabled until then
 pub share_drawn_enabled : EachEnabled many share_drawn

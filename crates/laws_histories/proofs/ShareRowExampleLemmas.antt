@@ -1,16 +1,8 @@
 -- The rows of a part of a shared root are reserved. Serves `examples`.
 use Rattle.std.proofs.Common.{◌≡◌, ℕ, ◌+◌, ◌<◌, ◌≤◌, List, [], ◌∷◌, ◌++◌, Some, refl, subst, sym, arith}
 use Rattle.ist_core.specs.declared.events.Event.TheVariants.{Reserve}
-use Rattle.ist_core.specs.Arithmetic.{degree, square_root, root_up_to, part_len, part_lens}
-use Rattle.ist_core.specs.Shapes.{ideal_words, ideal_words_within, shape, shape_within}
-use Rattle.ist_core.specs.References.{ref_of}
-use Rattle.ist_core.specs.Pieces.{Inner, Change, Rebuild}
-use Rattle.ist_core.specs.Snapshots.{Snapshot, sizes_held}
-use Rattle.ist_core.specs.StartLayout.{rows_within}
-use Rattle.ist_core.specs.Logs.{state, Log}
-use Rattle.ist_core.specs.Fairness.{IsBuild, build_part, IsFair}
-use Rattle.ist_core.specs.Enabled.{CanReserve}
-use Rattle.ist_core.specs.Lawful.{EachEnabled}
+use Rattle.ist_core.specs.WordTerms.{degree, square_root, root_up_to, part_len, part_lens, ideal_words, ideal_words_within, shape, shape_within, ref_of, Inner, Change, Rebuild, rows_within}
+use Rattle.ist_core.specs.LogTerms.{Snapshot, sizes_held, state, Log, IsBuild, build_part, IsFair, CanReserve, EachEnabled}
 use Rattle.laws_histories.specs.ExampleShares.{finish_of, share_drawn, share_held}
 use Rattle.laws_histories.proofs.ShareExampleLemmas.{many, share_start, share_rebuild, big_top}
 use Rattle.laws_histories.proofs.ShareRootExampleLemmas.{many_are_shared, build_fair, share_drawn_enabled}
@@ -37,33 +29,29 @@ next_reserved : (log : Log) (base size : ℕ) (before rest : List ℕ)
     → (before ++ size ∷ []) ++ rest ≡ part_sizes → IsDrawn (state many log)
     → CanReserve (state many log) 0 base size
 unfolding ref_of
-next_reserved log base size before rest callers next words room held all is =
-    record {
-      known = subst (λ n. 0 < n) (sym callers) (omega arith);
-      base_is = sym next;
-      room =
-          subst (λ n. n + size ≤ (state many log).words) (sym next)
-          (subst (λ n. base + size ≤ n) (sym words) room);
-      fair =
-          subst (λ sizes. IsFair (state many log) (sizes ++ size ∷ [])) (sym held)
-          (build_fair (state many log) (before ++ size ∷ []) rest record {
-            rebuild = 2071;
-            row = share_rebuild 16682 1;
-            published = is.rebuild;
-            started =
-                record {
-                  base = 2076;
-                  change = share_start 1;
-                  published = is.change;
-                  kind = refl;
-                  decision = refl;
-                  to = refl;
-                };
-            k = 256;
-            finished = record { row = big_top 1027; published = is.target; status = refl };
-            build = subst (λ sizes. IsBuild 256 sizes) (sym all) part_builds;
-          });
-    }
+next_reserved log base size before rest callers next words room held all is = record {
+  known = subst (λ n. 0 < n) (sym callers) (omega arith);
+  base_is = sym next;
+  room = subst (λ n. n + size ≤ (state many log).words) (sym next)
+      (subst (λ n. base + size ≤ n) (sym words) room);
+  fair = subst (λ sizes. IsFair (state many log) (sizes ++ size ∷ [])) (sym held)
+      (build_fair (state many log) (before ++ size ∷ []) rest record {
+        rebuild = 2071;
+        row = share_rebuild 16682 1;
+        published = is.rebuild;
+        started = record {
+          base = 2076;
+          change = share_start 1;
+          published = is.change;
+          kind = refl;
+          decision = refl;
+          to = refl;
+        };
+        k = 256;
+        finished = record { row = big_top 1027; published = is.target; status = refl };
+        build = subst (λ sizes. IsBuild 256 sizes) (sym all) part_builds;
+      });
+}
 
 -- row 1 of the part is reserved
 abbrev one_held : Log

@@ -9,19 +9,12 @@ use Rattle.ist_core.specs.declared.commands.Command.TheVariants.{Put, Remove}
 use Rattle.ist_core.specs.declared.states.LeafRow.{LeafRow}
 use Rattle.ist_core.specs.declared.states.InnerRow.{InnerRow}
 use Rattle.ist_core.specs.declared.states.ChangeRow.{ChangeRow}
-use Rattle.ist_core.specs.Arithmetic.{child_count}
-use Rattle.ist_core.specs.Map.{Map, map_after, key_of}
-use Rattle.ist_core.specs.References.{Ref, Empty, LeafAt, InnerAt, IsGoodBase, ref_of, word_of}
-use Rattle.ist_core.specs.Statuses.{put_kind, remove_kind, start_kind, finish_kind}
-use Rattle.ist_core.specs.Pieces.{Pieces, Piece, Leaf, Inner}
-use Rattle.ist_core.specs.Snapshots.{Snapshot}
-use Rattle.ist_core.specs.Slots.{past_rebuild, logical}
-use Rattle.ist_core.specs.Changes.{command_of, value_in, value_at, reply_of}
-use Rattle.ist_core.specs.Rebuilding.{IsUpdate}
-use Rattle.ist_core.specs.Installing.{new_leaf}
-use Rattle.ist_core.proofs.ReferenceLemmas.{ref_of-word_of}
+use Rattle.ist_core.specs.WordTerms.{child_count, Ref, Empty, LeafAt, InnerAt, IsGoodBase, ref_of, word_of, put_kind, remove_kind, start_kind, finish_kind, Pieces, Piece, Leaf, Inner, past_rebuild, logical}
+use Rattle.ist_core.specs.TreeTerms.{Map, map_after, key_of, command_of, value_in, value_at, reply_of, IsUpdate, new_leaf}
+use Rattle.ist_core.specs.LogTerms.{Snapshot}
+use Rattle.ist_core.proofs.AllWordLemmas.{ref_of-word_of}
 use Rattle.laws_histories.specs.Finding.{Finds, in_nothing, in_leaf, in_node}
-use Rattle.laws_histories.proofs.NeedLemmas.{IsPair, HasForm, into_nothing, over_leaf, beside_low, beside_high, takes_out, begins, ends}
+use Rattle.laws_histories.proofs.LedLemmas.{IsPair, HasForm, into_nothing, over_leaf, beside_low, beside_high, takes_out, begins, ends}
 
 -- ---- leaves and pairs
 
@@ -80,8 +73,7 @@ module _ (ps : Pieces) (key : ℕ) where
       → slice_get (word_of (LeafAt left) ∷ word_of (LeafAt right) ∷ [])
       (child_count (right_key ∷ []) key) ≡ Some (word_of (LeafAt at))
       → Finds ps key (Some (LeafAt at)) value → Finds ps key (Some (InnerAt pair)) value
-  pair_through pair right_key left right at value good h e f =
-      in_node h.row h.published
+  pair_through pair right_key left right at value good h e f = in_node h.row h.published
       (subst (λ ws. slice_get ws (child_count h.row.keys key) ≡ Some (word_of (LeafAt at))) (sym h.slots)
       (subst (λ ks. slice_get (word_of (LeafAt left) ∷ word_of (LeafAt right) ∷ []) (child_count ks key) ≡ Some (word_of (LeafAt at))) (sym h.keys) e))
       (subst (λ ref. Finds ps key ref value) (sym (leaf_logical good)) f)
@@ -94,8 +86,7 @@ module _ (ps : Pieces) (key : ℕ) where
       → IsGoodBase right → IsPair ps pair right_key left right
       → ps left ≡ Some (Leaf l) → ps right ≡ Some (Leaf r)
       → Finds ps key (Some (InnerAt pair)) (pair_says l right_key r key)
-  pair_finds pair right_key left right l r gl gr h el er =
-      ⊎_elim
+  pair_finds pair right_key left right l r gl gr h el er = ⊎_elim
       (λ low. subst (λ v. Finds ps key (Some (InnerAt pair)) v) (sym (left_says l right_key r key low)) (pair_through pair right_key left right left (says l key) gl h (left_slot _ _ right_key key low) (in_leaf l el)))
       (λ high. subst (λ v. Finds ps key (Some (InnerAt pair)) v) (sym (right_says l right_key r key high)) (pair_through pair right_key left right right (says r key) gr h (right_slot _ _ right_key key high) (in_leaf r er)))
       (cases_lt key right_key)
@@ -124,28 +115,26 @@ finish_commands change kind = rw kind refl
 -- what a put makes of a map
 put_makes : (change : ChangeRow) (new : Option ℕ) → change.kind ≡ put_kind → new ≡ Some change.value
     → MakesOfMap change new
-put_makes change new kind is =
-    record {
-      command = Put change.key change.value;
-      command_is = rw kind refl;
-      key_is = refl;
-      made =
-          λ m. (let got : fin.get (fin.insert m change.key change.value) change.key ≡ Some change.value = grind (arith, nat_tests, gets) in got ∙ sym is);
-      others = λ m key ne. grind (arith, nat_tests, gets);
-    }
+put_makes change new kind is = record {
+  command = Put change.key change.value;
+  command_is = rw kind refl;
+  key_is = refl;
+  made =
+      λ m. (let got : fin.get (fin.insert m change.key change.value) change.key ≡ Some change.value = grind (arith, nat_tests, gets) in got ∙ sym is);
+  others = λ m key ne. grind (arith, nat_tests, gets);
+}
 
 -- what a remove makes of one
 remove_makes : (change : ChangeRow) (new : Option ℕ) → change.kind ≡ remove_kind → new ≡ None
     → MakesOfMap change new
-remove_makes change new kind is =
-    record {
-      command = Remove change.key;
-      command_is = rw kind refl;
-      key_is = refl;
-      made =
-          λ m. (let got : fin.get (fin.remove m change.key) change.key ≡ None = grind (arith, nat_tests, gets) in got ∙ sym is);
-      others = λ m key ne. grind (arith, nat_tests, gets);
-    }
+remove_makes change new kind is = record {
+  command = Remove change.key;
+  command_is = rw kind refl;
+  key_is = refl;
+  made =
+      λ m. (let got : fin.get (fin.remove m change.key) change.key ≡ None = grind (arith, nat_tests, gets) in got ∙ sym is);
+  others = λ m key ne. grind (arith, nat_tests, gets);
+}
 
 -- ---- sides
 
@@ -180,8 +169,7 @@ pair_stays ps qs pair key left right s h =
 
 -- what is found from a word that reads as the reference
 at_ref : (ps qs : Pieces) (key word : ℕ) (ref : Option Ref) (value : Option ℕ) → ref_of word ≡ ref
-    → Finds qs key (past_rebuild ps ref) value
-    → Finds qs key (past_rebuild ps (ref_of word)) value
+    → Finds qs key (past_rebuild ps ref) value → Finds qs key (past_rebuild ps (ref_of word)) value
 at_ref ps qs key word ref value e f = subst (λ x. Finds qs key (past_rebuild ps x) value) (sym e) f
 
 -- the reply of a change over a leaf is what the leaf says
@@ -219,81 +207,68 @@ module _ (t u : Snapshot) (change : ChangeRow) (stay : RowsStay t.pieces u.piece
 
   -- the two sides of an update in its form
   pub sides : HasForm t change → IsUpdate change.kind → Sides t u change
-  sides (into_nothing leaf kind from to new) update =
-      record {
-        old = λ key. None;
-        new = says (put_row change);
-        from_finds =
-            λ key. at_ref t.pieces t.pieces key change.from (Some Empty) None from in_nothing;
-        to_finds = put_to leaf to new;
-        others = λ key ne. says_other (put_row change) key (λ e. ne (sym e));
-        reply = sym (ap (λ x. value_at t.pieces x change.key) from);
-        makes =
-            put_makes change (says (put_row change) change.key) kind
-            (says_self (put_row change) change.key refl);
-      }
-  sides (over_leaf old leaf kind from is to new) update =
-      record {
-        old = says is.row;
-        new = says (put_row change);
-        from_finds = leaf_from old is.row from is.published;
-        to_finds = put_to leaf to new;
-        others =
-            λ key ne. says_other (put_row change) key (λ e. ne (sym e))
-            ∙ sym (says_other is.row key (λ e. ne (sym e ∙ is.key_is)));
-        reply = leaf_reply t.pieces change old is.row from is.published;
-        makes =
-            put_makes change (says (put_row change) change.key) kind
-            (says_self (put_row change) change.key refl);
-      }
-  sides (beside_low other other_key leaf pair kind from is less to p new) update =
-      record {
-        old = says is.row;
-        new = pair_says is.row change.key (put_row change);
-        from_finds = leaf_from other is.row from is.published;
-        to_finds = pair_to pair change.key other leaf is.row (put_row change) to p is.published new;
-        others = λ key ne. low_other key ne;
-        reply = leaf_reply t.pieces change other is.row from is.published;
-        makes = put_makes change (pair_says is.row change.key (put_row change) change.key) kind
-            (right_says is.row change.key (put_row change) change.key (omega arith) ∙ says_self (put_row change) change.key refl);
-      }
+  sides (into_nothing leaf kind from to new) update = record {
+    old = λ key. None;
+    new = says (put_row change);
+    from_finds = λ key. at_ref t.pieces t.pieces key change.from (Some Empty) None from in_nothing;
+    to_finds = put_to leaf to new;
+    others = λ key ne. says_other (put_row change) key (λ e. ne (sym e));
+    reply = sym (ap (λ x. value_at t.pieces x change.key) from);
+    makes = put_makes change (says (put_row change) change.key) kind
+        (says_self (put_row change) change.key refl);
+  }
+  sides (over_leaf old leaf kind from is to new) update = record {
+    old = says is.row;
+    new = says (put_row change);
+    from_finds = leaf_from old is.row from is.published;
+    to_finds = put_to leaf to new;
+    others = λ key ne. says_other (put_row change) key (λ e. ne (sym e))
+        ∙ sym (says_other is.row key (λ e. ne (sym e ∙ is.key_is)));
+    reply = leaf_reply t.pieces change old is.row from is.published;
+    makes = put_makes change (says (put_row change) change.key) kind
+        (says_self (put_row change) change.key refl);
+  }
+  sides (beside_low other other_key leaf pair kind from is less to p new) update = record {
+    old = says is.row;
+    new = pair_says is.row change.key (put_row change);
+    from_finds = leaf_from other is.row from is.published;
+    to_finds = pair_to pair change.key other leaf is.row (put_row change) to p is.published new;
+    others = λ key ne. low_other key ne;
+    reply = leaf_reply t.pieces change other is.row from is.published;
+    makes = put_makes change (pair_says is.row change.key (put_row change) change.key) kind
+        (right_says is.row change.key (put_row change) change.key (omega arith) ∙ says_self (put_row change) change.key refl);
+  }
     where
       low_other : (key : ℕ) → key ≢ change.key
           → pair_says is.row change.key (put_row change) key ≡ says is.row key
-      low_other key ne =
-          ⊎_elim
-          (λ low. left_says is.row change.key (put_row change) key low)
+      low_other key ne = ⊎_elim (λ low. left_says is.row change.key (put_row change) key low)
           (λ high. right_says is.row change.key (put_row change) key high ∙ says_other (put_row change) key (λ e. ne (sym e)) ∙ sym (says_other is.row key (λ e. (let a = is.key_is in omega arith))))
           (cases_lt key change.key)
-  sides (beside_high other other_key leaf pair kind from is less to p new) update =
-      record {
-        old = says is.row;
-        new = pair_says (put_row change) other_key is.row;
-        from_finds = leaf_from other is.row from is.published;
-        to_finds = pair_to pair other_key leaf other (put_row change) is.row to p new is.published;
-        others = λ key ne. high_other key ne;
-        reply = leaf_reply t.pieces change other is.row from is.published;
-        makes = put_makes change (pair_says (put_row change) other_key is.row change.key) kind
-            (left_says (put_row change) other_key is.row change.key less ∙ says_self (put_row change) change.key refl);
-      }
+  sides (beside_high other other_key leaf pair kind from is less to p new) update = record {
+    old = says is.row;
+    new = pair_says (put_row change) other_key is.row;
+    from_finds = leaf_from other is.row from is.published;
+    to_finds = pair_to pair other_key leaf other (put_row change) is.row to p new is.published;
+    others = λ key ne. high_other key ne;
+    reply = leaf_reply t.pieces change other is.row from is.published;
+    makes = put_makes change (pair_says (put_row change) other_key is.row change.key) kind
+        (left_says (put_row change) other_key is.row change.key less ∙ says_self (put_row change) change.key refl);
+  }
     where
       high_other : (key : ℕ) → key ≢ change.key
           → pair_says (put_row change) other_key is.row key ≡ says is.row key
-      high_other key ne =
-          ⊎_elim
+      high_other key ne = ⊎_elim
           (λ low. left_says (put_row change) other_key is.row key low ∙ says_other (put_row change) key (λ e. ne (sym e)) ∙ sym (says_other is.row key (λ e. (let a = is.key_is in omega arith))))
-          (λ high. right_says (put_row change) other_key is.row key high)
-          (cases_lt key other_key)
-  sides (takes_out leaf kind from is to) update =
-      record {
-        old = says is.row;
-        new = λ key. None;
-        from_finds = leaf_from leaf is.row from is.published;
-        to_finds = λ key. at_ref t.pieces u.pieces key change.to (Some Empty) None to in_nothing;
-        others = λ key ne. sym (says_other is.row key (λ e. ne (sym e ∙ is.key_is)));
-        reply = leaf_reply t.pieces change leaf is.row from is.published;
-        makes = remove_makes change None kind refl;
-      }
+          (λ high. right_says (put_row change) other_key is.row key high) (cases_lt key other_key)
+  sides (takes_out leaf kind from is to) update = record {
+    old = says is.row;
+    new = λ key. None;
+    from_finds = leaf_from leaf is.row from is.published;
+    to_finds = λ key. at_ref t.pieces u.pieces key change.to (Some Empty) None to in_nothing;
+    others = λ key ne. sym (says_other is.row key (λ e. ne (sym e ∙ is.key_is)));
+    reply = leaf_reply t.pieces change leaf is.row from is.published;
+    makes = remove_makes change None kind refl;
+  }
   sides (begins target rebuild kind from to h) update =
       absurd (⊎_elim (λ e. (omega arith)) (λ e. (omega arith)) update)
   sides (ends rebuild row kind from e f set) update =

@@ -6,37 +6,20 @@ use Rattle.std.specs.FinMap as fin
 use Rattle.ist_core.specs.declared.pairs.Pair.{Pair}
 use Rattle.ist_core.specs.declared.states.ChangeRow.{ChangeRow}
 use Rattle.ist_core.specs.declared.events.Event.TheVariants.{Decide}
-use Rattle.ist_core.specs.Map.{Map, map_of, map_after}
-use Rattle.ist_core.specs.References.{Ref, InnerAt, ChangeAt, ref_of, word_of}
-use Rattle.ist_core.specs.Statuses.{decided_yes}
-use Rattle.ist_core.specs.Pieces.{Leaf, Inner, Change, with_decision}
-use Rattle.ist_core.specs.Snapshots.{Snapshot}
-use Rattle.ist_core.specs.StartLayout.{start}
-use Rattle.ist_core.specs.Logs.{Log}
-use Rattle.ist_core.specs.Slots.{SlotHolds, IsChildFor, rebuild_reads, past_rebuild, logical}
-use Rattle.ist_core.specs.Links.{Leads}
-use Rattle.ist_core.specs.Changes.{Entry, command_of, reply_of, entry_for, entry_of, changes_of, map_after_entries}
-use Rattle.ist_core.specs.Rebuilding.{IsUpdate}
-use Rattle.ist_core.specs.Lawful.{EachEnabled, CanOpen, state_of}
-use Rattle.ist_core.proofs.RowLemmas.{changed_at-same}
-use Rattle.ist_core.proofs.FateLemmas.{grow_between, grow_after}
-use Rattle.ist_core.proofs.PlaceLemmas.{anchor_free}
-use Rattle.ist_core.proofs.RoomLemmas.{published_good}
-use Rattle.ist_core.proofs.NamingStepLemmas.{changed_at-fixed}
-use Rattle.ist_core.proofs.OrderLemmas.{names, past_rebuild_above}
-use Rattle.ist_core.proofs.SlotStepLemmas.{slot_stays}
-use Rattle.ist_core.proofs.FreezingLemmas.{change_read, side_not_yes}
-use Rattle.ist_core.proofs.GrowingLemmas.{child_remains}
-use Rattle.ist_core.proofs.OptionLemmas.{same_change}
+use Rattle.ist_core.specs.TreeTerms.{Map, map_of, map_after, Leads, Entry, command_of, reply_of, entry_for, entry_of, changes_of, map_after_entries, IsUpdate}
+use Rattle.ist_core.specs.WordTerms.{Ref, InnerAt, ChangeAt, ref_of, word_of, decided_yes, Leaf, Inner, Change, with_decision, start, SlotHolds, IsChildFor, rebuild_reads, past_rebuild, logical}
+use Rattle.ist_core.specs.LogTerms.{Snapshot, Log, EachEnabled, CanOpen, state_of}
+use Rattle.ist_core.proofs.AllWordLemmas.{changed_at-same, same_change}
+use Rattle.ist_core.proofs.AllLogLemmas.{grow_between, grow_after, published_good, change_read, side_not_yes, child_remains}
+use Rattle.ist_core.proofs.AllPlaceLemmas.{anchor_free, changed_at-fixed, names, past_rebuild_above, slot_stays}
 use Rattle.laws_links.specs.Linking.{IsFinished}
 use Rattle.laws_links.proofs.FormLemmas.{finished_grows}
 use Rattle.laws_links.proofs.InductionLemmas.{sound_after}
 use Rattle.laws_links.proofs.ReadLemmas.{side_yes}
 use Rattle.laws_histories.specs.Finding.{Finds, Gives}
 use Rattle.laws_histories.specs.Telling.{AreLegal}
-use Rattle.laws_histories.proofs.NeedLemmas.{HasForm, into_nothing, over_leaf, beside_low, beside_high, takes_out, begins, ends, Needs, AllNeeds}
+use Rattle.laws_histories.proofs.LedLemmas.{HasForm, into_nothing, over_leaf, beside_low, beside_high, takes_out, begins, ends, Needs, AllNeeds, led_step, led_on}
 use Rattle.laws_histories.proofs.ReadLemmas.{side_reads, change_logical, Turns}
-use Rattle.laws_histories.proofs.LedLemmas.{led_step, led_on}
 use Rattle.laws_histories.proofs.DecisionLemmas.{unfinished}
 use Rattle.laws_histories.proofs.FindLemmas.{finds_once, finds_above, gives_step, IsHigh, finds_high}
 use Rattle.laws_histories.proofs.ReachedByKeyLemmas.{came}
@@ -84,8 +67,7 @@ module _ (pairs : List Pair) (words : ℕ) (opens : CanOpen pairs words)
   -- the change that turns is this one
   turned_is : (node i : ℕ) (ref : Option Ref)
       (turn : Turns Before Following (Decide caller base true) node i ref) → turn.change ≡ change
-  turned_is node i ref turn =
-      let same : base ≡ turn.base = cc (turn.decides.is) in
+  turned_is node i ref turn = let same : base ≡ turn.base = cc (turn.decides.is) in
       same_change (Before.pieces base) turn.change change
       (subst (λ b. Before.pieces b ≡ Some (Change turn.change)) (sym same) turn.pending.published) h.1.pending.published
 
@@ -93,10 +75,8 @@ module _ (pairs : List Pair) (words : ℕ) (opens : CanOpen pairs words)
   alike_gives : (key : ℕ)
       → ((value : Option ℕ) → Finds Before.pieces key From value → Finds Following.pieces key To value)
       → (value : Option ℕ) → Gives Before key value → Gives Following key value
-  alike_gives key alike =
-      gives_step pairs words opens log (Decide caller base true) h key
-      (λ node i ref value turn f.
-      let same = turned_is node i ref turn in
+  alike_gives key alike = gives_step pairs words opens log (Decide caller base true) h key
+      (λ node i ref value turn f. let same = turned_is node i ref turn in
       subst (λ c. Finds Following.pieces key (past_rebuild Before.pieces (ref_of c.to)) value)
       (sym same)
       (alike value (subst (λ c. Finds Before.pieces key (past_rebuild Before.pieces (ref_of c.from)) value) same (subst (λ x. Finds Before.pieces key x value) (sym turn.from) f))))
@@ -114,8 +94,7 @@ module _ (pairs : List Pair) (words : ℕ) (opens : CanOpen pairs words)
 
   -- the key of the update leads to its slot
   led_here : IsUpdate change.kind → IsLedHere
-  led_here update =
-      let pending = h.1.pending in
+  led_here update = let pending = h.1.pending in
       let by_key = came pairs words log h.0 base change pending.published update in
       let never : IsFinished Before change.node → ⊥ =
       unfinished pairs words opens log h.0 needed base change pending h.1.outcome in
@@ -131,22 +110,18 @@ module _ (pairs : List Pair) (words : ℕ) (opens : CanOpen pairs words)
       let word = change_read pairs words opens log h.0 base change pending.published in
       let none : change.decision ≢ decided_yes = λ e. (let zero = pending.unset in omega arith) in
       let row = (names pairs words opens log h.0).rows base (Change change) pending.published in
-      let grows = grow_after pairs words log (Decide caller base true) h in
-      record {
+      let grows = grow_after pairs words log (Decide caller base true) h in record {
         led = led;
         index_is = by_key.index_is;
         slot = slot;
-        reads =
-            change_logical Before.pieces
+        reads = change_logical Before.pieces
             (word_of (ChangeAt base)) base change word pending.published
             ∙ ap (λ w. past_rebuild Before.pieces (ref_of w)) (side_not_yes change none);
-        led_after =
-            ⊎_elim (λ x. x) (λ f. absurd (never f))
+        led_after = ⊎_elim (λ x. x) (λ f. absurd (never f))
             (led_step pairs words opens log (Decide caller base true) h needed change.key change.node led);
         index_after =
             child_remains Before Following grows change.node change.key change.index by_key.index_is;
-        slot_after =
-            slot_stays (start pairs words) log (Decide caller base true) h.1
+        slot_after = slot_stays (start pairs words) log (Decide caller base true) h.1
             (sound_after pairs words log h.0) tt change.node change.index
             (word_of (ChangeAt base)) slot;
         reads_after =
@@ -158,8 +133,7 @@ module _ (pairs : List Pair) (words : ℕ) (opens : CanOpen pairs words)
 
   -- the two sides of the update
   its_sides : IsUpdate change.kind → Sides Before Following change
-  its_sides update =
-      sides Before Following change
+  its_sides update = sides Before Following change
       record {
         leaves =
             λ b r e. changed_at-fixed Before.pieces base b (with_decision decided_yes) (Leaf r) e refl;
@@ -179,16 +153,14 @@ module _ (pairs : List Pair) (words : ℕ) (opens : CanOpen pairs words)
       z = its_sides update
 
       here : key ≡ change.key → Gives Following key (fin.get (map_after m z.makes.command) key)
-      here e =
-          let s = led_here update in
+      here e = let s = led_here update in
           subst (λ k. Gives Following k (fin.get (map_after m z.makes.command) k)) (sym e)
           (subst (λ v. Gives Following change.key v) (sym (z.makes.made m))
           (finds_above Following change.key change.node change.index (word_of (ChangeAt base)) (z.new change.key) (anchor_free pairs words (Decide caller base true ∷ log) h) s.led_after s.index_after s.slot_after
           (subst (λ ref. Finds Following.pieces change.key ref (z.new change.key)) (sym s.reads_after) (z.to_finds change.key))))
 
       elsewhere : key ≢ change.key → Gives Following key (fin.get (map_after m z.makes.command) key)
-      elsewhere ne =
-          subst (λ v. Gives Following key v) (sym (z.makes.others m key ne))
+      elsewhere ne = subst (λ v. Gives Following key v) (sym (z.makes.others m key ne))
           (alike_gives key
           (λ value f. subst (λ v. Finds Following.pieces key To v) (z.others key ne ∙ finds_once Before.pieces key From (z.old key) value (z.from_finds key) f) (z.to_finds key))
           (fin.get m key) (all key))
@@ -197,9 +169,7 @@ module _ (pairs : List Pair) (words : ℕ) (opens : CanOpen pairs words)
   update_reply : (update : IsUpdate change.kind) (m : Map)
       → ((key : ℕ) → Gives Before key (fin.get m key))
       → fin.get m change.key ≡ reply_of Before.pieces change
-  update_reply update m all =
-      let z = its_sides update in
-      let s = led_here update in
+  update_reply update m all = let z = its_sides update in let s = led_here update in
       let here =
       finds_above Before change.key change.node change.index (word_of (ChangeAt base))
       (z.old change.key) (anchor_free pairs words log h.0) s.led s.index_is s.slot
@@ -210,16 +180,13 @@ module _ (pairs : List Pair) (words : ℕ) (opens : CanOpen pairs words)
   -- a start and a finish leave what each key is given
   rebuild_gives : ((key : ℕ) (value : Option ℕ) → Finds Before.pieces key From value → Finds Before.pieces key To value)
       → (key : ℕ) (value : Option ℕ) → Gives Before key value → Gives Following key value
-  rebuild_gives same key =
-      alike_gives key
-      (λ value f.
-      finds_high pairs words opens log (Decide caller base true) h key change.node
+  rebuild_gives same key = alike_gives key
+      (λ value f. finds_high pairs words opens log (Decide caller base true) h key change.node
       (λ at i ref turn. sym turn.node_is ∙ ap (λ c. c.node) (turned_is at i ref turn))
       To value high (same key value f))
     where
       high : IsHigh pairs words opens log (Decide caller base true) h change.node To
-      high child is =
-          let o = names pairs words opens log h.0 in
+      high child is = let o = names pairs words opens log h.0 in
           let row = o.rows base (Change change) h.1.pending.published in
           past_rebuild_above Before change.node change.index child (ref_of change.to) o row.1 is
 
@@ -230,10 +197,8 @@ module _ (pairs : List Pair) (words : ℕ) (opens : CanOpen pairs words)
       → ((key : ℕ) → Gives Following key (fin.get (map_after_entries (map_after_entries (map_of pairs) (changes_of pairs words log)) new) key))
       → AreLegal (map_after_entries (map_of pairs) (changes_of pairs words log)) new
       → ToldAfter pairs words (Decide caller base true ∷ log)
-  told_more new are told gives legal =
-      let m = map_of pairs in
-      let old = changes_of pairs words log in
-      record {
+  told_more new are told gives legal = let m = map_of pairs in
+      let old = changes_of pairs words log in record {
         gives = λ key.
             subst (λ es. Gives Following key (fin.get (map_after_entries m es) key)) (sym are)
             (subst (λ n. Gives Following key (fin.get n key)) (sym (map_after_entries-append m old new)) (gives key));
@@ -243,8 +208,7 @@ module _ (pairs : List Pair) (words : ℕ) (opens : CanOpen pairs words)
   -- an update is its new entry
   told_update : IsUpdate change.kind → ToldAfter pairs words log
       → ToldAfter pairs words (Decide caller base true ∷ log)
-  told_update update told =
-      let m = map_after_entries (map_of pairs) (changes_of pairs words log) in
+  told_update update told = let m = map_after_entries (map_of pairs) (changes_of pairs words log) in
       let makes = (its_sides update).makes in
       let entry : Entry =
       record { owner = change.owner; command = makes.command; reply = reply_of Before.pieces change } in

@@ -3,8 +3,7 @@ use Rattle.std.proofs.Common.{◌≡◌, ◌==◌, Bool, true, false, [], ◌∷
 use Rattle.std.proofs.lemmas.Bool.{true≢false}
 use Rattle.ist_core.specs.declared.events.Event.{Event}
 use Rattle.ist_core.specs.declared.events.Event.TheVariants.{Okay}
-use Rattle.ist_core.specs.Logs.{Log, Happened, Okays}
-use Rattle.ist_core.specs.Lawful.{Lawful}
+use Rattle.ist_core.specs.LogTerms.{Log, Happened, Okays, Lawful}
 use Rattle.laws_histories.specs.ExampleRebuilds.{three_pairs, left_finish_installed, left_too_late}
 
 -- a test of events: an Okay of the change at 147

@@ -4,15 +4,10 @@ use Rattle.std.proofs.Common.{◌≡◌, ℕ, suc, ◌+◌, ◌≤◌, ◌⊎◌
 use Rattle.std.proofs.lemmas.Bool.Decides.{eqb_tells}
 use Rattle.ist_core.specs.declared.calls.Call.{Call}
 use Rattle.ist_core.specs.declared.pairs.Pair.{Pair}
-use Rattle.ist_core.specs.Map.{Map, map_of, map_after, reply_to}
-use Rattle.ist_core.specs.Elements.{Among, Each}
-use Rattle.ist_core.specs.StartLayout.{start}
-use Rattle.ist_core.specs.Logs.{Log, GoesOn, same_log}
-use Rattle.ist_core.specs.Changes.{Entry, changes_of, map_at}
-use Rattle.ist_core.specs.Standing.{is_change, IsRead, Follows, StandsIn, IsFresh}
-use Rattle.ist_core.specs.Histories.{PassCalls, StandInPrefixes, Reading, readings_of, readings, comes_first, put_in, in_order, at_position, told_by_entry, told_by_reading, woven_from, woven, IsLegal}
-use Rattle.ist_core.specs.Resting.{AllStandIn}
-use Rattle.ist_core.proofs.ElementLemmas.{among-append, each-among, among-filter, each_of}
+use Rattle.ist_core.specs.TreeTerms.{Map, map_of, map_after, reply_to, Entry, changes_of, map_at, is_change, IsRead, Follows, StandsIn, IsFresh, AllStandIn}
+use Rattle.ist_core.specs.LogTerms.{Among, Each, Log, GoesOn, same_log, PassCalls, StandInPrefixes, Reading, readings_of, readings, comes_first, put_in, in_order, at_position, told_by_entry, told_by_reading, woven_from, woven, IsLegal}
+use Rattle.ist_core.specs.WordTerms.{start}
+use Rattle.ist_core.proofs.AllWordLemmas.{among-append, each-among, among-filter, each_of}
 use Rattle.laws_histories.specs.Calls.{HasCalls}
 use Rattle.laws_histories.specs.Telling.{AreLegal}
 use Rattle.laws_histories.specs.Weaving.{numbered}
@@ -31,8 +26,7 @@ record LeavesMap (m : Map) (call : Call) : Type 0 where
 readings_legal : (m : Map) (xs : List Reading) → Each (λ x. LeavesMap m x.call) xs
     → IsLegal m (map told_by_reading xs) × (map_told m (map told_by_reading xs) ≡ m)
 readings_legal m [] h = (refl, refl)
-readings_legal m (x ∷ xs) h =
-    let rest = readings_legal m xs h.1 in
+readings_legal m (x ∷ xs) h = let rest = readings_legal m xs h.1 in
     let read = h.0 in (
       same_cons _ _ _ _ (sym read.reply)
           (subst (λ n. IsLegal n (map told_by_reading xs)) (sym read.leaves) rest.0),
@@ -121,9 +115,7 @@ of_pass pass x h =
 pub of_passes : (passes : List PassCalls) (x : Reading) → Among x (readings passes)
     → (pass : PassCalls) × Among pass passes × IsReadingOfPass pass x
 of_passes [] x h = absurd h
-of_passes (pass ∷ passes) x h =
-    ⊎_elim
-    (λ i. (pass, inl refl, of_pass pass x i))
+of_passes (pass ∷ passes) x h = ⊎_elim (λ i. (pass, inl refl, of_pass pass x i))
     (λ i. let it = of_passes passes x i in (it.0, inr it.1, it.2))
     (among-append x (readings_of pass) (readings passes) h)
 
@@ -145,8 +137,7 @@ woven_legal pairs words log passes legal all =
 
     leaves : (x : Reading) → Among x (readings passes)
         → LeavesMap (map_at m entries x.call.position) x.call
-    leaves x i =
-        let it = of_passes passes x i in
+    leaves x i = let it = of_passes passes x i in
         let stands =
         each-among (λ pass. (prefix : Log) × GoesOn prefix log × StandsIn pairs words prefix pass.number pass.calls) it.0 passes all it.1 in
         let on = changes_on (start pairs words) stands.0 log stands.1 in
@@ -174,14 +165,12 @@ taken_legal pairs words log taken legal h =
 
 -- calls that a pass has learnt of come before a fresh call
 pub learnt_first : (pairs : List Pair) (words : ℕ) (earlier seen : Log) (number told stamp : ℕ)
-    (calls : List Call) (call : Call)
-    → HasCalls pairs words earlier number told calls
+    (calls : List Call) (call : Call) → HasCalls pairs words earlier number told calls
     → GoesOn earlier seen → told ≤ stamp → IsFresh pairs words seen stamp call
     → Each (λ learnt. Follows learnt call) calls
 learnt_first pairs words earlier seen number told stamp calls call has on low fresh =
     each_of (λ learnt. Follows learnt call) calls
-    (λ learnt i.
-    fresh_follows pairs words earlier number stamp calls call has.stand
+    (λ learnt i. fresh_follows pairs words earlier number stamp calls call has.stand
     record {
       position =
           (let a = fresh.position in let b = changes_rise (start pairs words) earlier seen on in omega arith);

@@ -7,30 +7,15 @@ use Rattle.ist_core.specs.declared.lists.Row.{Row}
 use Rattle.ist_core.specs.declared.pairs.Pair.{Pair}
 use Rattle.ist_core.specs.declared.states.InnerRow.{InnerRow}
 use Rattle.ist_core.specs.declared.states.RebuildRow.{RebuildRow}
-use Rattle.ist_core.specs.Building.{CanPlace}
-use Rattle.ist_core.specs.Ideals.{IsIdeal, IsTop}
-use Rattle.ist_core.specs.Lawful.{CanOpen, EachEnabled, state_of}
-use Rattle.ist_core.specs.Leaves.{HasLeaves, PlacedLeaf}
-use Rattle.ist_core.specs.Links.{WasLinked}
-use Rattle.ist_core.specs.Logs.{Log}
-use Rattle.ist_core.specs.Parts.{parts}
-use Rattle.ist_core.specs.Pieces.{Inner, Leaf, Pieces, Rebuild, with_inners, with_slot}
-use Rattle.ist_core.specs.Rebuilding.{IsReplaced}
-use Rattle.ist_core.specs.References.{InnerAt, Ref, ref_of, unset_word}
-use Rattle.ist_core.specs.Snapshots.{Snapshot, bases_of}
-use Rattle.ist_core.specs.StartLayout.{start}
-use Rattle.ist_core.proofs.AddingLemmas.{held_free}
-use Rattle.ist_core.proofs.HomeLemmas.{mentioned_here}
-use Rattle.ist_core.proofs.LeafLemmas.{same_leaves}
-use Rattle.ist_core.proofs.NamingStepLemmas.{changed_at-fixed}
-use Rattle.ist_core.proofs.OrderLemmas.{names}
-use Rattle.ist_core.proofs.RowLemmas.{changed_at-other}
-use Rattle.ist_core.proofs.StepLemmas.{rows_placed}
-use Rattle.ist_core.proofs.OptionLemmas.{no_value, same_rebuild, same_inner}
-use Rattle.laws_links.proofs.ComesLemmas.{rebuild_comes}
+use Rattle.ist_core.specs.TreeTerms.{CanPlace, HasLeaves, PlacedLeaf, WasLinked, IsReplaced}
+use Rattle.ist_core.specs.WordTerms.{IsIdeal, IsTop, parts, Inner, Leaf, Pieces, Rebuild, with_inners, with_slot, InnerAt, Ref, ref_of, unset_word, start}
+use Rattle.ist_core.specs.LogTerms.{CanOpen, EachEnabled, state_of, Log, Snapshot, bases_of}
+use Rattle.ist_core.proofs.AllEventLemmas.{held_free, rows_placed}
+use Rattle.ist_core.proofs.AllPlaceLemmas.{mentioned_here, same_leaves, changed_at-fixed, names}
+use Rattle.ist_core.proofs.AllWordLemmas.{changed_at-other, no_value, same_rebuild, same_inner}
+use Rattle.laws_links.proofs.ComesLemmas.{rebuild_comes, start_quiet}
 use Rattle.laws_links.proofs.InductionLemmas.{sound_after}
-use Rattle.laws_links.proofs.OriginLemmas.{RebuildComes, is_begun, is_drawn, is_rooted, rebuild_was}
-use Rattle.laws_links.proofs.QuietLemmas.{start_quiet}
+use Rattle.laws_links.proofs.PassLemmas.{RebuildComes, is_begun, is_drawn, is_rooted, rebuild_was}
 use Rattle.laws_links.proofs.UntouchedLemmas.{Stays, is_filled, stays_so, untouched}
 use Rattle.laws_links.proofs.NewTreeLemmas.{ArePartly, IsPartly, StandInOther, ideal_each, ideal_kept, ideal_whole, in_parts, partly_each, partly_kept, partly_placed, partly_whole, top_kept, whole}
 use Rattle.laws_links.proofs.UnlinkedLemmas.{inner_set, never_down, never_stand, root_among, root_named, root_never_linked}
@@ -40,8 +25,7 @@ use Rattle.laws_links.proofs.UnlinkedLemmas.{inner_set, never_down, never_stand,
 -- how a rebuild got this root
 data RootCame (pairs : List Pair) (words : ℕ) (log : Log) (event : Event) (rebuild base : ℕ) : Type 0 where
   root_was : (s : RebuildRow) → (state_of pairs words log).pieces rebuild ≡ Some (Rebuild s)
-      → ref_of s.root ≡ Some (InnerAt base)
-      → RootCame pairs words log event rebuild base
+      → ref_of s.root ≡ Some (InnerAt base) → RootCame pairs words log event rebuild base
   root_new : (caller word : ℕ) (rows : List Row) → event ≡ Root caller rebuild word rows
       → (state_of pairs words log).pieces base ≡ None → RootCame pairs words log event rebuild base
 
@@ -69,8 +53,7 @@ module _ (pairs : List Pair) (words : ℕ) (opens : CanOpen pairs words) where
 
   -- two rebuilds have two roots
   pub root_once : (log : Log) → EachEnabled (start pairs words) log
-      → (a b base : ℕ) (r s : RebuildRow)
-      → (state_of pairs words log).pieces a ≡ Some (Rebuild r)
+      → (a b base : ℕ) (r s : RebuildRow) → (state_of pairs words log).pieces a ≡ Some (Rebuild r)
       → (state_of pairs words log).pieces b ≡ Some (Rebuild s)
       → ref_of r.root ≡ Some (InnerAt base) → ref_of s.root ≡ Some (InnerAt base) → a ≡ b
   root_once [] h a b base r s e f x y = absurd (start_quiet pairs words a (Rebuild r) e)
@@ -120,8 +103,7 @@ module _ (pairs : List Pair) (words : ℕ) (opens : CanOpen pairs words) where
       → ref_of r.root ≡ Some ref → (rows : List ℕ)
       → IsIdeal (state_of pairs words log).pieces ref leaves r.target rows
       → IsIdeal (state_of pairs words (event ∷ log)).pieces ref leaves r.target rows
-  whole_step log event h at r e unr leaves ref is rows ideal =
-      let t = state_of pairs words log in
+  whole_step log event h at r e unr leaves ref is rows ideal = let t = state_of pairs words log in
       let u = state_of pairs words (event ∷ log) in
       let never = ideal_each t.pieces (λ b. ¬ (WasLinked (start pairs words) log b)) (never_down pairs words opens log h.0) ref leaves r.target rows ideal
       (λ base same. root_never_linked pairs words opens log h.0 at base r e (is ∙ ap (λ x. Some x) same) unr) in
@@ -155,8 +137,7 @@ module _ (pairs : List Pair) (words : ℕ) (opens : CanOpen pairs words) where
       let stand : StandInOther qs u.pieces (bases_of rows) = record {
         leaf =
             λ b x k. subst (λ ps. ps b ≡ Some (Leaf x)) (sym written) (changed_at-fixed qs can.root b (with_slot i word) (Leaf x) k refl);
-        inner = λ b x among k.
-            subst (λ ps. ps b ≡ Some (Inner x)) (sym written)
+        inner = λ b x among k. subst (λ ps. ps b ≡ Some (Inner x)) (sym written)
             (changed_at-other qs can.root b (with_slot i word)
             (λ z. no_value (t.pieces can.root) (Inner can.root_row) (subst (λ n. t.pieces n ≡ None) z (held_free t caller rows can.held (sound_after pairs words log h.0) b among)) can.root_published) ∙ k);
       } in
@@ -211,8 +192,7 @@ module _ (pairs : List Pair) (words : ℕ) (opens : CanOpen pairs words) where
       (rows, whole (whole_step log event h at r e unr leaves ref is rows ideal))
   partly_step log event h at r e unr leaves reached _ is rows
       (in_parts {base = base} row top under) =
-      let t = state_of pairs words log in
-      let u = state_of pairs words (event ∷ log) in
+      let t = state_of pairs words log in let u = state_of pairs words (event ∷ log) in
       let never = root_never_linked pairs words opens log h.0 at base r e is unr in
       let all = partly_each t.pieces (λ b. ¬ (WasLinked (start pairs words) log b)) (never_down pairs words opens log h.0) row.slots (parts leaves) base rows under
       (λ k word child at_k named. never_down pairs words opens log h.0 base row never top.published k word child at_k named) in

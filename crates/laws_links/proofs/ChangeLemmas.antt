@@ -6,30 +6,14 @@ use Rattle.ist_core.specs.declared.events.Event.TheVariants.{Decide, Install, Pl
 use Rattle.ist_core.specs.declared.lists.Row.{Row}
 use Rattle.ist_core.specs.declared.pairs.Pair.{Pair}
 use Rattle.ist_core.specs.declared.states.ChangeRow.{ChangeRow}
-use Rattle.ist_core.specs.After.{decision_word}
-use Rattle.ist_core.specs.Deciding.{MayBe}
-use Rattle.ist_core.specs.Enabled.{Enabled}
-use Rattle.ist_core.specs.Installing.{CanInstall}
-use Rattle.ist_core.specs.Lawful.{CanOpen, EachEnabled, state_of}
-use Rattle.ist_core.specs.Links.{Linked, WasLinked}
-use Rattle.ist_core.specs.Logs.{Ever, Happened, Log, Okays, Resolves, state}
-use Rattle.ist_core.specs.Pieces.{Change}
-use Rattle.ist_core.specs.References.{ChangeAt, ref_of, word_of}
-use Rattle.ist_core.specs.Slots.{SlotHolds}
-use Rattle.ist_core.specs.Snapshots.{Snapshot}
-use Rattle.ist_core.specs.StartLayout.{start}
-use Rattle.ist_core.specs.Statuses.{decided_yes, undecided}
-use Rattle.ist_core.proofs.FreezingLemmas.{change_read, same_change_word}
-use Rattle.ist_core.proofs.GrowingLemmas.{change_there}
-use Rattle.ist_core.proofs.InstallNamingLemmas.{from_plain}
-use Rattle.ist_core.proofs.MoveLemmas.{HeldLieApart}
-use Rattle.ist_core.proofs.PlaceLemmas.{absent, anchor_free}
-use Rattle.ist_core.proofs.SlotStepLemmas.{install_writes, place_writes, resolve_writes, slot_stays}
-use Rattle.ist_core.proofs.StepLemmas.{holds_installed}
-use Rattle.ist_core.proofs.OptionLemmas.{no_value, same_change}
-use Rattle.ist_core.proofs.FateLemmas.{grow_after}
+use Rattle.ist_core.specs.LogTerms.{decision_word, Enabled, CanOpen, EachEnabled, state_of, Ever, Happened, Log, Okays, Resolves, state, Snapshot}
+use Rattle.ist_core.specs.TreeTerms.{MayBe, CanInstall, Linked, WasLinked}
+use Rattle.ist_core.specs.WordTerms.{Change, ChangeAt, ref_of, word_of, SlotHolds, start, decided_yes, undecided}
+use Rattle.ist_core.proofs.AllLogLemmas.{change_read, same_change_word, change_there, grow_after, said_something}
+use Rattle.ist_core.proofs.AllEventLemmas.{from_plain, HeldLieApart, holds_installed}
+use Rattle.ist_core.proofs.AllPlaceLemmas.{absent, anchor_free, install_writes, place_writes, resolve_writes, slot_stays}
+use Rattle.ist_core.proofs.AllWordLemmas.{no_value, same_change}
 use Rattle.laws_links.proofs.InductionLemmas.{changes_by, sound_after}
-use Rattle.ist_core.proofs.YesLemmas.{said_something}
 
 -- if a decision's word is yes, the decision is yes
 pub said_yes : (said : Bool) → decision_word said ≡ decided_yes → said ≡ true
@@ -44,8 +28,7 @@ pub record IsDecidedAt (t : Snapshot) (base : ℕ) : Type 0 where
 
 -- a change that an enabled event resolves is decided
 pub resolved_now : (first : Snapshot) (log : Log) (event : Event) (base : ℕ)
-    → Enabled first log event
-    → Resolves base event → IsDecidedAt (state first log) base
+    → Enabled first log event → Resolves base event → IsDecidedAt (state first log) base
 resolved_now first log (Resolve caller change) base h is =
     record { row = h.change; published = subst (λ b. (state first log).pieces b ≡ Some (Change h.change)) is h.published; decided = h.decided }
 resolved_now first log _ base h is = absurd is
@@ -83,17 +66,14 @@ module _ (pairs : List Pair) (words : ℕ) (opens : CanOpen pairs words) where
       let writes = install_writes (start pairs words) log caller change rows h.1 (sound_after pairs words log h.0) (anchor_free pairs words log h.0) in
       ⊎_elim
       (λ w. absurd (from_plain (start pairs words) log h.1.change h.1.fresh h.1.fits base (ap ref_of (sym w.0) ∙ change_read pairs words opens log h.0 base x e)))
-      (λ stays. stays)
-      (writes.others n i (word_of (ChangeAt base)) slot)
+      (λ stays. stays) (writes.others n i (word_of (ChangeAt base)) slot)
   change_slot_stays log (Resolve caller change) h base x e unresolved n i slot =
       let writes = resolve_writes (state_of pairs words log) caller change h.1 (anchor_free pairs words log h.0) in
       ⊎_elim (λ w. absurd (unresolved (sym (same_change_word base change w.0)))) (λ stays. stays)
       (writes.others n i (word_of (ChangeAt base)) slot)
   change_slot_stays log (Place caller rebuild j word rows) h base x e unresolved n i slot =
       let writes = place_writes (state_of pairs words log) caller rebuild j word rows h.1 (sound_after pairs words log h.0) (anchor_free pairs words log h.0) in
-      ⊎_elim
-      (λ w. absurd (let seven : base * 8 + 3 ≡ 7 = w.0 in omega arith))
-      (λ stays. stays)
+      ⊎_elim (λ w. absurd (let seven : base * 8 + 3 ≡ 7 = w.0 in omega arith)) (λ stays. stays)
       (writes.others n i (word_of (ChangeAt base)) slot)
   change_slot_stays log event h base x e unresolved n i slot =
       slot_stays (start pairs words) log event h.1 (sound_after pairs words log h.0) tt n i
@@ -104,8 +84,7 @@ module _ (pairs : List Pair) (words : ℕ) (opens : CanOpen pairs words) where
       → (base : ℕ) (x : ChangeRow)
       → (state_of pairs words log).pieces base ≡ Some (Change x) → ¬ (Happened (Resolves base) log)
       → SlotHolds (state_of pairs words log) x.node x.index (word_of (ChangeAt base))
-  unresolved_stands =
-      changes_by pairs words
+  unresolved_stands = changes_by pairs words
       (λ log base x. ¬ (Happened (Resolves base) log) → SlotHolds (state_of pairs words log) x.node x.index (word_of (ChangeAt base)))
       (λ log event h base x old there stands unresolved.
       change_slot_stays log event h base x old (λ now. unresolved (inl now)) x.node x.index (stands (λ before. unresolved (inr before))))
@@ -119,18 +98,14 @@ module _ (pairs : List Pair) (words : ℕ) (opens : CanOpen pairs words) where
       → (base : ℕ) (x : ChangeRow)
       → (state_of pairs words log).pieces base ≡ Some (Change x) → x.decision ≡ undecided
       → ¬ (Happened (Resolves base) log)
-  undecided_unresolved =
-      changes_by pairs words
+  undecided_unresolved = changes_by pairs words
       (λ log base x. x.decision ≡ undecided → ¬ (Happened (Resolves base) log))
-      (λ log event h base x old there before none happened.
-      ⊎_elim
-      (λ now.
-      let it = resolved_now (start pairs words) log event base h.1 now in
+      (λ log event h base x old there before none happened. ⊎_elim
+      (λ now. let it = resolved_now (start pairs words) log event base h.1 now in
       it.decided (ap (λ y. y.decision) (same_change ((state_of pairs words log).pieces base) it.row x it.published old) ∙ none))
       (λ earlier. before none earlier)
       happened)
-      (λ log caller base rows h can none happened.
-      ⊎_elim
+      (λ log caller base rows h can none happened. ⊎_elim
       (λ now. now)
       (λ earlier. unresolved_before pairs words log h.0 base (install_free (start pairs words) log caller base rows can (sound_after pairs words log h.0)) earlier)
       happened)
@@ -146,13 +121,11 @@ module _ (pairs : List Pair) (words : ℕ) (opens : CanOpen pairs words) where
 
   -- the node of each change was linked
   pub node_was_linked : (log : Log) → EachEnabled (start pairs words) log
-      → (base : ℕ) (x : ChangeRow)
-      → (state_of pairs words log).pieces base ≡ Some (Change x)
+      → (base : ℕ) (x : ChangeRow) → (state_of pairs words log).pieces base ≡ Some (Change x)
       → WasLinked (start pairs words) log x.node
   node_was_linked =
       changes_by pairs words (λ log base x. Ever (start pairs words) (λ t. Linked t x.node) log)
-      (λ log event h base x old there was. inr was)
-      (λ log caller base rows h can. inr can.linked)
+      (λ log event h base x old there was. inr was) (λ log caller base rows h can. inr can.linked)
       (λ log caller base said h can was. inr was)
 
   -- a change that was decided yes has an Okay

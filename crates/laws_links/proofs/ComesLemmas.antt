@@ -1,25 +1,21 @@
 -- Where each change, each rebuild and each status after an event comes from, by cases on what the
 -- event does. Serves each conjunct on changes and rebuilds.
-use Rattle.std.proofs.Common.{List, Some, ap, refl, subst, sym, ℕ, ⊎_elim, ◌+◌, ◌∙◌, ◌∷◌, ◌≡◌}
+use Rattle.std.proofs.Common.{List, Some, ap, refl, subst, sym, ℕ, ⊎_elim, ◌+◌, ◌∙◌, ◌∷◌, ◌≡◌, length}
 use Rattle.ist_core.specs.declared.events.Event.{Event}
 use Rattle.ist_core.specs.declared.events.Event.TheVariants.{Install}
 use Rattle.ist_core.specs.declared.pairs.Pair.{Pair}
 use Rattle.ist_core.specs.declared.states.ChangeRow.{ChangeRow}
 use Rattle.ist_core.specs.declared.states.InnerRow.{InnerRow}
 use Rattle.ist_core.specs.declared.states.RebuildRow.{RebuildRow}
-use Rattle.ist_core.specs.After.{decision_word, side_of}
-use Rattle.ist_core.specs.Lawful.{EachEnabled, state_of}
-use Rattle.ist_core.specs.Logs.{Log}
-use Rattle.ist_core.specs.Pieces.{Change, Inner, Leaf, Piece, Rebuild, counted, drawn, with_decision, with_root, with_slot}
-use Rattle.ist_core.specs.References.{ChangeAt, word_of}
-use Rattle.ist_core.specs.StartLayout.{start}
-use Rattle.ist_core.specs.Statuses.{finished_word, marked_word}
-use Rattle.ist_core.proofs.BornLemmas.{Born}
-use Rattle.laws_links.proofs.OriginLemmas.{ChangeComes, KeepsStatuses, RebuildComes, StatusComes, change-counted, change-drawn, change-with_root, change-with_slot, change-with_status, change_was, finished_now, is_begun, is_decided, is_drawn, is_installed, is_new, is_rooted, marked_now, rebuild-counted, rebuild-with_decision, rebuild-with_slot, rebuild-with_status, rebuild_was, status-counted, status-drawn, status-with_decision, status-with_root, status-with_slot, status-with_status, status_was}
+use Rattle.ist_core.specs.LogTerms.{decision_word, side_of, EachEnabled, state_of, Log, Each}
+use Rattle.ist_core.specs.WordTerms.{Change, Inner, Leaf, Piece, Rebuild, counted, drawn, with_decision, with_root, with_slot, ChangeAt, word_of, start, finished_word, marked_word, first_row, rows_from, rows_within, open_word}
+use Rattle.ist_core.proofs.AllEventLemmas.{Born}
+use Rattle.laws_links.proofs.PassLemmas.{ChangeComes, KeepsStatuses, RebuildComes, StatusComes, change-counted, change-drawn, change-with_root, change-with_slot, change-with_status, change_was, finished_now, is_begun, is_decided, is_drawn, is_installed, is_new, is_rooted, marked_now, rebuild-counted, rebuild-with_decision, rebuild-with_slot, rebuild-with_status, rebuild_was, status-counted, status-drawn, status-with_decision, status-with_root, status-with_slot, status-with_status, status_was}
 use Rattle.laws_links.proofs.PublishedLemmas.{born_open, installed_change, installed_rebuild, published_inner}
 use Rattle.laws_links.proofs.RowEventLemmas.{RowCame, BecameBy, as_it_was, by_count, by_decide, by_draw, by_finish, by_install, by_mark, by_place, by_resolve, by_root, came, from_new, from_old}
+use Rattle.ist_core.proofs.AllWordLemmas.{same_value, each-among, among-pieces_of}
+use Rattle.ist_core.proofs.AllPlaceLemmas.{rows_have}
 use Rattle.ist_core.proofs.BornLemmas as born
-use Rattle.ist_core.proofs.OptionLemmas.{same_value}
 
 module _ (pairs : List Pair) (words : ℕ) where
   -- how a change that was there before became what it is
@@ -28,16 +24,13 @@ module _ (pairs : List Pair) (words : ℕ) where
       → BecameBy (start pairs words) log base p (Change x) event
       → ChangeComes (start pairs words) log base x event
   turned_change log event base x p old (as_it_was is) = change_was (old ∙ ap (λ y. Some y) (sym is))
-  turned_change log _ base x p old (by_install {change = change} h here is) =
-      change_was
+  turned_change log _ base x p old (by_install {change = change} h here is) = change_was
       (old ∙ ap (λ y. Some y) (change-with_slot h.change.index (word_of (ChangeAt change)) p x (sym is)))
-  turned_change log _ base x p old (by_resolve h here is) =
-      change_was
+  turned_change log _ base x p old (by_resolve h here is) = change_was
       (old ∙ ap (λ y. Some y) (change-with_slot h.change.index (side_of h.change) p x (sym is)))
   turned_change log _ base x p old (by_place {i = i} {word = word} h here is) =
       change_was (old ∙ ap (λ y. Some y) (change-with_slot i word p x (sym is)))
-  turned_change log _ base x p old (by_decide {said = said} h is) =
-      is_decided h
+  turned_change log _ base x p old (by_decide {said = said} h is) = is_decided h
       (decided p (sym is) (same_value ((state_of pairs words log).pieces base) p (Change h.change) old h.pending.published))
     where
       decided : (p : Piece) → with_decision (decision_word said) p ≡ Change x → p ≡ Change h.change
@@ -93,11 +86,9 @@ module _ (pairs : List Pair) (words : ℕ) where
       → RebuildComes (start pairs words) log base x event
   turned_rebuild log event base x p old (as_it_was is) =
       rebuild_was (old ∙ ap (λ y. Some y) (sym is))
-  turned_rebuild log _ base x p old (by_install {change = change} h here is) =
-      rebuild_was
+  turned_rebuild log _ base x p old (by_install {change = change} h here is) = rebuild_was
       (old ∙ ap (λ y. Some y) (rebuild-with_slot h.change.index (word_of (ChangeAt change)) p x (sym is)))
-  turned_rebuild log _ base x p old (by_resolve h here is) =
-      rebuild_was
+  turned_rebuild log _ base x p old (by_resolve h here is) = rebuild_was
       (old ∙ ap (λ y. Some y) (rebuild-with_slot h.change.index (side_of h.change) p x (sym is)))
   turned_rebuild log _ base x p old (by_place {i = i} {word = word} h here is) =
       rebuild_was (old ∙ ap (λ y. Some y) (rebuild-with_slot i word p x (sym is)))
@@ -109,8 +100,7 @@ module _ (pairs : List Pair) (words : ℕ) where
       rebuild_was (old ∙ ap (λ y. Some y) (rebuild-with_status marked_word p x (sym is)))
   turned_rebuild log _ base x p old (by_finish {keys = keys} h is) =
       rebuild_was (old ∙ ap (λ y. Some y) (rebuild-with_status (finished_word keys) p x (sym is)))
-  turned_rebuild log _ base x p old (by_root {word = word} h is) =
-      is_rooted h
+  turned_rebuild log _ base x p old (by_root {word = word} h is) = is_rooted h
       (rooted p (sym is) (same_value ((state_of pairs words log).pieces base) p (Rebuild h.row) old h.published))
     where
       rooted : (p : Piece) → with_root word p ≡ Rebuild x → p ≡ Rebuild h.row → x ≡ record (h.row) { root = word }
@@ -119,8 +109,7 @@ module _ (pairs : List Pair) (words : ℕ) where
       rooted (Leaf r) e same = absurd (cc)
       rooted (Inner r) e same = absurd (cc)
       rooted (Change r) e same = absurd (cc)
-  turned_rebuild log _ base x p old (by_draw h is) =
-      is_drawn h
+  turned_rebuild log _ base x p old (by_draw h is) = is_drawn h
       (drew p (sym is) (same_value ((state_of pairs words log).pieces base) p (Rebuild h.row) old h.published))
     where
       drew : (p : Piece) → drawn p ≡ Rebuild x → p ≡ Rebuild h.row → x ≡ record (h.row) { draw = h.row.draw + 1 }
@@ -162,8 +151,7 @@ module _ (pairs : List Pair) (words : ℕ) where
       (f : Piece → Piece)
       → KeepsStatuses f → (state_of pairs words log).pieces base ≡ Some p → Inner x ≡ f p
       → StatusComes (start pairs words) log base x.status event
-  same_status log event base x p f keeps old is =
-      let it = keeps p x (sym is) in
+  same_status log event base x p f keeps old is = let it = keeps p x (sym is) in
       status_was it.0 (old ∙ ap (λ y. Some y) it.1) it.2
 
   -- how the status of a row that was there before became what it is
@@ -206,3 +194,24 @@ module _ (pairs : List Pair) (words : ℕ) where
           → StatusComes (start pairs words) log base x.status event
       at (from_old p old turned) = turned_status log event base x p old turned
       at (from_new new none) = is_new none (born_open (start pairs words) log event base x h.1 new)
+
+-- ---- the rows of a new table: leaves, and open inner rows. Serves each conjunct on changes, rebuilds and statuses.
+
+-- a leaf, or an open inner row
+abbrev pub IsLeafOrOpen : Piece → Type 0
+IsLeafOrOpen (Leaf r) = Unit {0}
+IsLeafOrOpen (Inner r) = r.status ≡ open_word
+IsLeafOrOpen (Change r) = ⊥
+IsLeafOrOpen (Rebuild r) = ⊥
+
+rows_quiet : (fuel base : ℕ) (pairs : List Pair)
+    → Each (λ row. IsLeafOrOpen row.1) (rows_within fuel base pairs)
+rows_quiet = rows_have IsLeafOrOpen (λ r. tt) (λ base all two. refl)
+
+-- each row of a new table is one of the two
+pub start_quiet : (pairs : List Pair) (words base : ℕ) (p : Piece)
+    → (start pairs words).pieces base ≡ Some p → IsLeafOrOpen p
+start_quiet pairs words base p e =
+    each-among (λ row. IsLeafOrOpen row.1) (base, p) (rows_from first_row pairs)
+    (rows_quiet (length pairs) first_row pairs)
+    (among-pieces_of (rows_from first_row pairs) base p e)

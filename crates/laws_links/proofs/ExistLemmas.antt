@@ -2,15 +2,10 @@
 use Rattle.std.proofs.Common.{List, Option, Some, [], ap, arith, false, if◌then◌else◌, length, nat_lt, refl, slice_get, subst, suc, sym, true, zero, ℕ, ⊎_elim, ◌++◌, ◌∙◌, ◌∷◌, ◌≡◌, ◌⊎◌}
 use Rattle.ist_core.specs.declared.states.InnerRow.{InnerRow}
 use Rattle.ist_core.specs.declared.states.LeafRow.{LeafRow}
-use Rattle.ist_core.specs.Installing.{pair_over, pair_row}
-use Rattle.ist_core.specs.Leaves.{HasLeaves, PlacedLeaf, SlotsHaveLeaves, leaf_here, no_slot, none_here, one_slot, row_here}
-use Rattle.ist_core.specs.Parts.{parts}
-use Rattle.ist_core.specs.Pieces.{Inner, Leaf, Pieces}
-use Rattle.ist_core.specs.References.{ChangeAt, Empty, InnerAt, IsGoodBase, LeafAt, RebuildAt, Ref, Unset, word_of}
-use Rattle.ist_core.specs.Slots.{logical, past_change, past_rebuild}
-use Rattle.ist_core.proofs.ReferenceLemmas.{ref_of-word_of}
-use Rattle.ist_core.proofs.SplitLemmas.{SplitAll, Splits, no_split, one_split, split_leaf, split_none, split_row}
-use Rattle.ist_core.proofs.OptionLemmas.{same_inner}
+use Rattle.ist_core.specs.TreeTerms.{pair_over, pair_row, HasLeaves, PlacedLeaf, SlotsHaveLeaves, leaf_here, no_slot, none_here, one_slot, row_here}
+use Rattle.ist_core.specs.WordTerms.{parts, Inner, Leaf, Pieces, ChangeAt, Empty, InnerAt, IsGoodBase, LeafAt, RebuildAt, Ref, Unset, word_of, logical, past_change, past_rebuild}
+use Rattle.ist_core.proofs.AllWordLemmas.{ref_of-word_of, same_inner}
+use Rattle.ist_core.proofs.AllPlaceLemmas.{SplitAll, Splits, no_split, one_split, split_leaf, split_none, split_row}
 
 -- ---- some leaves
 
@@ -83,8 +78,7 @@ slot_some ps _ _ (one_slot {words = words} {rest = rest} first more) (suc i) wor
 
 -- a tree over keys reads as itself
 pub split_reads : {A : Type 0} (key : A → ℕ) (ps : Pieces) (ref : Ref) (xs : List A) (rows : List ℕ)
-    → Splits key ps ref xs rows
-    → past_rebuild ps (past_change ps (Some ref)) ≡ Some ref
+    → Splits key ps ref xs rows → past_rebuild ps (past_change ps (Some ref)) ≡ Some ref
 split_reads key ps _ _ _ split_none = refl
 split_reads key ps _ _ _ (split_leaf r e is) = refl
 split_reads key ps _ _ _ (split_row r e two keys under) = refl
@@ -101,8 +95,7 @@ module _ {A : Type 0} (key : A → ℕ) (ps : Pieces) where
         record { leaves = below.leaves; reached = row_here r e below.reached }
 
     split_all_some : (words : List ℕ) (following : List (List A)) (rows : List ℕ)
-        → SplitAll key ps words following rows
-        → SlotsHaveSome ps words
+        → SplitAll key ps words following rows → SlotsHaveSome ps words
     split_all_some _ _ _ no_split = record { leaves = []; reached = no_slot }
     split_all_some _ _ _
         (one_split {word = word} {words = words} {here = here} {rest = rest} {part = part} {following = following} ref is first more) =
@@ -125,13 +118,12 @@ over_some : (ps : Pieces) (base key left right : ℕ) (l r : LeafRow)
     → ps base ≡ Some (pair_over key left right)
     → IsGoodBase left → IsGoodBase right → ps left ≡ Some (Leaf l) → ps right ≡ Some (Leaf r)
     → HasSome ps (Some (InnerAt base))
-over_some ps base key left right l r e one two at_left at_right =
-    record {
-      leaves = _;
-      reached = row_here _ e
-          (one_slot (subst (λ o. HasLeaves ps o (record { base = left; row = l } ∷ [])) (sym (leaf_reads ps left one)) (leaf_here l at_left))
-          (one_slot (subst (λ o. HasLeaves ps o (record { base = right; row = r } ∷ [])) (sym (leaf_reads ps right two)) (leaf_here r at_right)) no_slot));
-    }
+over_some ps base key left right l r e one two at_left at_right = record {
+  leaves = _;
+  reached = row_here _ e
+      (one_slot (subst (λ o. HasLeaves ps o (record { base = left; row = l } ∷ [])) (sym (leaf_reads ps left one)) (leaf_here l at_left))
+      (one_slot (subst (λ o. HasLeaves ps o (record { base = right; row = r } ∷ [])) (sym (leaf_reads ps right two)) (leaf_here r at_right)) no_slot));
+}
 
 -- a pair row over two leaves has them
 pub pair_some : (ps : Pieces) (base key leaf other_key other : ℕ) (l r : LeafRow)
@@ -166,6 +158,5 @@ row_slot ps base r e h i word at = by_leaves base h.leaves h.reached e
     by_leaves : (base : ℕ) (leaves : List PlacedLeaf) → HasLeaves ps (Some (InnerAt base)) leaves
         → ps base ≡ Some (Inner r) → HasSome ps (logical ps word)
     by_leaves _ leaves (row_here {base = base} s f under) e =
-        let same = same_inner (ps base) s r f e in
-        slot_some ps s.slots leaves under i word
+        let same = same_inner (ps base) s r f e in slot_some ps s.slots leaves under i word
         (subst (λ x. slice_get x.slots i ≡ Some word) (sym same) at)

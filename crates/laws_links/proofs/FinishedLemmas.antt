@@ -1,34 +1,19 @@
 -- A finished row: each slot was passed with a word that leads to a finished row, so each child is
 -- finished. Serves the linked law.
-use Rattle.std.proofs.Common.{List, Option, Some, [], ap, arith, length, slice_get, subst, suc, sym, zero, ℕ, ◌*◌, ◌+◌, ◌∙◌, ◌∷◌, ◌≡◌}
+use Rattle.std.proofs.Common.{List, Option, Some, [], ap, arith, length, slice_get, subst, suc, sym, zero, ℕ, ◌*◌, ◌+◌, ◌∙◌, ◌∷◌, ◌≡◌, inl, inr, refl, ◌<◌}
 use Rattle.ist_core.specs.declared.events.Event.{Event}
 use Rattle.ist_core.specs.declared.events.Event.TheVariants.{Finish}
 use Rattle.ist_core.specs.declared.pairs.Pair.{Pair}
 use Rattle.ist_core.specs.declared.states.InnerRow.{InnerRow}
-use Rattle.ist_core.specs.Growing.{AllGrow}
-use Rattle.ist_core.specs.Lawful.{CanOpen, EachEnabled, state_of}
-use Rattle.ist_core.specs.Links.{IsChild}
-use Rattle.ist_core.specs.Logs.{GoesOn, Happened, Log, Passes, one_event, same_log}
-use Rattle.ist_core.specs.Marking.{ArePassed, CountsFor, HasTarget, no_key, of_child, of_target, one_key, one_passed, past_end}
-use Rattle.ist_core.specs.Pieces.{Inner, Pieces}
-use Rattle.ist_core.specs.Rebuilding.{IsFinishedWith}
-use Rattle.ist_core.specs.References.{InnerAt, Ref, ref_of}
-use Rattle.ist_core.specs.Slots.{SlotHolds, in_anchor, in_row, past_rebuild, rebuild_reads}
-use Rattle.ist_core.specs.Snapshots.{Snapshot}
-use Rattle.ist_core.specs.StartLayout.{start}
-use Rattle.ist_core.specs.Statuses.{finished_word}
+use Rattle.ist_core.specs.TreeTerms.{AllGrow, IsChild, ArePassed, CountsFor, HasTarget, no_key, of_child, of_target, one_key, one_passed, past_end, IsFinishedWith, HasLeaves, PlacedLeaf, SlotsHaveLeaves, leaf_here, no_slot, none_here, one_slot, row_here}
+use Rattle.ist_core.specs.LogTerms.{CanOpen, EachEnabled, state_of, GoesOn, Happened, Log, Passes, one_event, same_log, Snapshot, Among, Distinct, Each}
+use Rattle.ist_core.specs.WordTerms.{Inner, Pieces, InnerAt, Ref, ref_of, SlotHolds, in_anchor, in_row, past_rebuild, rebuild_reads, start, finished_word, Leaf, Piece, logical}
 use Rattle.laws_links.specs.Linking.{IsFinished}
-use Rattle.ist_core.proofs.FinishedLemmas.{counts_grows}
-use Rattle.ist_core.proofs.FrozenLemmas.{frozen_reads}
-use Rattle.ist_core.proofs.GrowingLemmas.{inner_there, rebuild_there}
-use Rattle.ist_core.proofs.PlaceLemmas.{anchor_free}
-use Rattle.ist_core.proofs.PrefixLemmas.{happened_later}
-use Rattle.ist_core.proofs.SlotLemmas.{no_row}
-use Rattle.ist_core.proofs.OptionLemmas.{same_inner}
-use Rattle.ist_core.proofs.FateLemmas.{grow_after}
-use Rattle.laws_links.proofs.ComesLemmas.{status_comes}
-use Rattle.laws_links.proofs.OriginLemmas.{StatusComes, finished_now, is_new, marked_now, status_was}
-use Rattle.laws_links.proofs.QuietLemmas.{start_quiet}
+use Rattle.ist_core.proofs.AllLogLemmas.{counts_grows, frozen_reads, inner_there, rebuild_there, happened_later, grow_after}
+use Rattle.ist_core.proofs.AllPlaceLemmas.{anchor_free, no_row, AreRisingKeys, key_of_leaf}
+use Rattle.ist_core.proofs.AllWordLemmas.{same_inner, each_append}
+use Rattle.laws_links.proofs.ComesLemmas.{status_comes, start_quiet}
+use Rattle.laws_links.proofs.PassLemmas.{StatusComes, finished_now, is_new, marked_now, status_was}
 
 -- the target of a rebuild stays its target
 pub target_grows : (t u : Snapshot) → AllGrow t.pieces u.pieces → (rebuild target : ℕ)
@@ -85,10 +70,8 @@ passed_finished t _ _ child (of_target {target = target} {k = k} h f) e =
 
 -- a row keeps its number of slots
 pub same_length : (ps qs : Pieces) → AllGrow ps qs → (base : ℕ) (r s : InnerRow)
-    → ps base ≡ Some (Inner r)
-    → qs base ≡ Some (Inner s) → length s.slots ≡ length r.slots
-same_length ps qs g base r s e f =
-    let it = inner_there ps qs g base r e in
+    → ps base ≡ Some (Inner r) → qs base ≡ Some (Inner s) → length s.slots ≡ length r.slots
+same_length ps qs g base r s e f = let it = inner_there ps qs g base r e in
     ap (λ x. length x.slots) (same_inner (qs base) s it.0 f it.1) ∙ it.2.slots
 
 module _ (pairs : List Pair) (words : ℕ) where
@@ -99,8 +82,7 @@ module _ (pairs : List Pair) (words : ℕ) where
       → ArePassed (state_of pairs words log) log node 0 r.slots k
   finished_passed [] h node k r e is =
       let zero_status : r.status ≡ 0 = start_quiet pairs words node (Inner r) e in
-      let odd : r.status ≡ 4 * k + 3 = is in
-      absurd (omega arith)
+      let odd : r.status ≡ 4 * k + 3 = is in absurd (omega arith)
   finished_passed (event ∷ log) h node k r e is =
       at event h e (status_comes pairs words log event h node r e) (finished_passed log h.0 node k)
     where
@@ -123,10 +105,8 @@ module _ (pairs : List Pair) (words : ℕ) where
           let odd : r.status ≡ 4 * k + 3 = is in absurd (omega arith)
       at _ all there (finished_now {caller = caller} {keys = keys} can same) before =
           let g = grow_after pairs words log (Finish caller node keys) all in
-          let odd : r.status ≡ 4 * k + 3 = is in
-          let also : r.status ≡ 4 * keys + 3 = same in
-          let one : keys ≡ k = omega arith in
-          passed_later (state_of pairs words log)
+          let odd : r.status ≡ 4 * k + 3 = is in let also : r.status ≡ 4 * keys + 3 = same in
+          let one : keys ≡ k = omega arith in passed_later (state_of pairs words log)
           (state_of pairs words (Finish caller node keys ∷ log)) g
           (one_event (Finish caller node keys) same_log) node 0 k can.row.slots r.slots
           (same_length (state_of pairs words log).pieces (state_of pairs words (Finish caller node keys ∷ log)).pieces g node can.row r can.published there)
@@ -137,14 +117,11 @@ module _ (pairs : List Pair) (words : ℕ) where
       → IsFinished (state_of pairs words log) node
       → SlotHolds (state_of pairs words log) node i word
       → IsPassed (state_of pairs words log) log node i
-  finished_slot log h node i word f (in_anchor a b e) =
-      absurd
+  finished_slot log h node i word f (in_anchor a b e) = absurd
       (no_row (state_of pairs words log).pieces node f.1.row (anchor_free pairs words log h) a f.1.published)
-  finished_slot log h node i word f (in_row r e g) =
-      let t = state_of pairs words log in
+  finished_slot log h node i word f (in_row r e g) = let t = state_of pairs words log in
       let same = same_inner (t.pieces node) f.1.row r f.1.published e in
-      let first : 0 + i ≡ i = omega arith in
-      subst (λ j. IsPassed t log node j) first
+      let first : 0 + i ≡ i = omega arith in subst (λ j. IsPassed t log node j) first
       (passed_at t log node 0 f.0 r.slots (finished_passed log h node f.0 r e (ap (λ x. x.status) (sym same) ∙ f.1.status)) i word g)
 
   -- each logical child of a finished row is finished
@@ -152,8 +129,63 @@ module _ (pairs : List Pair) (words : ℕ) where
       → (node i child : ℕ)
       → IsFinished (state_of pairs words log) node → IsChild (state_of pairs words log) node i child
       → IsFinished (state_of pairs words log) child
-  finished_down opens log h node i child f c =
-      let t = state_of pairs words log in
+  finished_down opens log h node i child f c = let t = state_of pairs words log in
       let p = finished_slot log h node i c.word f c.holds in
       passed_finished t (ref_of p.word) p.k child p.counts
       (sym (frozen_reads pairs words opens log h node i p.word c.word p.passed c.holds) ∙ c.reads)
+
+-- ---- there are at most as many leaves with strictly increasing keys as a table has places. Serves the
+-- laws on numbers and on draw words.
+
+mutual
+  -- each leaf that is reached is published
+  pub leaves_stand : (ps : Pieces) (ref : Option Ref) (leaves : List PlacedLeaf)
+      → HasLeaves ps ref leaves → Each (λ leaf. ps leaf.base ≡ Some (Leaf leaf.row)) leaves
+  leaves_stand ps _ _ none_here = tt
+  leaves_stand ps _ _ (leaf_here r e) = (e, tt)
+  leaves_stand ps _ _ (row_here {leaves = leaves} r e under) = slots_stand ps r.slots leaves under
+
+  slots_stand : (ps : Pieces) (words : List ℕ) (leaves : List PlacedLeaf)
+      → SlotsHaveLeaves ps words leaves → Each (λ leaf. ps leaf.base ≡ Some (Leaf leaf.row)) leaves
+  slots_stand ps _ _ no_slot = tt
+  slots_stand ps _ _
+      (one_slot {word = word} {words = words} {here = here} {rest = rest} first more) =
+      each_append (λ leaf. ps leaf.base ≡ Some (Leaf leaf.row)) here rest
+      (leaves_stand ps (logical ps word) here first) (slots_stand ps words rest more)
+
+-- the bases of some leaves
+abbrev pub leaf_bases : List PlacedLeaf → List ℕ
+leaf_bases [] = []
+leaf_bases (leaf ∷ leaves) = leaf.base ∷ leaf_bases leaves
+
+-- a leaf whose key is above another's has another base
+base_absent : (ps : Pieces) (leaf : PlacedLeaf) (leaves : List PlacedLeaf)
+    → ps leaf.base ≡ Some (Leaf leaf.row) → Each (λ l. ps l.base ≡ Some (Leaf l.row)) leaves
+    → Each (λ l. key_of_leaf leaf < key_of_leaf l) leaves → ¬ (Among leaf.base (leaf_bases leaves))
+base_absent ps leaf [] e all above i = i
+base_absent ps leaf (l ∷ leaves) e all above (inl same) =
+    let row : leaf.row ≡ l.row =
+    cc (subst (λ b. ps b ≡ Some (Leaf leaf.row)) same e, all.0) in
+    let keys = ap (λ r. r.key) row in let less = above.0 in omega arith
+base_absent ps leaf (l ∷ leaves) e all above (inr i) = base_absent ps leaf leaves e all.1 above.1 i
+
+-- leaves with strictly increasing keys have distinct bases
+pub bases_distinct : (ps : Pieces) (leaves : List PlacedLeaf)
+    → Each (λ l. ps l.base ≡ Some (Leaf l.row)) leaves
+    → AreRisingKeys key_of_leaf leaves → Distinct (leaf_bases leaves)
+bases_distinct ps [] all rise = tt
+bases_distinct ps (leaf ∷ leaves) all rise =
+    (base_absent ps leaf leaves all.0 all.1 rise.0, bases_distinct ps leaves all.1 rise.1)
+
+-- there is one base for each leaf
+pub length-leaf_bases : (leaves : List PlacedLeaf) → length (leaf_bases leaves) ≡ length leaves
+length-leaf_bases [] = refl
+length-leaf_bases (leaf ∷ leaves) = let rest = length-leaf_bases leaves in omega arith
+
+-- if all rows lie below a place, so do the bases of the leaves
+pub bases_low : (ps : Pieces) (n : ℕ) → ((base : ℕ) (p : Piece) → ps base ≡ Some p → base < n)
+    → (leaves : List PlacedLeaf)
+    → Each (λ l. ps l.base ≡ Some (Leaf l.row)) leaves → Each (λ b. b < n) (leaf_bases leaves)
+bases_low ps n low [] all = tt
+bases_low ps n low (leaf ∷ leaves) all =
+    (low leaf.base (Leaf leaf.row) all.0, bases_low ps n low leaves all.1)

@@ -4,16 +4,11 @@ use Rattle.std.proofs.Common.{Some, ap, arith, subst, sym, ℕ, ◌<◌, ◌∙�
 use Rattle.ist_core.specs.declared.states.ChangeRow.{ChangeRow}
 use Rattle.ist_core.specs.declared.states.InnerRow.{InnerRow}
 use Rattle.ist_core.specs.declared.states.RebuildRow.{RebuildRow}
-use Rattle.ist_core.specs.Growing.{AllGrow, Grows, inner_grows}
-use Rattle.ist_core.specs.Installing.{HasRoomFor, IsLeafOf, new_leaf, nothing, pair_row, same_key}
-use Rattle.ist_core.specs.Pieces.{Inner, Rebuild}
-use Rattle.ist_core.specs.Rebuilding.{IsFinishedWith, IsReplaced, IsStarted}
-use Rattle.ist_core.specs.References.{Empty, InnerAt, LeafAt, RebuildAt, ref_of, unset_word}
-use Rattle.ist_core.specs.Snapshots.{Snapshot}
-use Rattle.ist_core.specs.Statuses.{finish_kind, put_kind, remove_kind, start_kind}
+use Rattle.ist_core.specs.TreeTerms.{AllGrow, Grows, inner_grows, HasRoomFor, IsLeafOf, new_leaf, nothing, pair_row, same_key, IsFinishedWith, IsReplaced, IsStarted}
+use Rattle.ist_core.specs.WordTerms.{Inner, Rebuild, Empty, InnerAt, LeafAt, RebuildAt, ref_of, unset_word, finish_kind, put_kind, remove_kind, start_kind}
+use Rattle.ist_core.specs.LogTerms.{Snapshot}
 use Rattle.laws_links.specs.Linking.{IsFinished}
-use Rattle.ist_core.proofs.DrawLemmas.{finished_grows as finished_stays}
-use Rattle.ist_core.proofs.GrowingLemmas.{change_there, grows_on, inner_there, leaf_there, rebuild_there}
+use Rattle.ist_core.proofs.AllLogLemmas.{finished_grows as finished_stays, change_there, grows_on, inner_there, leaf_there, rebuild_there}
 
 -- ---- growing keeps it
 
@@ -29,27 +24,22 @@ finished_grows t u g node h = (h.0, finished_with_grows t u g node h.0 h.1)
 
 -- a leaf of a key stays one as rows grow
 pub leaf_of_grows : (t u : Snapshot) → AllGrow t.pieces u.pieces → (base key : ℕ)
-    → IsLeafOf t base key
-    → IsLeafOf u base key
+    → IsLeafOf t base key → IsLeafOf u base key
 leaf_of_grows t u g base key h =
     record { row = h.row; published = leaf_there t.pieces u.pieces g base h.row h.published; key_is = h.key_is }
 
 -- a word that has room for a key keeps it as rows grow
 pub room_grows : (t u : Snapshot) → AllGrow t.pieces u.pieces → (key word : ℕ)
-    → HasRoomFor t key word
-    → HasRoomFor u key word
+    → HasRoomFor t key word → HasRoomFor u key word
 room_grows t u g key word (nothing e) = nothing e
 room_grows t u g key word (same_key leaf e h) = same_key leaf e (leaf_of_grows t u g leaf key h)
 
 -- a started rebuild stays started as rows grow
 pub started_grows : (t u : Snapshot) → AllGrow t.pieces u.pieces → (rebuild : ℕ)
-    → IsStarted t rebuild
-    → IsStarted u rebuild
+    → IsStarted t rebuild → IsStarted u rebuild
 started_grows t u g rebuild h =
     let it = change_there t.pieces u.pieces g h.base h.change h.published in
-    let same = it.2.others in
-    let yes = h.decision in
-    record {
+    let same = it.2.others in let yes = h.decision in record {
       base = h.base;
       change = it.0;
       published = it.1;
@@ -60,13 +50,10 @@ started_grows t u g rebuild h =
 
 -- a replaced rebuild stays replaced as rows grow
 pub replaced_grows : (t u : Snapshot) → AllGrow t.pieces u.pieces → (rebuild : ℕ)
-    → IsReplaced t rebuild
-    → IsReplaced u rebuild
+    → IsReplaced t rebuild → IsReplaced u rebuild
 replaced_grows t u g rebuild h =
     let it = change_there t.pieces u.pieces g h.base h.change h.published in
-    let same = it.2.others in
-    let yes = h.decision in
-    record {
+    let same = it.2.others in let yes = h.decision in record {
       base = h.base;
       change = it.0;
       published = it.1;
@@ -148,18 +135,16 @@ pub data IsFormed (t : Snapshot) (change : ChangeRow) : Type 0 where
 -- a formed change stays formed as rows grow
 pub formed_grows : (t u : Snapshot) → AllGrow t.pieces u.pieces → (change : ChangeRow)
     → IsFormed t change → IsFormed u change
-formed_grows t u g change (of_leaf_put h) =
-    of_leaf_put record {
-      kind = h.kind;
-      from = room_grows t u g change.key change.from h.from;
-      leaf = h.leaf;
-      to = h.to;
-      new =
-          leaf_there t.pieces u.pieces g h.leaf record { key = change.key; value = change.value } h.new;
-    }
+formed_grows t u g change (of_leaf_put h) = of_leaf_put record {
+  kind = h.kind;
+  from = room_grows t u g change.key change.from h.from;
+  leaf = h.leaf;
+  to = h.to;
+  new =
+      leaf_there t.pieces u.pieces g h.leaf record { key = change.key; value = change.value } h.new;
+}
 formed_grows t u g change (of_pair_put h) =
-    let it = inner_there t.pieces u.pieces g h.pair h.row h.published in
-    of_pair_put record {
+    let it = inner_there t.pieces u.pieces g h.pair h.row h.published in of_pair_put record {
       kind = h.kind;
       other = h.other;
       other_key = h.other_key;
@@ -177,12 +162,10 @@ formed_grows t u g change (of_pair_put h) =
       grew =
           grows_on (pair_row change.key h.leaf h.other_key h.other) (Inner h.row) (Inner it.0) h.grew (inner_grows it.2);
     }
-formed_grows t u g change (of_remove h) =
-    of_remove
+formed_grows t u g change (of_remove h) = of_remove
     record { kind = h.kind; leaf = h.leaf; from = h.from; stands = leaf_of_grows t u g h.leaf change.key h.stands; to = h.to }
 formed_grows t u g change (of_start h) =
-    let it = rebuild_there t.pieces u.pieces g h.rebuild h.row h.published in
-    of_start record {
+    let it = rebuild_there t.pieces u.pieces g h.rebuild h.row h.published in of_start record {
       kind = h.kind;
       rebuild = h.rebuild;
       row = it.0;
@@ -194,8 +177,7 @@ formed_grows t u g change (of_start h) =
     }
 formed_grows t u g change (of_finish h) =
     let it = rebuild_there t.pieces u.pieces g h.rebuild h.row h.published in
-    let root = it.2.rooted h.set in
-    of_finish record {
+    let root = it.2.rooted h.set in of_finish record {
       kind = h.kind;
       rebuild = h.rebuild;
       row = it.0;
@@ -215,39 +197,36 @@ pub formed_decided : (t : Snapshot) (change : ChangeRow) (word : ℕ) → IsForm
     → IsFormed t record change { decision = word }
 formed_decided t change word (of_leaf_put h) =
     of_leaf_put record { kind = h.kind; from = h.from; leaf = h.leaf; to = h.to; new = h.new }
-formed_decided t change word (of_pair_put h) =
-    of_pair_put record {
-      kind = h.kind;
-      other = h.other;
-      other_key = h.other_key;
-      from = h.from;
-      stands = h.stands;
-      differs = h.differs;
-      leaf = h.leaf;
-      new = h.new;
-      pair = h.pair;
-      to = h.to;
-      above = h.above;
-      row = h.row;
-      published = h.published;
-      grew = h.grew;
-    }
+formed_decided t change word (of_pair_put h) = of_pair_put record {
+  kind = h.kind;
+  other = h.other;
+  other_key = h.other_key;
+  from = h.from;
+  stands = h.stands;
+  differs = h.differs;
+  leaf = h.leaf;
+  new = h.new;
+  pair = h.pair;
+  to = h.to;
+  above = h.above;
+  row = h.row;
+  published = h.published;
+  grew = h.grew;
+}
 formed_decided t change word (of_remove h) =
     of_remove record { kind = h.kind; leaf = h.leaf; from = h.from; stands = h.stands; to = h.to }
-formed_decided t change word (of_start h) =
-    of_start
+formed_decided t change word (of_start h) = of_start
     record { kind = h.kind; rebuild = h.rebuild; row = h.row; from = h.from; to = h.to; published = h.published; parent = h.parent; index = h.index }
-formed_decided t change word (of_finish h) =
-    of_finish record {
-      kind = h.kind;
-      rebuild = h.rebuild;
-      row = h.row;
-      from = h.from;
-      published = h.published;
-      to = h.to;
-      set = h.set;
-      parent = h.parent;
-      index = h.index;
-      started = h.started;
-      finished = h.finished;
-    }
+formed_decided t change word (of_finish h) = of_finish record {
+  kind = h.kind;
+  rebuild = h.rebuild;
+  row = h.row;
+  from = h.from;
+  published = h.published;
+  to = h.to;
+  set = h.set;
+  parent = h.parent;
+  index = h.index;
+  started = h.started;
+  finished = h.finished;
+}

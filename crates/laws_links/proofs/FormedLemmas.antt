@@ -9,27 +9,16 @@ use Rattle.ist_core.specs.declared.states.ChangeRow.{ChangeRow}
 use Rattle.ist_core.specs.declared.states.InnerRow.{InnerRow}
 use Rattle.ist_core.specs.declared.states.LeafRow.{LeafRow}
 use Rattle.ist_core.specs.declared.states.RebuildRow.{RebuildRow}
-use Rattle.ist_core.specs.After.{after, decision_word}
-use Rattle.ist_core.specs.Growing.{AllGrow, Grows, RebuildGrows, change_grows, inner_grows, leaf_stays, rebuild_grows}
-use Rattle.ist_core.specs.Installing.{CanInstall, FitsKind, new_leaf, new_rebuild, pair_row}
-use Rattle.ist_core.specs.Lawful.{EachEnabled, state_of}
-use Rattle.ist_core.specs.Logs.{Log, state}
-use Rattle.ist_core.specs.Pieces.{Change, Inner, Leaf, Piece, Rebuild, with_slot}
-use Rattle.ist_core.specs.References.{ChangeAt, InnerAt, unset_word, word_of}
-use Rattle.ist_core.specs.Snapshots.{Snapshot}
-use Rattle.ist_core.specs.StartLayout.{start}
+use Rattle.ist_core.specs.LogTerms.{after, decision_word, EachEnabled, state_of, Log, state, Snapshot}
+use Rattle.ist_core.specs.TreeTerms.{AllGrow, Grows, RebuildGrows, change_grows, inner_grows, leaf_stays, rebuild_grows, CanInstall, FitsKind, new_leaf, new_rebuild, pair_row}
+use Rattle.ist_core.specs.WordTerms.{Change, Inner, Leaf, Piece, Rebuild, with_slot, ChangeAt, InnerAt, unset_word, word_of, start}
 use Rattle.laws_links.specs.Linking.{IsFinished}
-use Rattle.ist_core.proofs.FreshLemmas.{IsPublishedWith, fresh_stands}
-use Rattle.ist_core.proofs.GrowingLemmas.{all_grow-changed_at, grows-with_slot}
-use Rattle.ist_core.proofs.InstallLemmas.{with_installed}
-use Rattle.ist_core.proofs.InstallNamingLemmas.{pair_is_inner}
-use Rattle.ist_core.proofs.MoveLemmas.{HeldLieApart}
-use Rattle.ist_core.proofs.StepLemmas.{holds_installed}
+use Rattle.ist_core.proofs.AllEventLemmas.{IsPublishedWith, fresh_stands, with_installed, pair_is_inner, HeldLieApart, holds_installed}
+use Rattle.ist_core.proofs.AllLogLemmas.{all_grow-changed_at, grows-with_slot, grow_after}
 use Rattle.laws_links.proofs.FormLemmas.{IsFormed, finished_grows, formed_decided, formed_grows, leaf_of_grows, of_finish, of_leaf_put, of_pair_put, of_remove, of_start, room_grows}
 use Rattle.laws_links.proofs.InductionLemmas.{changes_by, rebuilds_by, sound_after}
 use Rattle.laws_links.proofs.PublishedLemmas.{new_rebuild_row}
 use Rattle.ist_core.specs.Installing as kinds
-use Rattle.ist_core.proofs.FateLemmas.{grow_after}
 
 -- a fresh row of an Install is published by it, and may have grown
 pub fresh_after : (first : Snapshot) (log : Log) (caller base : ℕ) (rows : List Row)
@@ -37,8 +26,7 @@ pub fresh_after : (first : Snapshot) (log : Log) (caller base : ℕ) (rows : Lis
     → HeldLieApart (state first log) → (at : ℕ) (p : Piece)
     → IsPublishedWith first log h.change h.fresh h.fits at p
     → (q : Piece) × ((state first (Install caller base rows ∷ log)).pieces at ≡ Some q) × Grows p q
-fresh_after first log caller base rows h s at p is =
-    let t = state first log in
+fresh_after first log caller base rows h s at p is = let t = state first log in
     let qs = with_installed t.pieces base h.change h.fresh in
     let f = with_slot h.change.index (word_of (ChangeAt base)) in
     let there = fresh_stands first log caller base h.change h.fresh s t.pieces h.fits (holds_installed first log caller base rows h) at p is in
@@ -75,8 +63,7 @@ formed_installed : (first : Snapshot) (log : Log) (caller base : ℕ) (rows : Li
     → IsFormed (state first (Install caller base rows ∷ log)) change
 formed_installed first log caller base rows done g change fresh (kinds.a_put h) following =
     let u = state first (Install caller base rows ∷ log) in
-    let it = following h.leaf (new_leaf change) (refl, refl) in
-    of_leaf_put record {
+    let it = following h.leaf (new_leaf change) (refl, refl) in of_leaf_put record {
       kind = h.kind;
       from = room_grows (state first log) u g change.key change.from h.from;
       leaf = h.leaf;
@@ -90,8 +77,7 @@ formed_installed first log caller base rows done g change fresh (kinds.a_pair h)
     let leaf = following h.leaf (new_leaf change) (inr (refl, refl)) in
     let pair = following h.pair p (inl (refl, refl)) in
     let inner = pair_is_inner change.key h.leaf h.other_key h.other in
-    let row = inner_grown p pair.0 inner.0 inner.1 pair.2 in
-    of_pair_put record {
+    let row = inner_grown p pair.0 inner.0 inner.1 pair.2 in of_pair_put record {
       kind = h.kind;
       other = h.other;
       other_key = h.other_key;
@@ -119,8 +105,7 @@ formed_installed first log caller base rows done g change fresh (kinds.a_remove 
     }
 formed_installed first log caller base rows done g change fresh (kinds.a_start h) following =
     let it = following h.rebuild (new_rebuild change h.target) (refl, refl) in
-    let row = rebuild_grown (new_rebuild_row change h.target) it.0 it.2 in
-    of_start record {
+    let row = rebuild_grown (new_rebuild_row change h.target) it.0 it.2 in of_start record {
       kind = h.kind;
       rebuild = h.rebuild;
       row = row.0;
@@ -160,8 +145,7 @@ module _ (pairs : List Pair) (words : ℕ) where
       → (base : ℕ) (r : RebuildRow)
       → (state_of pairs words log).pieces base ≡ Some (Rebuild r) → r.root ≢ unset_word
       → IsFinished (state_of pairs words log) r.target
-  rooted_is_finished =
-      rebuilds_by pairs words
+  rooted_is_finished = rebuilds_by pairs words
       (λ log base r. r.root ≢ unset_word → IsFinished (state_of pairs words log) r.target)
       (λ log event h base r old there before set. finished_step log event h r.target (before set))
       (λ log caller change rows h can s set. absurd (set refl))
@@ -170,11 +154,9 @@ module _ (pairs : List Pair) (words : ℕ) where
 
   -- each change has the form of its kind
   pub changes_are_formed : (log : Log) → EachEnabled (start pairs words) log
-      → (base : ℕ) (x : ChangeRow)
-      → (state_of pairs words log).pieces base ≡ Some (Change x)
+      → (base : ℕ) (x : ChangeRow) → (state_of pairs words log).pieces base ≡ Some (Change x)
       → IsFormed (state_of pairs words log) x
-  changes_are_formed =
-      changes_by pairs words (λ log base x. IsFormed (state_of pairs words log) x)
+  changes_are_formed = changes_by pairs words (λ log base x. IsFormed (state_of pairs words log) x)
       (λ log event h base x old there formed. formed_grows (state_of pairs words log) (state_of pairs words (event ∷ log)) (grow_after pairs words log event h) x formed)
       (λ log caller base rows h can.
       formed_installed (start pairs words) log caller base rows (rooted_is_finished log h.0)

@@ -7,21 +7,13 @@ use Rattle.ist_core.specs.declared.lists.Row.{Row}
 use Rattle.ist_core.specs.declared.pairs.Pair.{Pair}
 use Rattle.ist_core.specs.declared.states.ChangeRow.{ChangeRow}
 use Rattle.ist_core.specs.declared.states.RebuildRow.{RebuildRow}
-use Rattle.ist_core.specs.After.{decision_word}
-use Rattle.ist_core.specs.Building.{CanDraw, CanRoot}
-use Rattle.ist_core.specs.Deciding.{CanDecide}
-use Rattle.ist_core.specs.Installing.{CanInstall, Starts}
-use Rattle.ist_core.specs.Lawful.{EachEnabled, state_of}
-use Rattle.ist_core.specs.Logs.{Log}
-use Rattle.ist_core.specs.Pieces.{Change, Rebuild}
-use Rattle.ist_core.specs.StartLayout.{start}
-use Rattle.ist_core.proofs.MoveLemmas.{HeldLieApart}
-use Rattle.ist_core.proofs.SoundLemmas.{sound}
-use Rattle.ist_core.proofs.StartLemmas.{sound_start}
-use Rattle.laws_links.proofs.ComesLemmas.{change_comes, rebuild_comes}
-use Rattle.laws_links.proofs.OriginLemmas.{ChangeComes, RebuildComes, change_was, is_begun, is_decided, is_drawn, is_installed, is_rooted, rebuild_was}
+use Rattle.ist_core.specs.LogTerms.{decision_word, EachEnabled, state_of, Log}
+use Rattle.ist_core.specs.TreeTerms.{CanDraw, CanRoot, CanDecide, CanInstall, Starts}
+use Rattle.ist_core.specs.WordTerms.{Change, Rebuild, start}
+use Rattle.ist_core.proofs.AllEventLemmas.{HeldLieApart, sound, sound_start}
+use Rattle.laws_links.proofs.ComesLemmas.{change_comes, rebuild_comes, start_quiet}
+use Rattle.laws_links.proofs.PassLemmas.{ChangeComes, RebuildComes, change_was, is_begun, is_decided, is_drawn, is_installed, is_rooted, rebuild_was}
 use Rattle.laws_links.proofs.PublishedLemmas.{new_rebuild_row}
-use Rattle.laws_links.proofs.QuietLemmas.{start_quiet}
 
 module _ (pairs : List Pair) (words : ℕ) where
   -- held rows lie apart after a lawful log

@@ -5,28 +5,16 @@ use Rattle.ist_core.specs.declared.events.Event.TheVariants.{Decide}
 use Rattle.ist_core.specs.declared.pairs.Pair.{Pair}
 use Rattle.ist_core.specs.declared.states.InnerRow.{InnerRow}
 use Rattle.ist_core.specs.declared.states.LeafRow.{LeafRow}
-use Rattle.ist_core.specs.Growing.{AllGrow}
-use Rattle.ist_core.specs.Lawful.{CanOpen, EachEnabled, state_of}
-use Rattle.ist_core.specs.Leaves.{HasContents, HasLeaves, PlacedLeaf, SlotsHaveLeaves, leaf_here, no_slot, none_here, one_slot, row_here}
-use Rattle.ist_core.specs.Logs.{Log}
-use Rattle.ist_core.specs.Pieces.{Change, Inner, Leaf, Piece, Pieces, Rebuild}
-use Rattle.ist_core.specs.References.{ChangeAt, Empty, InnerAt, LeafAt, RebuildAt, Ref, Unset, ref_of}
-use Rattle.ist_core.specs.RowLayout.{anchor}
-use Rattle.ist_core.specs.Slots.{SlotHolds, in_anchor, in_row, logical, past_change, past_rebuild, rebuild_reads}
-use Rattle.ist_core.specs.Snapshots.{Snapshot}
-use Rattle.ist_core.specs.StartLayout.{start}
-use Rattle.ist_core.proofs.GrowingLemmas.{inner_there, leaf_there, rebuild_there}
-use Rattle.ist_core.proofs.LeafLemmas.{same_leaves}
-use Rattle.ist_core.proofs.PlaceLemmas.{anchor_free}
-use Rattle.ist_core.proofs.SlotLemmas.{slot_once}
-use Rattle.ist_core.proofs.FateLemmas.{grow_after}
-use Rattle.laws_links.proofs.ChildLemmas.{leads_grows, leads_rebuild}
+use Rattle.ist_core.specs.TreeTerms.{AllGrow, HasContents, HasLeaves, PlacedLeaf, SlotsHaveLeaves, leaf_here, no_slot, none_here, one_slot, row_here}
+use Rattle.ist_core.specs.LogTerms.{CanOpen, EachEnabled, state_of, Log, Snapshot}
+use Rattle.ist_core.specs.WordTerms.{Change, Inner, Leaf, Piece, Pieces, Rebuild, ChangeAt, Empty, InnerAt, LeafAt, RebuildAt, Ref, Unset, ref_of, anchor, SlotHolds, in_anchor, in_row, logical, past_change, past_rebuild, rebuild_reads, start}
+use Rattle.ist_core.proofs.AllLogLemmas.{inner_there, leaf_there, rebuild_there, grow_after}
+use Rattle.ist_core.proofs.AllPlaceLemmas.{same_leaves, anchor_free, slot_once}
+use Rattle.laws_links.proofs.ReadStepLemmas.{leads_grows, leads_rebuild, reads_step}
 use Rattle.laws_links.proofs.FormLemmas.{IsFormed, of_finish, of_leaf_put, of_pair_put, of_remove, of_start}
 use Rattle.laws_links.proofs.FormedLemmas.{changes_are_formed}
 use Rattle.laws_links.proofs.ReadEventLemmas.{decide_reads}
-use Rattle.laws_links.proofs.ReadLemmas.{ReadsAs, Turns, turned_by}
-use Rattle.laws_links.proofs.ReadStepLemmas.{reads_step}
-use Rattle.laws_links.proofs.IdealLeafLemmas.{decided_stands, ideal_leaves, ideal_plain}
+use Rattle.laws_links.proofs.ReadLemmas.{ReadsAs, Turns, turned_by, decided_stands, ideal_leaves, ideal_plain}
 use Rattle.laws_links.proofs.NewTreeLemmas.{ideal_kept}
 use Rattle.laws_links.proofs.WholeLemmas.{finish_is_whole}
 use Rattle.laws_links.specs.Replacing.{LeavesContents}
@@ -76,8 +64,7 @@ module _ (ps qs : Pieces) (alike : Alike ps qs) where
     slots_move _ _ (one_slot first more) [] long slots = absurd (omega arith)
     slots_move _ _ (one_slot {word = word} {words = words} {here = here} {rest = rest} first more)
         (v ∷ vs) long slots =
-        let moved = leaves_move (logical ps word) here first in
-        one_slot
+        let moved = leaves_move (logical ps word) here first in one_slot
         (⊎_elim (λ same. subst (λ o. HasLeaves qs o here) (sym same) moved) (λ anyhow. anyhow) (slots 0 word v refl refl here first))
         (slots_move words rest more vs (omega arith) (λ i w x at now. slots (suc i) w x at now))
 
@@ -92,8 +79,7 @@ past_rebuild_grows t u g (RebuildAt base) leaves h = at (t.pieces base) refl h
   where
     at : (o : Option Piece) → t.pieces base ≡ o → HasLeaves t.pieces (rebuild_reads o) leaves
         → rebuild_reads (u.pieces base) ≡ rebuild_reads (t.pieces base)
-    at (Some (Rebuild r)) is k =
-        let it = rebuild_there t.pieces u.pieces g base r is in
+    at (Some (Rebuild r)) is k = let it = rebuild_there t.pieces u.pieces g base r is in
         ap rebuild_reads it.1 ∙ ap (λ n. Some (InnerAt n)) it.2.target ∙ sym (ap rebuild_reads is)
     at (Some (Leaf r)) is k = absurd (no_leaves t.pieces leaves k)
     at (Some (Inner r)) is k = absurd (no_leaves t.pieces leaves k)
@@ -122,8 +108,7 @@ module _ (pairs : List Pair) (words : ℕ) (opens : CanOpen pairs words) where
       -- what the slot reads as now
       reads : (to : Ref) → ref_of can.change.to ≡ Some to
           → logical (state_of pairs words (Decide caller base true ∷ log)).pieces v ≡ past_rebuild (state_of pairs words (Decide caller base true ∷ log)).pieces (Some to)
-      reads to is =
-          let u = state_of pairs words (Decide caller base true ∷ log) in
+      reads to is = let u = state_of pairs words (Decide caller base true ∷ log) in
           let r =
           decide_reads pairs words opens log caller base h can.change can.pending.published to is in
           let there =
@@ -138,16 +123,14 @@ module _ (pairs : List Pair) (words : ℕ) (opens : CanOpen pairs words) where
       by_form (of_leaf_put f) = absurd (keeps can.change can.pending.published (inl f.kind))
       by_form (of_pair_put f) = absurd (keeps can.change can.pending.published (inl f.kind))
       by_form (of_remove f) = absurd (keeps can.change can.pending.published (inr f.kind))
-      by_form (of_start f) =
-          let t = state_of pairs words log in
+      by_form (of_start f) = let t = state_of pairs words log in
           let u = state_of pairs words (Decide caller base true ∷ log) in
           let g = grow_after pairs words log (Decide caller base true) h in
           inl (reads (RebuildAt f.rebuild) f.to
           ∙ leads_grows t u g (RebuildAt f.rebuild) f.row.target
           (leads_rebuild t.pieces f.rebuild f.row f.published)
           ∙ ap (past_rebuild t.pieces) (sym f.from ∙ from))
-      by_form (of_finish f) =
-          let t = state_of pairs words log in
+      by_form (of_finish f) = let t = state_of pairs words log in
           let u = state_of pairs words (Decide caller base true ∷ log) in
           let w = finish_is_whole pairs words opens log h.0 base can.change can.pending.published can.pending.unset f.rebuild f.from in
           let target : past_rebuild t.pieces (Some ref) ≡ Some (InnerAt w.row.target) = ap (past_rebuild t.pieces) (sym from ∙ f.from) ∙ leads_rebuild t.pieces f.rebuild w.row w.published in
@@ -162,8 +145,7 @@ module _ (pairs : List Pair) (words : ℕ) (opens : CanOpen pairs words) where
   slot_leaves : (log : Log) (event : Event) → EachEnabled (start pairs words) (event ∷ log)
       → LeavesContents (state_of pairs words log) event → (node i w v : ℕ)
       → SlotHolds (state_of pairs words log) node i w
-      → SlotHolds (state_of pairs words (event ∷ log)) node i v
-      → (leaves : List PlacedLeaf)
+      → SlotHolds (state_of pairs words (event ∷ log)) node i v → (leaves : List PlacedLeaf)
       → HasLeaves (state_of pairs words log).pieces (logical (state_of pairs words log).pieces w) leaves
       → (logical (state_of pairs words (event ∷ log)).pieces v ≡ logical (state_of pairs words log).pieces w)
       ⊎ HasLeaves (state_of pairs words (event ∷ log)).pieces
@@ -177,8 +159,7 @@ module _ (pairs : List Pair) (words : ℕ) (opens : CanOpen pairs words) where
           ⊎ HasLeaves (state_of pairs words (event ∷ log)).pieces
           (logical (state_of pairs words (event ∷ log)).pieces v) leaves
       at None is k = absurd (no_leaves (state_of pairs words log).pieces leaves k)
-      at (Some ref) is k =
-          let t = state_of pairs words log in
+      at (Some ref) is k = let t = state_of pairs words log in
           let u = state_of pairs words (event ∷ log) in
           let set : ref ≢ Unset = λ none. unset_leaves t.pieces leaves (subst (λ r. HasLeaves t.pieces (past_rebuild t.pieces (Some r)) leaves) none k) in
           let back : past_rebuild t.pieces (Some ref) ≡ logical t.pieces w =
@@ -195,14 +176,11 @@ module _ (pairs : List Pair) (words : ℕ) (opens : CanOpen pairs words) where
   rows_alike : (log : Log) (event : Event) → EachEnabled (start pairs words) (event ∷ log)
       → LeavesContents (state_of pairs words log) event
       → Alike (state_of pairs words log).pieces (state_of pairs words (event ∷ log)).pieces
-  rows_alike log event h keeps =
-      let t = state_of pairs words log in
-      let u = state_of pairs words (event ∷ log) in
-      let g = grow_after pairs words log event h in
+  rows_alike log event h keeps = let t = state_of pairs words log in
+      let u = state_of pairs words (event ∷ log) in let g = grow_after pairs words log event h in
       record {
         leaf = λ base r e. leaf_there t.pieces u.pieces g base r e;
-        row = λ base r e.
-            let it = inner_there t.pieces u.pieces g base r e in
+        row = λ base r e. let it = inner_there t.pieces u.pieces g base r e in
             (it.0, it.1, it.2.slots, λ i w v at now leaves has. slot_leaves log event h keeps base i w v (in_row r e at) (in_row it.0 it.1 now) leaves has);
       }
 
@@ -221,14 +199,12 @@ module _ (pairs : List Pair) (words : ℕ) (opens : CanOpen pairs words) where
       → LeavesContents (state_of pairs words log) event → (contents : List Pair)
       → HasContents (state_of pairs words log) contents
       → HasContents (state_of pairs words (event ∷ log)) contents
-  contents_kept log event h keeps contents c =
-      let t = state_of pairs words log in
+  contents_kept log event h keeps contents c = let t = state_of pairs words log in
       let u = state_of pairs words (event ∷ log) in
       let moved = leaves_step log event h keeps (logical t.pieces t.anchor) c.leaves c.reached in
       record {
         leaves = c.leaves;
-        reached =
-            ⊎_elim (λ same. subst (λ o. HasLeaves u.pieces o c.leaves) (sym same) moved)
+        reached = ⊎_elim (λ same. subst (λ o. HasLeaves u.pieces o c.leaves) (sym same) moved)
             (λ anyhow. anyhow)
             (slot_leaves log event h keeps anchor 0 t.anchor u.anchor (in_anchor refl refl refl) (in_anchor refl refl refl) c.leaves c.reached);
         pairs_are = c.pairs_are;

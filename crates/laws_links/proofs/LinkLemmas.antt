@@ -5,32 +5,20 @@ use Rattle.ist_core.specs.declared.events.Event.{Event}
 use Rattle.ist_core.specs.declared.events.Event.TheVariants.{Decide}
 use Rattle.ist_core.specs.declared.pairs.Pair.{Pair}
 use Rattle.ist_core.specs.declared.states.ChangeRow.{ChangeRow}
-use Rattle.ist_core.specs.Deciding.{MayBe}
-use Rattle.ist_core.specs.Freezing.{KeepsWord, holds_change, holds_it}
-use Rattle.ist_core.specs.Lawful.{CanOpen, EachEnabled, state_of}
-use Rattle.ist_core.specs.Links.{Linked, WasLinked, at_anchor, below}
-use Rattle.ist_core.specs.Logs.{GoesOn, Happened, Log, Okays, Passes, Resolves, one_event, same_log}
-use Rattle.ist_core.specs.Pieces.{Change}
-use Rattle.ist_core.specs.References.{ChangeAt, ref_of, word_of}
-use Rattle.ist_core.specs.Slots.{IsOpen, SlotHolds, anchor_is, row_is}
-use Rattle.ist_core.specs.StartLayout.{start}
-use Rattle.ist_core.specs.Statuses.{decided_yes, undecided}
+use Rattle.ist_core.specs.TreeTerms.{MayBe, KeepsWord, holds_change, holds_it, Linked, WasLinked, at_anchor, below}
+use Rattle.ist_core.specs.LogTerms.{CanOpen, EachEnabled, state_of, GoesOn, Happened, Log, Okays, Passes, Resolves, one_event, same_log}
+use Rattle.ist_core.specs.WordTerms.{Change, ChangeAt, ref_of, word_of, IsOpen, SlotHolds, anchor_is, row_is, start, decided_yes, undecided}
 use Rattle.laws_links.specs.Linking.{IsFinished}
-use Rattle.ist_core.proofs.FateLemmas.{enabled_before, grow_between}
-use Rattle.ist_core.proofs.FreezingLemmas.{change_read, same_change_word}
-use Rattle.ist_core.proofs.FrozenLemmas.{closed}
-use Rattle.ist_core.proofs.GrowingLemmas.{change_there}
-use Rattle.ist_core.proofs.PlaceLemmas.{anchor_free}
-use Rattle.ist_core.proofs.SlotLemmas.{no_row, slot_once}
-use Rattle.ist_core.proofs.OptionLemmas.{no_value, same_change, same_inner}
+use Rattle.ist_core.proofs.AllLogLemmas.{enabled_before, grow_between, change_read, same_change_word, closed, change_there}
+use Rattle.ist_core.proofs.AllPlaceLemmas.{anchor_free, no_row, slot_once}
+use Rattle.ist_core.proofs.AllWordLemmas.{no_value, same_change, same_inner}
 use Rattle.laws_links.proofs.ChangeLemmas.{install_free, node_was_linked, said_yes, undecided_stands, undecided_unresolved, unresolved_stands}
-use Rattle.laws_links.proofs.ChildLemmas.{child_step}
+use Rattle.laws_links.proofs.ReadStepLemmas.{child_step}
 use Rattle.laws_links.proofs.ComesLemmas.{change_comes}
 use Rattle.laws_links.proofs.FinishedLemmas.{finished_down, finished_slot}
 use Rattle.laws_links.proofs.FormedLemmas.{finished_step}
 use Rattle.laws_links.proofs.InductionLemmas.{sound_after}
-use Rattle.laws_links.proofs.OriginLemmas.{ChangeComes, change_was, is_decided, is_installed}
-use Rattle.laws_links.proofs.PassLemmas.{passed_no_change}
+use Rattle.laws_links.proofs.PassLemmas.{ChangeComes, change_was, is_decided, is_installed, passed_no_change}
 
 module _ (pairs : List Pair) (words : ℕ) (opens : CanOpen pairs words) where
   -- after the event a linked row is still linked, or is finished
@@ -43,8 +31,7 @@ module _ (pairs : List Pair) (words : ℕ) (opens : CanOpen pairs words) where
     where
       at : Linked (state_of pairs words (event ∷ log)) node ⊎ IsFinished (state_of pairs words log) node
           → Linked (state_of pairs words (event ∷ log)) child ⊎ IsFinished (state_of pairs words log) child
-      at (inl on) =
-          ⊎_elim (λ d. inl (below i on d)) (λ f. inr f)
+      at (inl on) = ⊎_elim (λ d. inl (below i on d)) (λ f. inr f)
           (child_step pairs words opens log event h node i child c)
       at (inr f) = inr (finished_down pairs words opens log h.0 node i child f c)
 
@@ -54,8 +41,7 @@ module _ (pairs : List Pair) (words : ℕ) (opens : CanOpen pairs words) where
       → Linked (state_of pairs words log) node ⊎ IsFinished (state_of pairs words log) node
   linked_or_finished [] h node was = inl was
   linked_or_finished (event ∷ log) h node (inl now) = inl now
-  linked_or_finished (event ∷ log) h node (inr before) =
-      ⊎_elim
+  linked_or_finished (event ∷ log) h node (inr before) = ⊎_elim
       (λ l. ⊎_elim (λ on. inl on) (λ f. inr (finished_step pairs words log event h node f)) (linked_step log event h node l))
       (λ f. inr (finished_step pairs words log event h node f))
       (linked_or_finished log h.0 node before)
@@ -63,21 +49,18 @@ module _ (pairs : List Pair) (words : ℕ) (opens : CanOpen pairs words) where
   -- an open row isn't finished
   pub open_unfinished : (log : Log) → EachEnabled (start pairs words) log → (node : ℕ)
       → IsOpen (state_of pairs words log) node → IsFinished (state_of pairs words log) node → ⊥
-  open_unfinished log h node (anchor_is a) f =
-      no_row (state_of pairs words log).pieces node f.1.row
+  open_unfinished log h node (anchor_is a) f = no_row (state_of pairs words log).pieces node f.1.row
       (anchor_free pairs words log h) a f.1.published
   open_unfinished log h node (row_is r e o) f =
       let same = same_inner ((state_of pairs words log).pieces node) f.1.row r f.1.published e in
       let odd : f.1.row.status ≡ 4 * f.0 + 3 = f.1.status in
-      let zero_status : f.1.row.status ≡ 0 = ap (λ x. x.status) same ∙ o in
-      omega arith
+      let zero_status : f.1.row.status ≡ 0 = ap (λ x. x.status) same ∙ o in omega arith
 
   -- a row that was linked and is open is linked
   pub open_linked : (log : Log) → EachEnabled (start pairs words) log → (node : ℕ)
       → WasLinked (start pairs words) log node → IsOpen (state_of pairs words log) node
       → Linked (state_of pairs words log) node
-  open_linked log h node was o =
-      ⊎_elim (λ l. l) (λ f. absurd (open_unfinished log h node o f))
+  open_linked log h node was o = ⊎_elim (λ l. l) (λ f. absurd (open_unfinished log h node o f))
       (linked_or_finished log h node was)
 
   -- the slot of an unresolved change with an Okay wasn't passed
@@ -91,8 +74,7 @@ module _ (pairs : List Pair) (words : ℕ) (opens : CanOpen pairs words) where
       -- the word of the change is all that the slot holds
       alone : (w : ℕ) → SlotHolds (state_of pairs words log) x.node x.index w
           → w ≡ word_of (ChangeAt base)
-      alone w slot =
-          slot_once (state_of pairs words log) x.node x.index w (word_of (ChangeAt base))
+      alone w slot = slot_once (state_of pairs words log) x.node x.index w (word_of (ChangeAt base))
           (anchor_free pairs words log h) slot
           (unresolved_stands pairs words opens log h base x e unresolved)
 
@@ -100,8 +82,7 @@ module _ (pairs : List Pair) (words : ℕ) (opens : CanOpen pairs words) where
       keeps (holds_it slot) =
           passed_no_change (start pairs words) log x.node x.index word h passed base
           (ap ref_of (alone word slot) ∙ change_read pairs words opens log h base x e)
-      keeps (holds_change v) =
-          v.unseen
+      keeps (holds_change v) = v.unseen
           (subst (λ b. Happened (Okays b) log) (sym (same_change_word v.base base (alone (word_of (ChangeAt v.base)) v.in_slot))) okay)
 
   -- the node of an undecided change with an Okay isn't finished
@@ -129,8 +110,7 @@ module _ (pairs : List Pair) (words : ℕ) (opens : CanOpen pairs words) where
       → EachEnabled (start pairs words) (Decide caller base said ∷ log)
       → (x : ChangeRow) → (state_of pairs words log).pieces base ≡ Some (Change x)
       → x.decision ≡ undecided
-  deciding log caller base said h x e =
-      ap (λ c. c.decision)
+  deciding log caller base said h x e = ap (λ c. c.decision)
       (sym (same_change ((state_of pairs words log).pieces base) h.1.change x h.1.pending.published e))
       ∙ h.1.pending.unset
 
@@ -147,9 +127,7 @@ module _ (pairs : List Pair) (words : ℕ) (opens : CanOpen pairs words) where
       → EachEnabled (start pairs words) (Decide caller base true ∷ log)
       → (x : ChangeRow) → (state_of pairs words log).pieces base ≡ Some (Change x)
       → Linked (state_of pairs words (Decide caller base true ∷ log)) x.node
-  yes_linked_after log caller base h x e =
-      ⊎_elim
-      (λ l. l)
+  yes_linked_after log caller base h x e = ⊎_elim (λ l. l)
       (λ f. absurd (okayed_unfinished log h.0 base x e (deciding log caller base true h x e) h.1.outcome f))
       (linked_step log (Decide caller base true) h x.node (yes_linked log caller base h x e))
 

@@ -3,14 +3,10 @@
 use Rattle.std.proofs.Common.{List, Some, [], ap, inl, inr, length, refl, replicate, slice_get, slice_set, subst, suc, zero, ℕ, ◌++◌, ◌∙◌, ◌∷◌, ◌≡◌, ◌≢◌}
 use Rattle.ist_core.specs.declared.states.InnerRow.{InnerRow}
 use Rattle.ist_core.specs.declared.states.LeafRow.{LeafRow}
-use Rattle.ist_core.specs.Elements.{Among, Each}
-use Rattle.ist_core.specs.Ideals.{AreIdeal, IsIdeal, IsTop, no_part, of_more, of_none, of_one, one_part}
-use Rattle.ist_core.specs.Leaves.{PlacedLeaf}
-use Rattle.ist_core.specs.Parts.{parts}
-use Rattle.ist_core.specs.Pieces.{Inner, Leaf, Pieces}
-use Rattle.ist_core.specs.References.{InnerAt, Ref, Unset, ref_of, unset_word}
-use Rattle.ist_core.proofs.ElementLemmas.{among_left, among_right, each_append}
-use Rattle.ist_core.proofs.ReferenceLemmas.{ref_of-unset}
+use Rattle.ist_core.specs.LogTerms.{Among, Each}
+use Rattle.ist_core.specs.WordTerms.{AreIdeal, IsIdeal, IsTop, no_part, of_more, of_none, of_one, one_part, parts, Inner, Leaf, Pieces, InnerAt, Ref, Unset, ref_of, unset_word}
+use Rattle.ist_core.specs.TreeTerms.{PlacedLeaf}
+use Rattle.ist_core.proofs.AllWordLemmas.{among_left, among_right, each_append, ref_of-unset}
 
 -- ---- whole trees
 
@@ -25,17 +21,16 @@ pub record StandInOther (ps qs : Pieces) (rows : List ℕ) : Type 0 where
 -- the top of a tree stays one if its row stays
 pub top_kept : (ps qs : Pieces) (base : ℕ) (r : InnerRow) (leaves : List PlacedLeaf) (above : ℕ)
     → IsTop ps base r leaves above → qs base ≡ Some (Inner r) → IsTop qs base r leaves above
-top_kept ps qs base r leaves above h e =
-    record {
-      published = e;
-      two = h.two;
-      higher = h.higher;
-      status = h.status;
-      count = h.count;
-      degree = h.degree;
-      size = h.size;
-      keys = h.keys;
-    }
+top_kept ps qs base r leaves above h e = record {
+  published = e;
+  two = h.two;
+  higher = h.higher;
+  status = h.status;
+  count = h.count;
+  degree = h.degree;
+  size = h.size;
+  keys = h.keys;
+}
 
 mutual
   -- an ideal subtree stays one if its rows stay
@@ -52,8 +47,7 @@ mutual
 
   -- ideal parts stay ideal if their rows stay
   pub parts_kept : (ps qs : Pieces) (words : List ℕ) (following : List (List PlacedLeaf)) (above : ℕ)
-      (rows : List ℕ)
-      → AreIdeal ps words following above rows → StandInOther ps qs rows
+      (rows : List ℕ) → AreIdeal ps words following above rows → StandInOther ps qs rows
       → AreIdeal qs words following above rows
   parts_kept ps qs _ _ _ _ no_part s = no_part
   parts_kept ps qs _ _ above _
@@ -99,8 +93,7 @@ mutual
       (record { row = r; published = top.published; set = parts_set ps r.slots (parts leaves) base rows under }, parts_whole ps r.slots (parts leaves) base rows under)
 
   parts_whole : (ps : Pieces) (words : List ℕ) (following : List (List PlacedLeaf)) (above : ℕ)
-      (rows : List ℕ)
-      → AreIdeal ps words following above rows → Each (StandsWhole ps) rows
+      (rows : List ℕ) → AreIdeal ps words following above rows → Each (StandsWhole ps) rows
   parts_whole ps _ _ _ _ no_part = tt
   parts_whole ps _ _ above _
       (one_part {words = words} {here = here} {rest = rest} {part = part} {following = following} ref e first more) =
@@ -124,16 +117,14 @@ pub data ArePartly (ps : Pieces) : List ℕ → List (List PlacedLeaf) → ℕ �
 -- `rows` are the bases of what is built, without such a top row
 pub data IsPartly (ps : Pieces) : Ref → List PlacedLeaf → ℕ → List ℕ → Type 0 where
   whole : {ref : Ref} {leaves : List PlacedLeaf} {above : ℕ} {rows : List ℕ}
-      → IsIdeal ps ref leaves above rows
-      → IsPartly ps ref leaves above rows
+      → IsIdeal ps ref leaves above rows → IsPartly ps ref leaves above rows
   in_parts : {base above : ℕ} {leaves : List PlacedLeaf} {rows : List ℕ} (r : InnerRow)
       → IsTop ps base r leaves above
       → ArePartly ps r.slots (parts leaves) base rows → IsPartly ps (InnerAt base) leaves above rows
 
 -- what is built stays if its rows stay
 pub partly_kept : (ps qs : Pieces) (words : List ℕ) (following : List (List PlacedLeaf)) (above : ℕ)
-    (rows : List ℕ)
-    → ArePartly ps words following above rows → StandInOther ps qs rows
+    (rows : List ℕ) → ArePartly ps words following above rows → StandInOther ps qs rows
     → ArePartly qs words following above rows
 partly_kept ps qs _ _ _ _ no_more s = no_more
 partly_kept ps qs _ _ above _ (not_built {words = words} {rest = rest} {following = following} more) s =
@@ -146,8 +137,7 @@ partly_kept ps qs _ _ above _
 
 -- the rows of what is built have no Unset slot
 pub partly_whole : (ps : Pieces) (words : List ℕ) (following : List (List PlacedLeaf)) (above : ℕ)
-    (rows : List ℕ)
-    → ArePartly ps words following above rows → Each (StandsWhole ps) rows
+    (rows : List ℕ) → ArePartly ps words following above rows → Each (StandsWhole ps) rows
 partly_whole ps _ _ _ _ no_more = tt
 partly_whole ps _ _ above _ (not_built {words = words} {rest = rest} {following = following} more) =
     partly_whole ps words following above rest more
@@ -205,8 +195,7 @@ partly_placed ps _ _ above _
 
 -- what holds of a row holds of each row that hangs in it
 abbrev pub GoesDown : Pieces → (ℕ → Type 0) → Type 0
-GoesDown ps P =
-    (node : ℕ) (r : InnerRow) → P node → ps node ≡ Some (Inner r) → (j word child : ℕ)
+GoesDown ps P = (node : ℕ) (r : InnerRow) → P node → ps node ≡ Some (Inner r) → (j word child : ℕ)
     → slice_get r.slots j ≡ Some word → ref_of word ≡ Some (InnerAt child) → P child
 
 module _ (ps : Pieces) (P : ℕ → Type 0) (down : GoesDown ps P) where

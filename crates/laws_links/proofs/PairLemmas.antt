@@ -6,32 +6,13 @@ use Rattle.ist_core.specs.declared.lists.Row.{Row}
 use Rattle.ist_core.specs.declared.pairs.Pair.{Pair}
 use Rattle.ist_core.specs.declared.states.ChangeRow.{ChangeRow}
 use Rattle.ist_core.specs.declared.states.InnerRow.{InnerRow}
-use Rattle.ist_core.specs.After.{after}
-use Rattle.ist_core.specs.Growing.{Grows}
-use Rattle.ist_core.specs.Installing.{CanInstall, FitsKind, IsLeafOf, new_leaf, pair_over, pair_row}
-use Rattle.ist_core.specs.Lawful.{CanOpen, EachEnabled, state_of}
-use Rattle.ist_core.specs.Links.{Linked, WasLinked, at_anchor, below}
-use Rattle.ist_core.specs.Logs.{Log}
-use Rattle.ist_core.specs.Pieces.{Change, Inner, Piece, row_at, with_slot, words_of}
-use Rattle.ist_core.specs.References.{ChangeAt, InnerAt, LeafAt, ref_of, unset_word, word_of}
-use Rattle.ist_core.specs.RowLayout.{anchor}
-use Rattle.ist_core.specs.Slots.{SlotHolds, logical, past_rebuild}
-use Rattle.ist_core.specs.Snapshots.{HoldsRows}
-use Rattle.ist_core.specs.StartLayout.{start}
-use Rattle.ist_core.specs.Statuses.{put_kind, undecided}
-use Rattle.ist_core.proofs.FreshLemmas.{IsPublishedWith, fresh_stands}
-use Rattle.ist_core.proofs.GrowingLemmas.{leaf_there}
-use Rattle.ist_core.proofs.InstallLemmas.{with_installed}
-use Rattle.ist_core.proofs.InstallNamingLemmas.{pair_is_inner}
-use Rattle.ist_core.proofs.MentionLemmas.{child_mentioned}
-use Rattle.ist_core.proofs.MoveLemmas.{HeldLieApart}
-use Rattle.ist_core.proofs.OrderLemmas.{names}
-use Rattle.ist_core.proofs.ParentLemmas.{one_home}
-use Rattle.ist_core.proofs.PlaceLemmas.{anchor_free}
-use Rattle.ist_core.proofs.RowLemmas.{changed_at-other}
-use Rattle.ist_core.proofs.SlotLemmas.{slot_once}
-use Rattle.ist_core.proofs.SlotStepLemmas.{install_stands}
-use Rattle.ist_core.proofs.StepLemmas.{holds_installed}
+use Rattle.ist_core.specs.LogTerms.{after, CanOpen, EachEnabled, state_of, Log, HoldsRows}
+use Rattle.ist_core.specs.TreeTerms.{Grows, CanInstall, FitsKind, IsLeafOf, new_leaf, pair_over, pair_row, Linked, WasLinked, at_anchor, below}
+use Rattle.ist_core.specs.WordTerms.{Change, Inner, Piece, row_at, with_slot, words_of, ChangeAt, InnerAt, LeafAt, ref_of, unset_word, word_of, anchor, SlotHolds, logical, past_rebuild, start, put_kind, undecided}
+use Rattle.ist_core.proofs.AllEventLemmas.{IsPublishedWith, fresh_stands, with_installed, pair_is_inner, HeldLieApart, holds_installed}
+use Rattle.ist_core.proofs.AllLogLemmas.{leaf_there, grow_after, said_something}
+use Rattle.ist_core.proofs.AllPlaceLemmas.{child_mentioned, names, one_home, anchor_free, slot_once, install_stands}
+use Rattle.ist_core.proofs.AllWordLemmas.{changed_at-other, no_value}
 use Rattle.laws_links.proofs.ChangeLemmas.{undecided_stands}
 use Rattle.laws_links.proofs.FormLemmas.{leaf_of_grows}
 use Rattle.laws_links.proofs.FormedLemmas.{fresh_after, leaf_grown}
@@ -41,9 +22,6 @@ use Rattle.laws_links.proofs.ReadLemmas.{side_undecided}
 use Rattle.laws_links.proofs.RowEventLemmas.{slot_stood}
 use Rattle.laws_links.proofs.UntouchedLemmas.{inner_row, not_the_anchor, stays_whole, untouched, was_linked_here}
 use Rattle.ist_core.specs.Installing as kinds
-use Rattle.ist_core.proofs.OptionLemmas.{no_value}
-use Rattle.ist_core.proofs.FateLemmas.{grow_after}
-use Rattle.ist_core.proofs.YesLemmas.{said_something}
 
 -- ---- what an undecided change would put in
 
@@ -52,8 +30,7 @@ module _ (pairs : List Pair) (words : ℕ) (opens : CanOpen pairs words) where
   -- doesn't lead to it
   pub to_unlinked : (log : Log) → EachEnabled (start pairs words) log → (base : ℕ) (x : ChangeRow)
       → (state_of pairs words log).pieces base ≡ Some (Change x) → x.decision ≡ undecided
-      → (child : ℕ)
-      → ref_of x.to ≡ Some (InnerAt child)
+      → (child : ℕ) → ref_of x.to ≡ Some (InnerAt child)
       → past_rebuild (state_of pairs words log).pieces (ref_of x.from) ≢ Some (InnerAt child)
       → child ≢ anchor → ¬ (Linked (state_of pairs words log) child)
   to_unlinked log h base x e none _ is ne apart at_anchor = apart refl
@@ -100,8 +77,7 @@ over_set key left right i r e k =
     at (suc (suc i)) q = absurd (cc)
 
 pair_set : (key base other_key other i : ℕ) (r : InnerRow)
-    → pair_row key base other_key other ≡ Inner r
-    → slice_get r.slots i ≢ Some unset_word
+    → pair_row key base other_key other ≡ Inner r → slice_get r.slots i ≢ Some unset_word
 pair_set key base other_key other i r =
     elim (nat_lt other_key key) as (λ v. (if v then pair_over key other base else pair_over other_key base other) ≡ Inner r → slice_get r.slots i ≢ Some unset_word) [
       | true ↦ λ e. over_set key other base i r e
@@ -114,13 +90,10 @@ module _ (pairs : List Pair) (words : ℕ) (opens : CanOpen pairs words) where
   filled_step : (log : Log) (event : Event) → EachEnabled (start pairs words) (event ∷ log)
       → (base : ℕ) (x : ChangeRow)
       → (state_of pairs words (event ∷ log)).pieces base ≡ Some (Change x) → x.decision ≡ undecided
-      → (pair : ℕ)
-      → ref_of x.to ≡ Some (InnerAt pair) → IsFilledPair pairs words log x pair
+      → (pair : ℕ) → ref_of x.to ≡ Some (InnerAt pair) → IsFilledPair pairs words log x pair
       → IsFilledPair pairs words (event ∷ log) x pair
-  filled_step log event h base x there none pair to f =
-      let t = state_of pairs words log in
-      let u = state_of pairs words (event ∷ log) in
-      let g = grow_after pairs words log event h in
+  filled_step log event h base x there none pair to f = let t = state_of pairs words log in
+      let u = state_of pairs words (event ∷ log) in let g = grow_after pairs words log event h in
       let row = pair_is_inner x.key f.leaf f.other_key f.other in
       let e : t.pieces pair ≡ Some (Inner row.0) = f.published ∙ ap (λ p. Some p) row.1 in
       let on = untouched pairs words opens log event h pair row.0 e f.never in
@@ -139,8 +112,7 @@ module _ (pairs : List Pair) (words : ℕ) (opens : CanOpen pairs words) where
             (λ linked. to_unlinked pairs words opens (event ∷ log) h base x there none pair to
             (λ k. leads k)
             (not_the_anchor pairs words opens (event ∷ log) h pair on.0 on.1) linked)
-            (λ before. f.never before)
-            was;
+            (λ before. f.never before) was;
       }
     where
       leads : past_rebuild (state_of pairs words (event ∷ log)).pieces (ref_of x.from) ≡ Some (InnerAt pair) → ⊥
@@ -154,8 +126,7 @@ module _ (pairs : List Pair) (words : ℕ) (opens : CanOpen pairs words) where
   filled_install : (log : Log) (caller base : ℕ) (rows : List Row)
       → EachEnabled (start pairs words) (Install caller base rows ∷ log)
       → (can : CanInstall (start pairs words) log caller base rows) → can.change.kind ≡ put_kind
-      → (pair : ℕ)
-      → ref_of can.change.to ≡ Some (InnerAt pair)
+      → (pair : ℕ) → ref_of can.change.to ≡ Some (InnerAt pair)
       → IsFilledPair pairs words (Install caller base rows ∷ log) can.change pair
   filled_install log caller base rows h can kind pair to =
       at can.fits (fresh_after (start pairs words) log caller base rows can s)
@@ -191,16 +162,14 @@ module _ (pairs : List Pair) (words : ℕ) (opens : CanOpen pairs words) where
               s.unpublished
               record { caller = caller; base = f.pair; size = length (words_of (pair_row can.change.key f.leaf f.other_key f.other)) } held.1.0
 
-          grown : (q : Piece)
-              ×
+          grown : (q : Piece) ×
               ((state_of pairs words (Install caller base rows ∷ log)).pieces f.pair ≡ Some q) × Grows
               (pair_row can.change.key f.leaf f.other_key f.other) q
           grown =
               following f.pair (pair_row can.change.key f.leaf f.other_key f.other) (inl (refl, refl))
 
           apart : f.pair ≢ can.change.node
-          apart e =
-              slot_stood pairs words log
+          apart e = slot_stood pairs words log
               (Install caller base rows) h can.change.node can.change.index can.change.from can.in_slot f.pair grown.0 grown.1 e none
 
           there : (state_of pairs words (Install caller base rows ∷ log)).pieces f.pair ≡ Some (pair_row can.change.key f.leaf f.other_key f.other)
@@ -212,22 +181,19 @@ module _ (pairs : List Pair) (words : ℕ) (opens : CanOpen pairs words) where
               (changed_at-other qs can.change.node f.pair (with_slot can.change.index (word_of (ChangeAt base))) apart ∙ stands f.pair (pair_row can.change.key f.leaf f.other_key f.other) (inl (refl, refl)))
 
           ne : f.pair ≢ anchor
-          ne e =
-              no_value
+          ne e = no_value
               ((state_of pairs words (Install caller base rows ∷ log)).pieces f.pair) grown.0
               (subst (λ n. (state_of pairs words (Install caller base rows ∷ log)).pieces n ≡ None) (sym e) (anchor_free pairs words (Install caller base rows ∷ log) h)) grown.1
 
           leads : past_rebuild (state_of pairs words (Install caller base rows ∷ log)).pieces (ref_of can.change.from) ≡ Some (InnerAt f.pair) → ⊥
-          leads k =
-              clash
+          leads k = clash
               (ap (past_rebuild (state_of pairs words (Install caller base rows ∷ log)).pieces) (sym f.from) ∙ k)
             where
               clash : Some (LeafAt f.other) ≡ Some (InnerAt f.pair) → ⊥
               clash q = cc
 
           filled : IsFilledPair pairs words (Install caller base rows ∷ log) can.change f.pair
-          filled =
-              let g = grow_after pairs words log (Install caller base rows) h in
+          filled = let g = grow_after pairs words log (Install caller base rows) h in
               let leaf = following f.leaf (new_leaf can.change) (inr (refl, refl)) in
               let stood : IsLeafOf (state_of pairs words (Install caller base rows ∷ log)) f.other f.other_key = leaf_of_grows (state_of pairs words log) (state_of pairs words (Install caller base rows ∷ log)) g f.other f.other_key f.stands in
               record {
@@ -240,8 +206,7 @@ module _ (pairs : List Pair) (words : ℕ) (opens : CanOpen pairs words) where
                 new =
                     leaf.1 ∙ ap (λ x. Some x) (leaf_grown record { key = can.change.key; value = can.change.value } leaf.0 leaf.2);
                 published = there;
-                never = λ was.
-                    ⊎_elim
+                never = λ was. ⊎_elim
                     (λ linked. to_unlinked pairs words opens (Install caller base rows ∷ log) h base can.change (install_stands (start pairs words) log caller base rows can) can.unset f.pair f.to leads ne linked)
                     (λ before. let row_here = was_linked_here pairs words opens log h.0 f.pair ne before in no_value ((state_of pairs words log).pieces f.pair) (Inner row_here.0) none row_here.1)
                     was;
@@ -253,8 +218,7 @@ module _ (pairs : List Pair) (words : ℕ) (opens : CanOpen pairs words) where
       → (state_of pairs words log).pieces base ≡ Some (Change x) → x.decision ≡ undecided
       → x.kind ≡ put_kind
       → (pair : ℕ) → ref_of x.to ≡ Some (InnerAt pair) → IsFilledPair pairs words log x pair
-  pair_is_filled =
-      changes_by pairs words
+  pair_is_filled = changes_by pairs words
       (λ log base x. x.decision ≡ undecided → x.kind ≡ put_kind → (pair : ℕ) → ref_of x.to ≡ Some (InnerAt pair) → IsFilledPair pairs words log x pair)
       (λ log event h base x old there before none kind pair to. filled_step log event h base x there none pair to (before none kind pair to))
       (λ log caller base rows h can none kind pair to. filled_install log caller base rows h can kind pair to)

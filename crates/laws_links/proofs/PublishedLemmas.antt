@@ -5,23 +5,13 @@ use Rattle.ist_core.specs.declared.lists.Row.{Row}
 use Rattle.ist_core.specs.declared.states.ChangeRow.{ChangeRow}
 use Rattle.ist_core.specs.declared.states.InnerRow.{InnerRow}
 use Rattle.ist_core.specs.declared.states.RebuildRow.{RebuildRow}
-use Rattle.ist_core.specs.Elements.{Among, Each}
-use Rattle.ist_core.specs.Enabled.{Enabled}
-use Rattle.ist_core.specs.Ideals.{IsTop}
-use Rattle.ist_core.specs.Installing.{FitsKind, Starts, a_finish, a_pair, a_put, a_remove, a_start, new_rebuild, pair_over, pair_row}
-use Rattle.ist_core.specs.Leaves.{PlacedLeaf}
-use Rattle.ist_core.specs.Logs.{Log, state}
-use Rattle.ist_core.specs.Pieces.{Change, Inner, Piece, Pieces, Rebuild, inner_of, with_inners}
-use Rattle.ist_core.specs.References.{unset_word}
-use Rattle.ist_core.specs.Snapshots.{Snapshot, bases_of}
-use Rattle.ist_core.specs.Statuses.{open_word}
-use Rattle.ist_core.proofs.AddingLemmas.{IsInstalledWith}
-use Rattle.ist_core.proofs.BornLemmas.{Born, by_install, by_place, by_root}
-use Rattle.ist_core.proofs.ElementLemmas.{each-among}
-use Rattle.ist_core.proofs.RowLemmas.{with_inners-some}
-use Rattle.ist_core.proofs.OptionLemmas.{same_inner}
-use Rattle.laws_links.proofs.OriginLemmas.{inner_is}
-use Rattle.laws_links.proofs.TopLemmas.{StandsAsTop, ideal_tops, root_tops}
+use Rattle.ist_core.specs.LogTerms.{Among, Each, Enabled, Log, state, Snapshot, bases_of}
+use Rattle.ist_core.specs.WordTerms.{IsTop, Change, Inner, Piece, Pieces, Rebuild, inner_of, with_inners, unset_word, open_word}
+use Rattle.ist_core.specs.TreeTerms.{FitsKind, Starts, a_finish, a_pair, a_put, a_remove, a_start, new_rebuild, pair_over, pair_row, PlacedLeaf}
+use Rattle.ist_core.proofs.AllEventLemmas.{IsInstalledWith, Born, by_install, by_place, by_root}
+use Rattle.ist_core.proofs.AllWordLemmas.{each-among, with_inners-some, same_inner}
+use Rattle.laws_links.proofs.PassLemmas.{inner_is}
+use Rattle.laws_links.proofs.ReadLemmas.{StandsAsTop, ideal_tops, root_tops}
 
 -- these words are read as an inner row only
 pub inner_only : (words : List ℕ) (p : Piece) → inner_of words ≡ Some p
@@ -37,8 +27,7 @@ inner_only (a ∷ b ∷ c ∷ d ∷ rest) p e =
 -- if inner rows are published, each other row was there before
 pub published_inner : (ps : Pieces) (rows : List Row) (base : ℕ) (p : Piece)
     → with_inners ps rows base ≡ Some p → ((r : InnerRow) × (p ≡ Inner r)) ⊎ (ps base ≡ Some p)
-published_inner ps rows base p e =
-    ⊎_elim (λ w. inl (inner_only w.0.words p w.3)) (λ old. inr old)
+published_inner ps rows base p e = ⊎_elim (λ w. inl (inner_only w.0.words p w.3)) (λ old. inr old)
     (with_inners-some ps rows base p e)
 
 -- a pair row is open
@@ -69,8 +58,7 @@ pair_no_rebuild key base other_key other x =
 
 -- a change that an Install publishes is its own
 pub installed_change : (first : Snapshot) (log : Log) (at : ℕ) (change : ChangeRow)
-    (fresh : List Row)
-    (fits : FitsKind first log change fresh) (base : ℕ) (x : ChangeRow)
+    (fresh : List Row) (fits : FitsKind first log change fresh) (base : ℕ) (x : ChangeRow)
     → IsInstalledWith first log at change fresh fits base (Change x) → (base ≡ at) × (x ≡ change)
 installed_change first log at change fresh fits base x (inl (here, is)) = (here, (cc))
 installed_change first log at change fresh (a_put f) base x (inr (here, is)) = absurd (cc)
@@ -89,8 +77,7 @@ pub record IsStartOf (first : Snapshot) (log : Log) (change : ChangeRow) (fresh 
 
 -- a rebuild that an Install publishes is its start's
 pub installed_rebuild : (first : Snapshot) (log : Log) (at : ℕ) (change : ChangeRow)
-    (fresh : List Row)
-    (fits : FitsKind first log change fresh) (base : ℕ) (x : RebuildRow)
+    (fresh : List Row) (fits : FitsKind first log change fresh) (base : ℕ) (x : RebuildRow)
     → IsInstalledWith first log at change fresh fits base (Rebuild x)
     → IsStartOf first log change fresh base x
 installed_rebuild first log at change fresh fits base x (inl (here, is)) = absurd (cc)
@@ -125,8 +112,7 @@ new_rebuild_row change target =
 pub top_among : (ps : Pieces) (rows : List ℕ) (base : ℕ) (x : InnerRow) → Each (StandsAsTop ps) rows
     → Among base rows → ps base ≡ Some (Inner x)
     → (leaves : List PlacedLeaf) × (above : ℕ) × IsTop ps base x leaves above
-top_among ps rows base x all i e =
-    let it = each-among (StandsAsTop ps) base rows all i in
+top_among ps rows base x all i e = let it = each-among (StandsAsTop ps) base rows all i in
     let same : it.row ≡ x = same_inner (ps base) it.row x it.top.published e in
     (it.leaves, it.above, subst (λ y. IsTop ps base y it.leaves it.above) same it.top)
 

@@ -6,25 +6,12 @@ use Rattle.ist_core.specs.declared.events.Event.TheVariants.{Decide, Install, Pl
 use Rattle.ist_core.specs.declared.lists.Row.{Row}
 use Rattle.ist_core.specs.declared.pairs.Pair.{Pair}
 use Rattle.ist_core.specs.declared.states.ChangeRow.{ChangeRow}
-use Rattle.ist_core.specs.After.{decision_word, side_of}
-use Rattle.ist_core.specs.Lawful.{CanOpen, EachEnabled, state_of}
-use Rattle.ist_core.specs.Logs.{Log}
-use Rattle.ist_core.specs.Pieces.{Change, changed_at, with_decision}
-use Rattle.ist_core.specs.References.{ChangeAt, Empty, InnerAt, LeafAt, RebuildAt, Ref, Unset, ref_of, word_of}
-use Rattle.ist_core.specs.Slots.{SlotHolds, change_reads, past_change}
-use Rattle.ist_core.specs.StartLayout.{start}
-use Rattle.ist_core.specs.Statuses.{decided_no, decided_yes, undecided}
-use Rattle.ist_core.proofs.FreezingLemmas.{change_read}
-use Rattle.ist_core.proofs.InstallNamingLemmas.{from_plain}
-use Rattle.ist_core.proofs.NamingLemmas.{SlotNames, slot_names}
-use Rattle.ist_core.proofs.NamingStepLemmas.{side_names}
-use Rattle.ist_core.proofs.OrderLemmas.{names}
-use Rattle.ist_core.proofs.PlaceLemmas.{anchor_free}
-use Rattle.ist_core.proofs.ReferenceLemmas.{ref_of-unset}
-use Rattle.ist_core.proofs.RowLemmas.{changed_at-other, changed_at-same}
-use Rattle.ist_core.proofs.SlotStepLemmas.{IsNoDecide, WritesNoSlot, change_stays, install_stands, install_writes, place_writes, resolve_writes, slot_stays}
-use Rattle.ist_core.proofs.OptionLemmas.{same_change}
-use Rattle.ist_core.proofs.FrozenLemmas.{past_no_change}
+use Rattle.ist_core.specs.LogTerms.{decision_word, side_of, CanOpen, EachEnabled, state_of, Log}
+use Rattle.ist_core.specs.WordTerms.{Change, changed_at, with_decision, ChangeAt, Empty, InnerAt, LeafAt, RebuildAt, Ref, Unset, ref_of, word_of, SlotHolds, change_reads, past_change, start, decided_no, decided_yes, undecided}
+use Rattle.ist_core.proofs.AllLogLemmas.{change_read, past_no_change}
+use Rattle.ist_core.proofs.AllEventLemmas.{from_plain}
+use Rattle.ist_core.proofs.AllPlaceLemmas.{SlotNames, slot_names, side_names, names, anchor_free, IsNoDecide, WritesNoSlot, change_stays, install_stands, install_writes, place_writes, resolve_writes, slot_stays}
+use Rattle.ist_core.proofs.AllWordLemmas.{ref_of-unset, changed_at-other, changed_at-same, same_change}
 use Rattle.laws_links.proofs.ChangeLemmas.{undecided_stands}
 use Rattle.laws_links.proofs.InductionLemmas.{sound_after}
 use Rattle.laws_links.proofs.ReadLemmas.{FillsSlot, ReadsAs, Turns, filled_by, past_same, side_plain, side_undecided, turned_by}
@@ -40,16 +27,14 @@ module _ (pairs : List Pair) (words : ℕ) (opens : CanOpen pairs words) where
   pub change_past : (log : Log) → EachEnabled (start pairs words) log → (base : ℕ) (x : ChangeRow)
       → (state_of pairs words log).pieces base ≡ Some (Change x)
       → past_change (state_of pairs words log).pieces (ref_of (word_of (ChangeAt base))) ≡ ref_of (side_of x)
-  change_past log h base x e =
-      ap (past_change (state_of pairs words log).pieces)
+  change_past log h base x e = ap (past_change (state_of pairs words log).pieces)
       (change_read pairs words opens log h base x e) ∙ ap change_reads e
 
   -- an event that writes no slot and decides nothing
   pub reads_quiet : (log : Log) (event : Event) → EachEnabled (start pairs words) (event ∷ log)
       → WritesNoSlot event → IsNoDecide event → (node i : ℕ) (ref : Ref)
       → ReadsAs (state_of pairs words log) node i ref → ReadsAfter pairs words log node i ref event
-  reads_quiet log event h none still node i ref r =
-      let s = sound_after pairs words log h.0 in
+  reads_quiet log event h none still node i ref r = let s = sound_after pairs words log h.0 in
       inl record {
         word = r.word;
         holds = slot_stays (start pairs words) log event h.1 s none node i r.word r.holds;
@@ -65,36 +50,29 @@ module _ (pairs : List Pair) (words : ℕ) (opens : CanOpen pairs words) where
       (r : ReadsAs (state_of pairs words log) node i ref)
       → SlotHolds (state_of pairs words (event ∷ log)) node i r.word
       → ReadsAs (state_of pairs words (event ∷ log)) node i ref
-  reads_left log event h still node i ref r slot =
-      record {
-        word = r.word;
-        holds = slot;
-        reads =
-            past_same (state_of pairs words log).pieces (state_of pairs words (event ∷ log)).pieces
-            (ref_of r.word) ref
-            (λ base x is e. (x, change_stays (start pairs words) log event h.1 (sound_after pairs words log h.0) still base x e, refl)) r.reads;
-      }
+  reads_left log event h still node i ref r slot = record {
+    word = r.word;
+    holds = slot;
+    reads = past_same (state_of pairs words log).pieces (state_of pairs words (event ∷ log)).pieces
+        (ref_of r.word) ref
+        (λ base x is e. (x, change_stays (start pairs words) log event h.1 (sound_after pairs words log h.0) still base x e, refl)) r.reads;
+  }
 
   -- a change that is installed reads as what it takes out
   pub reads_install : (log : Log) (caller base : ℕ) (rows : List Row)
       → (h : EachEnabled (start pairs words) (Install caller base rows ∷ log))
-      → (node i : ℕ) (ref : Ref)
-      → ReadsAs (state_of pairs words log) node i ref
+      → (node i : ℕ) (ref : Ref) → ReadsAs (state_of pairs words log) node i ref
       → ReadsAfter pairs words log node i ref (Install caller base rows)
-  reads_install log caller base rows h node i ref r =
-      let t = state_of pairs words log in
-      let u = state_of pairs words (Install caller base rows ∷ log) in
-      let can = h.1 in
+  reads_install log caller base rows h node i ref r = let t = state_of pairs words log in
+      let u = state_of pairs words (Install caller base rows ∷ log) in let can = h.1 in
       let writes = install_writes (start pairs words) log caller base rows can (sound_after pairs words log h.0) (anchor_free pairs words log h.0) in
-      let there = install_stands (start pairs words) log caller base rows can in
-      ⊎_elim
+      let there = install_stands (start pairs words) log caller base rows can in ⊎_elim
       (λ w. inl record {
         word = word_of (ChangeAt base);
         holds =
             subst (λ j. SlotHolds u node j (word_of (ChangeAt base))) (sym w.2) (subst (λ n. SlotHolds u n can.change.index (word_of (ChangeAt base))) (sym w.1) writes.now);
         reads = change_past (Install caller base rows ∷ log) h base can.change there
-            ∙ ap ref_of (side_undecided can.change can.unset ∙ sym w.0)
-            ∙ sym
+            ∙ ap ref_of (side_undecided can.change can.unset ∙ sym w.0) ∙ sym
             (past_no_change t.pieces (ref_of r.word) (λ at e. from_plain (start pairs words) log can.change can.fresh can.fits at (ap ref_of (sym w.0) ∙ e)))
             ∙ r.reads;
       })
@@ -106,10 +84,8 @@ module _ (pairs : List Pair) (words : ℕ) (opens : CanOpen pairs words) where
       → (h : EachEnabled (start pairs words) (Resolve caller base ∷ log)) → (node i : ℕ) (ref : Ref)
       → ReadsAs (state_of pairs words log) node i ref
       → ReadsAfter pairs words log node i ref (Resolve caller base)
-  reads_resolve log caller base h node i ref r =
-      let t = state_of pairs words log in
-      let u = state_of pairs words (Resolve caller base ∷ log) in
-      let can = h.1 in
+  reads_resolve log caller base h node i ref r = let t = state_of pairs words log in
+      let u = state_of pairs words (Resolve caller base ∷ log) in let can = h.1 in
       let writes = resolve_writes t caller base can (anchor_free pairs words log h.0) in
       let row = (names pairs words opens log h.0).rows base (Change can.change) can.published in
       let side = side_names t.pieces can.change.node can.change.index can.change row.0 row.1 in
@@ -118,12 +94,10 @@ module _ (pairs : List Pair) (words : ℕ) (opens : CanOpen pairs words) where
         word = side_of can.change;
         holds =
             subst (λ j. SlotHolds u node j (side_of can.change)) (sym w.2) (subst (λ n. SlotHolds u n can.change.index (side_of can.change)) (sym w.1) writes.now);
-        reads =
-            past_no_change u.pieces (ref_of (side_of can.change))
+        reads = past_no_change u.pieces (ref_of (side_of can.change))
             (side_plain t.pieces can.change.node can.change.index (ref_of (side_of can.change)) side)
             ∙ sym (change_past log h.0 base can.change can.published)
-            ∙ ap (λ v. past_change t.pieces (ref_of v)) (sym w.0)
-            ∙ r.reads;
+            ∙ ap (λ v. past_change t.pieces (ref_of v)) (sym w.0) ∙ r.reads;
       })
       (λ stays. inl (reads_left log (Resolve caller base) h tt node i ref r stays))
       (writes.others node i r.word r.holds)
@@ -133,8 +107,7 @@ module _ (pairs : List Pair) (words : ℕ) (opens : CanOpen pairs words) where
       → (h : EachEnabled (start pairs words) (Place caller rebuild j word rows ∷ log))
       → (node i : ℕ) (ref : Ref) → ReadsAs (state_of pairs words log) node i ref
       → ReadsAfter pairs words log node i ref (Place caller rebuild j word rows) ⊎ FillsSlot (start pairs words) log node i ref (Place caller rebuild j word rows)
-  reads_place log caller rebuild j word rows h node i ref r =
-      let t = state_of pairs words log in
+  reads_place log caller rebuild j word rows h node i ref r = let t = state_of pairs words log in
       let writes = place_writes t caller rebuild j word rows h.1 (sound_after pairs words log h.0) (anchor_free pairs words log h.0) in
       ⊎_elim
       (λ w. inr (filled_by h.1 w.1 w.2 (cc (r.reads, ap (λ v. past_change t.pieces (ref_of v)) w.0 ∙ ap (past_change t.pieces) ref_of-unset))))
@@ -151,8 +124,7 @@ module _ (pairs : List Pair) (words : ℕ) (opens : CanOpen pairs words) where
       -- the reference is the change's, or another
       is_change_at : (o : Option Ref) (base : ℕ)
           → (o ≡ Some (ChangeAt base)) ⊎ (o ≢ Some (ChangeAt base))
-      is_change_at (Some (ChangeAt b)) base =
-          ⊎_elim (λ k. inl (ap (λ n. Some (ChangeAt n)) k.1))
+      is_change_at (Some (ChangeAt b)) base = ⊎_elim (λ k. inl (ap (λ n. Some (ChangeAt n)) k.1))
           (λ k. inr (λ e. k.1 (let same : b ≡ base = cc in same))) (eqb_tells b base)
       is_change_at (Some Empty) base = inr (λ e. cc)
       is_change_at (Some Unset) base = inr (λ e. cc)
@@ -165,10 +137,8 @@ module _ (pairs : List Pair) (words : ℕ) (opens : CanOpen pairs words) where
       other : (said : Bool) → EachEnabled (start pairs words) (Decide caller base said ∷ log)
           → ref_of r.word ≢ Some (ChangeAt base)
           → ReadsAs (state_of pairs words (Decide caller base said ∷ log)) node i ref
-      other said h ne =
-          let t = state_of pairs words log in
-          let f = with_decision (decision_word said) in
-          record {
+      other said h ne = let t = state_of pairs words log in
+          let f = with_decision (decision_word said) in record {
             word = r.word;
             holds =
                 slot_stays (start pairs words) log (Decide caller base said) h.1 (sound_after pairs words log h.0) tt node i r.word r.holds;
@@ -180,24 +150,20 @@ module _ (pairs : List Pair) (words : ℕ) (opens : CanOpen pairs words) where
           → (ref_of r.word ≡ Some (ChangeAt base)) ⊎ (ref_of r.word ≢ Some (ChangeAt base))
           → ReadsAfter pairs words log node i ref (Decide caller base said)
       at said h (inr ne) = inl (other said h ne)
-      at false h (inl is) =
-          let t = state_of pairs words log in
-          let f = with_decision decided_no in
+      at false h (inl is) = let t = state_of pairs words log in let f = with_decision decided_no in
           inl record {
             word = r.word;
             holds =
                 slot_stays (start pairs words) log (Decide caller base false) h.1 (sound_after pairs words log h.0) tt node i r.word r.holds;
             reads = past_same t.pieces (changed_at t.pieces base f) (ref_of r.word) ref
-                (λ b x named e.
-                let same : b ≡ base = cc (sym named ∙ is) in
+                (λ b x named e. let same : b ≡ base = cc (sym named ∙ is) in
                 let row = same_change (t.pieces base) x h.1.change (subst (λ n. t.pieces n ≡ Some (Change x)) same e) h.1.pending.published in (
                   record x { decision = decided_no },
                   subst (λ n. changed_at t.pieces base f n ≡ Some (Change record x { decision = decided_no })) (sym same) (changed_at-same t.pieces base f ∙ ap (option_map f) (subst (λ n. t.pieces n ≡ Some (Change x)) same e)),
                   sym (side_undecided x (ap (λ c. c.decision) row ∙ h.1.pending.unset)),
                 )) r.reads;
           }
-      at true h (inl is) =
-          let t = state_of pairs words log in
+      at true h (inl is) = let t = state_of pairs words log in
           let here : SlotNames t.pieces node i (Some (ChangeAt base)) = subst (λ o. SlotNames t.pieces node i o) is (slot_names t node i r.word (names pairs words opens log h.0) r.holds) in
           let row =
           same_change (t.pieces base) h.1.change here.row h.1.pending.published here.published in
@@ -210,15 +176,13 @@ module _ (pairs : List Pair) (words : ℕ) (opens : CanOpen pairs words) where
       → (x : ChangeRow) → (state_of pairs words log).pieces base ≡ Some (Change x) → (ref : Ref)
       → ref_of x.to ≡ Some ref
       → ReadsAs (state_of pairs words (Decide caller base true ∷ log)) x.node x.index ref
-  decide_reads log caller base h x e ref is =
-      let t = state_of pairs words log in
+  decide_reads log caller base h x e ref is = let t = state_of pairs words log in
       let f = with_decision decided_yes in
       let row = same_change (t.pieces base) h.1.change x h.1.pending.published e in
       let none : x.decision ≡ undecided = ap (λ c. c.decision) (sym row) ∙ h.1.pending.unset in
       record {
         word = word_of (ChangeAt base);
-        holds =
-            slot_stays (start pairs words) log (Decide caller base true) h.1
+        holds = slot_stays (start pairs words) log (Decide caller base true) h.1
             (sound_after pairs words log h.0) tt x.node x.index (word_of (ChangeAt base))
             (undecided_stands pairs words opens log h.0 base x e none);
         reads =

@@ -5,16 +5,11 @@ use Rattle.ist_core.specs.declared.events.Event.TheVariants.{Decide}
 use Rattle.ist_core.specs.declared.pairs.Pair.{Pair}
 use Rattle.ist_core.specs.declared.states.ChangeRow.{ChangeRow}
 use Rattle.ist_core.specs.declared.states.RebuildRow.{RebuildRow}
-use Rattle.ist_core.specs.Lawful.{CanOpen, EachEnabled, state_of}
-use Rattle.ist_core.specs.Logs.{Log}
-use Rattle.ist_core.specs.Pieces.{Change, Rebuild}
-use Rattle.ist_core.specs.References.{RebuildAt, ref_of, unset_word}
-use Rattle.ist_core.specs.StartLayout.{start}
-use Rattle.ist_core.specs.Statuses.{undecided}
-use Rattle.ist_core.proofs.ReferenceLemmas.{ref_of-unset}
-use Rattle.ist_core.proofs.OptionLemmas.{same_rebuild}
+use Rattle.ist_core.specs.LogTerms.{CanOpen, EachEnabled, state_of, Log}
+use Rattle.ist_core.specs.WordTerms.{Change, Rebuild, RebuildAt, ref_of, unset_word, start, undecided}
+use Rattle.ist_core.proofs.AllWordLemmas.{ref_of-unset, same_rebuild}
 use Rattle.laws_links.proofs.LinkLemmas.{deciding}
-use Rattle.laws_links.proofs.IdealLeafLemmas.{decided_stands}
+use Rattle.laws_links.proofs.ReadLemmas.{decided_stands}
 use Rattle.laws_links.proofs.NewTreeLemmas.{ideal_kept, ideal_set}
 use Rattle.laws_links.proofs.WholeLemmas.{finish_is_whole, target_leaves_kept}
 use Rattle.laws_links.specs.Replacing.{PutsIdealRoot}
@@ -23,12 +18,10 @@ module _ (pairs : List Pair) (words : ℕ) (opens : CanOpen pairs words) where
   -- the root of an undecided finish is ideal
   pub puts_ideal : (log : Log) → EachEnabled (start pairs words) log → (base : ℕ) (x : ChangeRow)
       → (state_of pairs words log).pieces base ≡ Some (Change x) → x.decision ≡ undecided
-      → (rebuild : ℕ) (row : RebuildRow)
-      → ref_of x.from ≡ Some (RebuildAt rebuild)
+      → (rebuild : ℕ) (row : RebuildRow) → ref_of x.from ≡ Some (RebuildAt rebuild)
       → (state_of pairs words log).pieces rebuild ≡ Some (Rebuild row)
       → PutsIdealRoot (state_of pairs words log) x row
-  puts_ideal log h base x e none rebuild row from there =
-      let t = state_of pairs words log in
+  puts_ideal log h base x e none rebuild row from there = let t = state_of pairs words log in
       let w = finish_is_whole pairs words opens log h base x e none rebuild from in
       let same = same_rebuild (t.pieces rebuild) w.row row w.published there in
       subst (λ r. PutsIdealRoot t x r) same
@@ -49,10 +42,8 @@ module _ (pairs : List Pair) (words : ℕ) (opens : CanOpen pairs words) where
       → (state_of pairs words log).pieces rebuild ≡ Some (Rebuild row)
       → row.root ≢ unset_word → PutsIdealRoot (state_of pairs words log) x row
       → PutsIdealRoot (state_of pairs words (Decide caller base true ∷ log)) x row
-  puts_ideal_after log caller base h x rebuild row there set p =
-      let t = state_of pairs words log in
-      let u = state_of pairs words (Decide caller base true ∷ log) in
-      record {
+  puts_ideal_after log caller base h x rebuild row there set p = let t = state_of pairs words log in
+      let u = state_of pairs words (Decide caller base true ∷ log) in record {
         root = p.root;
         ref = p.ref;
         root_is = p.root_is;
@@ -72,8 +63,7 @@ module _ (pairs : List Pair) (words : ℕ) (opens : CanOpen pairs words) where
       → ref_of x.from ≡ Some (RebuildAt rebuild)
       → (state_of pairs words log).pieces rebuild ≡ Some (Rebuild row)
       → PutsIdealRoot (state_of pairs words log) x row × PutsIdealRoot (state_of pairs words (Decide caller base true ∷ log)) x row
-  roots_are_ideal log caller base h x rebuild row e from there =
-      let t = state_of pairs words log in
+  roots_are_ideal log caller base h x rebuild row e from there = let t = state_of pairs words log in
       let none = deciding pairs words opens log caller base true h x e in
       let p = puts_ideal log h.0 base x e none rebuild row from there in
       let set : row.root ≢ unset_word = λ k. ideal_set t.pieces p.ref p.leaves row.target p.rows p.ideal (cc (sym p.root_is ∙ ap ref_of k ∙ ref_of-unset)) in

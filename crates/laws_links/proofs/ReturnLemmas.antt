@@ -4,37 +4,21 @@ use Rattle.std.proofs.lemmas.Bool.Decides.{eqb_tells}
 use Rattle.ist_core.specs.declared.events.Event.{Event}
 use Rattle.ist_core.specs.declared.events.Event.TheVariants.{Decide, Place}
 use Rattle.ist_core.specs.declared.pairs.Pair.{Pair}
-use Rattle.ist_core.specs.Lawful.{CanOpen, EachEnabled, state_of}
-use Rattle.ist_core.specs.Links.{IsChild, Linked, WasLinked, at_anchor, below}
-use Rattle.ist_core.specs.Logs.{GoesOn, Log, one_event, same_log}
-use Rattle.ist_core.specs.Pieces.{Inner, Rebuild, with_inners}
-use Rattle.ist_core.specs.References.{ChangeAt, Empty, InnerAt, LeafAt, RebuildAt, Ref, Unset, ref_of}
-use Rattle.ist_core.specs.RowLayout.{anchor}
-use Rattle.ist_core.specs.Slots.{SlotHolds, past_change, past_rebuild, rebuild_reads}
-use Rattle.ist_core.specs.Snapshots.{Snapshot, bases_of}
-use Rattle.ist_core.specs.StartLayout.{start}
-use Rattle.ist_core.proofs.AddingLemmas.{held_free}
-use Rattle.ist_core.proofs.GrowingLemmas.{rebuild_there}
-use Rattle.ist_core.proofs.HomeLemmas.{mentioned_here}
-use Rattle.ist_core.proofs.MentionLemmas.{child_mentioned, mentions_step}
-use Rattle.ist_core.proofs.NamingLemmas.{InnerHere, IsRebuildFor, RootNames, SideNames, WordsName, slot_names}
-use Rattle.ist_core.proofs.OrderLemmas.{child_above, names, past_change_names}
-use Rattle.ist_core.proofs.ParentLemmas.{one_home}
-use Rattle.ist_core.proofs.PlaceLemmas.{anchor_free}
-use Rattle.ist_core.proofs.SlotLemmas.{slot_once}
-use Rattle.ist_core.proofs.SlotStepLemmas.{place_writes}
-use Rattle.ist_core.proofs.OptionLemmas.{no_value}
-use Rattle.ist_core.proofs.FateLemmas.{grow_after}
-use Rattle.laws_links.proofs.ChildLemmas.{IsReadBy, child_read, leads_grows, leads_rebuild, read_child}
+use Rattle.ist_core.specs.LogTerms.{CanOpen, EachEnabled, state_of, GoesOn, Log, one_event, same_log, Snapshot, bases_of}
+use Rattle.ist_core.specs.TreeTerms.{IsChild, Linked, WasLinked, at_anchor, below}
+use Rattle.ist_core.specs.WordTerms.{Inner, Rebuild, with_inners, ChangeAt, Empty, InnerAt, LeafAt, RebuildAt, Ref, Unset, ref_of, anchor, SlotHolds, past_change, past_rebuild, rebuild_reads, start}
+use Rattle.ist_core.proofs.AllEventLemmas.{held_free}
+use Rattle.ist_core.proofs.AllLogLemmas.{rebuild_there, grow_after}
+use Rattle.ist_core.proofs.AllPlaceLemmas.{mentioned_here, child_mentioned, mentions_step, InnerHere, IsRebuildFor, RootNames, SideNames, WordsName, slot_names, child_above, names, past_change_names, one_home, anchor_free, slot_once, place_writes}
+use Rattle.ist_core.proofs.AllWordLemmas.{no_value}
+use Rattle.laws_links.proofs.ReadStepLemmas.{IsReadBy, child_read, leads_grows, leads_rebuild, read_child, Stood, Turning, filled_now, read_before, reads_back, turned_now, was_anchor, was_row}
 use Rattle.laws_links.proofs.FormLemmas.{IsFormed, of_finish, of_leaf_put, of_pair_put, of_remove, of_start}
 use Rattle.laws_links.proofs.FormedLemmas.{changes_are_formed}
 use Rattle.laws_links.proofs.InductionLemmas.{sound_after}
 use Rattle.laws_links.proofs.PairLemmas.{pair_is_filled}
 use Rattle.laws_links.proofs.ReadEventLemmas.{decide_reads}
-use Rattle.laws_links.proofs.ReadLemmas.{FillsSlot, ReadsAs, Turns, filled_by, reads_once, turned_by}
-use Rattle.laws_links.proofs.ReadStepLemmas.{Stood, Turning, filled_now, read_before, reads_back, turned_now, was_anchor, was_row}
+use Rattle.laws_links.proofs.ReadLemmas.{FillsSlot, ReadsAs, Turns, filled_by, reads_once, turned_by, ideal_reads}
 use Rattle.laws_links.proofs.UntouchedLemmas.{not_the_anchor, was_linked_here, was_linked_parent}
-use Rattle.laws_links.proofs.IdealLeafLemmas.{ideal_reads}
 use Rattle.laws_links.proofs.RebuiltLemmas.{finish_unreplaced}
 use Rattle.laws_links.proofs.UnlinkedLemmas.{ideal_among, root_never_linked}
 
@@ -45,12 +29,10 @@ one_inner a b e = cc
 module _ (pairs : List Pair) (words : ℕ) (opens : CanOpen pairs words) where
   -- a child that a slot's reading leads to after the event, it led to before the event
   pub leads_back : (log : Log) (event : Event) → EachEnabled (start pairs words) (event ∷ log)
-      → (node i child : ℕ) (ref : Ref)
-      → ReadsAs (state_of pairs words log) node i ref
+      → (node i child : ℕ) (ref : Ref) → ReadsAs (state_of pairs words log) node i ref
       → past_rebuild (state_of pairs words (event ∷ log)).pieces (Some ref) ≡ Some (InnerAt child)
       → past_rebuild (state_of pairs words log).pieces (Some ref) ≡ Some (InnerAt child)
-  leads_back log event h node i child ref r leads =
-      at ref r.reads leads
+  leads_back log event h node i child ref r leads = at ref r.reads leads
       (past_change_names t node i (ref_of r.word) o (slot_names t node i r.word o r.holds))
     where
       t : Snapshot
@@ -63,16 +45,14 @@ module _ (pairs : List Pair) (words : ℕ) (opens : CanOpen pairs words) where
           → past_rebuild (state_of pairs words (event ∷ log)).pieces (Some ref) ≡ Some (InnerAt child)
           → SideNames (state_of pairs words log).pieces node i (past_change (state_of pairs words log).pieces (ref_of r.word)) ⊎ (past_change (state_of pairs words log).pieces (ref_of r.word) ≡ Some Unset)
           → past_rebuild (state_of pairs words log).pieces (Some ref) ≡ Some (InnerAt child)
-      at (RebuildAt base) is k (inl side) =
-          let t = state_of pairs words log in
+      at (RebuildAt base) is k (inl side) = let t = state_of pairs words log in
           let u = state_of pairs words (event ∷ log) in
           let here : IsRebuildFor t.pieces node i base =
           subst (λ x. SideNames t.pieces node i x) is side in
           let on = rebuild_there t.pieces u.pieces (grow_after pairs words log event h) base here.row here.published in
           ap rebuild_reads here.published ∙ ap (λ n. Some (InnerAt n)) (sym on.2.target) ∙ sym
           (ap rebuild_reads on.1) ∙ k
-      at (RebuildAt base) is k (inr unset) =
-          absurd (cc)
+      at (RebuildAt base) is k (inr unset) = absurd (cc)
       at Empty is k side = absurd (cc)
       at Unset is k side = absurd (cc)
       at (LeafAt base) is k side = absurd (cc)
@@ -93,8 +73,7 @@ module _ (pairs : List Pair) (words : ℕ) (opens : CanOpen pairs words) where
     where
       -- the slot reads as what the change puts in
       is_to : (to : Ref) → ref_of can.change.to ≡ Some to → ref ≡ to
-      is_to to is =
-          let u = state_of pairs words (Decide caller base true ∷ log) in
+      is_to to is = let u = state_of pairs words (Decide caller base true ∷ log) in
           let now =
           decide_reads pairs words opens log caller base h can.change can.pending.published to is in
           reads_once u node i ref to (anchor_free pairs words (Decide caller base true ∷ log) h) r
@@ -102,8 +81,7 @@ module _ (pairs : List Pair) (words : ℕ) (opens : CanOpen pairs words) where
 
       leads_to : (to : Ref) → ref_of can.change.to ≡ Some to
           → past_rebuild (state_of pairs words (Decide caller base true ∷ log)).pieces (Some to) ≡ Some (InnerAt child)
-      leads_to to is =
-          subst
+      leads_to to is = subst
           (λ x. past_rebuild (state_of pairs words (Decide caller base true ∷ log)).pieces (Some x) ≡ Some (InnerAt child))
           (is_to to is) leads
 
@@ -115,8 +93,7 @@ module _ (pairs : List Pair) (words : ℕ) (opens : CanOpen pairs words) where
           let filled = pair_is_filled pairs words opens log h.0 base can.change can.pending.published can.pending.unset f.kind f.pair f.to in
           absurd (filled.never (subst (λ m. WasLinked (start pairs words) log m) (sym same) linked))
       by_form (of_remove f) = absurd (cc (leads_to Empty f.to))
-      by_form (of_start f) =
-          let t = state_of pairs words log in
+      by_form (of_start f) = let t = state_of pairs words log in
           let u = state_of pairs words (Decide caller base true ∷ log) in
           let now = leads_grows t u (grow_after pairs words log (Decide caller base true) h) (RebuildAt f.rebuild) f.row.target (leads_rebuild t.pieces f.rebuild f.row f.published) in
           let same = one_inner f.row.target child (sym now ∙ leads_to (RebuildAt f.rebuild) f.to) in
@@ -124,8 +101,7 @@ module _ (pairs : List Pair) (words : ℕ) (opens : CanOpen pairs words) where
           cc (sym from ∙ f.from) in
           read_child t node i child was old
           (ap (λ x. past_rebuild t.pieces (Some x)) here ∙ ap (λ m. Some (InnerAt m)) same)
-      by_form (of_finish f) =
-          let t = state_of pairs words log in
+      by_form (of_finish f) = let t = state_of pairs words log in
           let row = (names pairs words opens log h.0).rows f.rebuild (Rebuild f.row) f.published in
           let unr = finish_unreplaced pairs words opens log h.0 base can.change can.pending.published can.pending.unset f.rebuild f.from in
           absurd
@@ -145,8 +121,7 @@ module _ (pairs : List Pair) (words : ℕ) (opens : CanOpen pairs words) where
 
   -- a row that was linked isn't put into a root
   filled_back : (log : Log) (event : Event) → EachEnabled (start pairs words) (event ∷ log)
-      → (node i child : ℕ) (ref : Ref)
-      → InnerHere (state_of pairs words log).pieces child
+      → (node i child : ℕ) (ref : Ref) → InnerHere (state_of pairs words log).pieces child
       → FillsSlot (start pairs words) log node i Unset event
       → ReadsAs (state_of pairs words (event ∷ log)) node i ref
       → past_rebuild (state_of pairs words (event ∷ log)).pieces (Some ref) ≡ Some (InnerAt child)
@@ -174,8 +149,7 @@ module _ (pairs : List Pair) (words : ℕ) (opens : CanOpen pairs words) where
   not_brought_back log event h zero node low was l = absurd (omega arith)
   not_brought_back log event h (suc fuel) _ low was at_anchor = at_anchor
   not_brought_back log event h (suc fuel) _ low was (below {node = node} {child = child} i l c) =
-      let t = state_of pairs words log in
-      let u = state_of pairs words (event ∷ log) in
+      let t = state_of pairs words log in let u = state_of pairs words (event ∷ log) in
       let o = names pairs words opens (event ∷ log) h in
       let higher = child_above u node i child o c in
       let named = child_mentioned u node i child o c in
@@ -185,8 +159,7 @@ module _ (pairs : List Pair) (words : ℕ) (opens : CanOpen pairs words) where
       let on = mentions_step pairs words opens log event h parent.parent parent.i (InnerAt child) (λ base e. cc) (λ e. cc) parent.named in
       let home = (one_home pairs words opens (event ∷ log) h).one parent.parent parent.i node i child on named in
       let node_was = subst (λ n. WasLinked (start pairs words) log n) home.0 parent.linked in
-      let here = not_brought_back log event h fuel node (omega arith) node_was l in
-      below i here
+      let here = not_brought_back log event h fuel node (omega arith) node_was l in below i here
       (by_reading node i child was (was_linked_here pairs words opens log h.0 child ne was) (stood node node_was (eqb_tells node anchor)) (child_read u node i child c))
     where
       stood : (node : ℕ) → WasLinked (start pairs words) log node
@@ -196,8 +169,7 @@ module _ (pairs : List Pair) (words : ℕ) (opens : CanOpen pairs words) where
       stood node was (inr k) = was_row (was_linked_here pairs words opens log h.0 node k.1 was)
 
       by_reading : (node i child : ℕ) → WasLinked (start pairs words) log child
-          → InnerHere (state_of pairs words log).pieces child
-          → Stood pairs words opens log node
+          → InnerHere (state_of pairs words log).pieces child → Stood pairs words opens log node
           → IsReadBy (state_of pairs words (event ∷ log)) node i child
           → IsChild (state_of pairs words log) node i child
       by_reading node i child was there s r =
@@ -205,8 +177,7 @@ module _ (pairs : List Pair) (words : ℕ) (opens : CanOpen pairs words) where
         where
           at : Turning pairs words opens log node i r.ref event
               → IsChild (state_of pairs words log) node i child
-          at (read_before before) =
-              read_child (state_of pairs words log) node i child r.ref before
+          at (read_before before) = read_child (state_of pairs words log) node i child r.ref before
               (leads_back log event h node i child r.ref before r.leads)
           at (turned_now before old turn) =
               turned_back log event h node i child before r.ref was old turn r.read r.leads

@@ -5,32 +5,13 @@ use Rattle.ist_core.specs.declared.events.Event.{Event}
 use Rattle.ist_core.specs.declared.events.Event.TheVariants.{Count, Decide, Draw, Finish, Install, Mark, Place, Resolve, Root}
 use Rattle.ist_core.specs.declared.lists.Row.{Row}
 use Rattle.ist_core.specs.declared.pairs.Pair.{Pair}
-use Rattle.ist_core.specs.After.{after, decision_word, side_of}
-use Rattle.ist_core.specs.Building.{CanDraw, CanPlace, CanRoot}
-use Rattle.ist_core.specs.Deciding.{CanCount, CanDecide, CanResolve}
-use Rattle.ist_core.specs.Elements.{Among}
-use Rattle.ist_core.specs.Enabled.{Enabled}
-use Rattle.ist_core.specs.Installing.{CanInstall}
-use Rattle.ist_core.specs.Lawful.{EachEnabled, state_of}
-use Rattle.ist_core.specs.Logs.{Log, state}
-use Rattle.ist_core.specs.Marking.{CanFinish, CanMark}
-use Rattle.ist_core.specs.Pieces.{Inner, Piece, Pieces, Rebuild, changed_at, counted, drawn, with_decision, with_inners, with_root, with_slot, with_status}
-use Rattle.ist_core.specs.References.{ChangeAt, unset_word, word_of}
-use Rattle.ist_core.specs.Slots.{SlotHolds, in_anchor, in_row}
-use Rattle.ist_core.specs.Snapshots.{Snapshot, bases_of}
-use Rattle.ist_core.specs.StartLayout.{start}
-use Rattle.ist_core.specs.Statuses.{finished_word, marked_word}
-use Rattle.ist_core.proofs.AddingLemmas.{Adds, IsInstalledWith, adds-with_inners, adds_install}
-use Rattle.ist_core.proofs.BornLemmas.{Born}
-use Rattle.ist_core.proofs.InstallLemmas.{with_installed}
-use Rattle.ist_core.proofs.MoveLemmas.{HeldLieApart}
-use Rattle.ist_core.proofs.PlaceLemmas.{anchor_free}
-use Rattle.ist_core.proofs.RowLemmas.{changed_at-some}
-use Rattle.ist_core.proofs.SoundLemmas.{sound}
-use Rattle.ist_core.proofs.StartLemmas.{sound_start}
-use Rattle.ist_core.proofs.StepLemmas.{holds_installed, rows_placed, rows_resolved}
+use Rattle.ist_core.specs.LogTerms.{after, decision_word, side_of, Among, Enabled, EachEnabled, state_of, Log, state, Snapshot, bases_of}
+use Rattle.ist_core.specs.TreeTerms.{CanDraw, CanPlace, CanRoot, CanCount, CanDecide, CanResolve, CanInstall, CanFinish, CanMark}
+use Rattle.ist_core.specs.WordTerms.{Inner, Piece, Pieces, Rebuild, changed_at, counted, drawn, with_decision, with_inners, with_root, with_slot, with_status, ChangeAt, unset_word, word_of, SlotHolds, in_anchor, in_row, start, finished_word, marked_word}
+use Rattle.ist_core.proofs.AllEventLemmas.{Adds, IsInstalledWith, adds-with_inners, adds_install, Born, with_installed, HeldLieApart, sound, sound_start, holds_installed, rows_placed, rows_resolved}
+use Rattle.ist_core.proofs.AllPlaceLemmas.{anchor_free}
+use Rattle.ist_core.proofs.AllWordLemmas.{changed_at-some, no_value}
 use Rattle.ist_core.proofs.BornLemmas as born
-use Rattle.ist_core.proofs.OptionLemmas.{no_value}
 
 -- what the event makes of the row p at the base is q: p itself, or p with the one field changed that the event writes
 pub data BecameBy (first : Snapshot) (log : Log) (base : ℕ) (p q : Piece) : Event → Type 0 where
@@ -80,15 +61,11 @@ added_changed : (ps qs : Pieces) (New : ℕ → Piece → Type 0) (at : ℕ) (f 
 added_changed ps qs New at f adds base q e stood = here (ps base) refl
   where
     here : (o : Option Piece) → ps base ≡ o → Either ps qs New at f base q
-    here (Some p) is =
-        let it = changed_at-some qs at base f q e in
+    here (Some p) is = let it = changed_at-some qs at base f q e in
         let one : it.0 ≡ p = cc (it.1, adds.keeps base p is) in
         inl (p, is, subst (λ x. (q ≡ x) ⊎ ((base ≡ at) × (q ≡ f x))) one it.2)
-    here None is =
-        let it = changed_at-some qs at base f q e in
-        ⊎_elim
-        (λ kept.
-        let there : qs base ≡ Some q = subst (λ x. qs base ≡ Some x) (sym kept) it.1 in
+    here None is = let it = changed_at-some qs at base f q e in ⊎_elim
+        (λ kept. let there : qs base ≡ Some q = subst (λ x. qs base ≡ Some x) (sym kept) it.1 in
         inr (⊎_elim (λ old. absurd (cc)) (λ new. new) (adds.from base q there), there, is))
         (λ turned. absurd (stood turned.0 is))
         it.2
@@ -115,15 +92,13 @@ turned_none first log event pieces base q e =
 
 -- an event that publishes rows and writes one that was there before
 turned_added : (first : Snapshot) (log : Log) (event : Event) (qs : Pieces)
-    (New : ℕ → Piece → Type 0) (at : ℕ) (f : Piece → Piece)
-    → Adds (state first log).pieces qs New
+    (New : ℕ → Piece → Type 0) (at : ℕ) (f : Piece → Piece) → Adds (state first log).pieces qs New
     → (state first (event ∷ log)).pieces ≡ changed_at qs at f
     → ((base : ℕ) (p q : Piece) → base ≡ at → q ≡ f p → BecameBy first log base p q event)
     → ((base : ℕ) (p : Piece) → New base p → qs base ≡ Some p → Born first log base p event)
     → (base : ℕ) (q : Piece) → (state first (event ∷ log)).pieces base ≡ Some q
     → (base ≡ at → (state first log).pieces base ≡ None → ⊥) → RowCame first log event base q
-turned_added first log event qs New at f adds pieces turned publishes base q e stood =
-    ⊎_elim
+turned_added first log event qs New at f adds pieces turned publishes base q e stood = ⊎_elim
     (λ old. from_old old.0 old.1 (⊎_elim (λ same. as_it_was same) (λ now. turned base old.0 q now.0 now.1) old.2))
     (λ new. from_new (publishes base q new.0 new.1) new.2)
     (added_changed (state first log).pieces qs New at f adds base q (subst (λ ps. ps base ≡ Some q) pieces e) stood)
@@ -157,8 +132,7 @@ module _ (pairs : List Pair) (words : ℕ) where
           → Enabled (start pairs words) log event
           → (state_of pairs words (event ∷ log)).pieces base ≡ Some q
           → RowCame (start pairs words) log event base q
-      at (Install caller change rows) all k there =
-          let t = state_of pairs words log in
+      at (Install caller change rows) all k there = let t = state_of pairs words log in
           let holds = holds_installed (start pairs words) log caller change rows k in
           turned_added (start pairs words) log (Install caller change rows)
           (with_installed t.pieces change k.change k.fresh)
@@ -173,15 +147,13 @@ module _ (pairs : List Pair) (words : ℕ) where
           (with_slot k.change.index (side_of k.change))
           (ap (λ u. u.pieces) (rows_resolved (state_of pairs words log) caller change k))
           (λ b p x here is. by_resolve k here is) base q there
-      at (Place caller rebuild i word rows) all k there =
-          let t = state_of pairs words log in
+      at (Place caller rebuild i word rows) all k there = let t = state_of pairs words log in
           turned_added (start pairs words) log (Place caller rebuild i word rows)
           (with_inners t.pieces rows) (λ b p. Among b (bases_of rows)) k.root (with_slot i word)
           (adds-with_inners t caller rows k.held s) (rows_placed t caller rebuild i word rows k)
           (λ b p x here is. by_place k here is) (λ b p new there. born.by_place new there) base q there
           (slot_stood log (Place caller rebuild i word rows) all k.root i unset_word (in_row k.root_row k.root_published k.free) base q there)
-      at (Root caller rebuild word rows) all k there =
-          let t = state_of pairs words log in
+      at (Root caller rebuild word rows) all k there = let t = state_of pairs words log in
           turned_added (start pairs words) log (Root caller rebuild word rows)
           (with_inners t.pieces rows) (λ b p. Among b (bases_of rows)) rebuild (with_root word)
           (adds-with_inners t caller rows k.held s) refl

@@ -1,37 +1,25 @@
 -- Which changes name a rebuild: one start and its finishes, all of one slot. Serves the replacement law.
-use Rattle.std.proofs.Common.{List, None, Some, ap, arith, inl, inr, subst, sym, ℕ, ◌∙◌, ◌∷◌, ◌≡◌, ◌⊎◌}
+use Rattle.std.proofs.Common.{List, None, Some, ap, arith, inl, inr, subst, sym, ℕ, ◌∙◌, ◌∷◌, ◌≡◌, ◌⊎◌, ◌<◌}
 use Rattle.ist_core.specs.declared.events.Event.{Event}
 use Rattle.ist_core.specs.declared.events.Event.TheVariants.{Decide, Install}
 use Rattle.ist_core.specs.declared.lists.Row.{Row}
 use Rattle.ist_core.specs.declared.pairs.Pair.{Pair}
 use Rattle.ist_core.specs.declared.states.ChangeRow.{ChangeRow}
-use Rattle.ist_core.specs.Installing.{CanInstall, FitsKind, HasRoomFor, nothing, same_key}
-use Rattle.ist_core.specs.Lawful.{CanOpen, EachEnabled, state_of}
-use Rattle.ist_core.specs.Logs.{Log}
-use Rattle.ist_core.specs.Pieces.{Change, Rebuild, row_at}
-use Rattle.ist_core.specs.Rebuilding.{IsStarted}
-use Rattle.ist_core.specs.References.{ChangeAt, RebuildAt, Ref, ref_of, word_of}
-use Rattle.ist_core.specs.Slots.{SlotHolds}
-use Rattle.ist_core.specs.Snapshots.{HoldsRows, Snapshot}
-use Rattle.ist_core.specs.StartLayout.{start}
-use Rattle.ist_core.specs.Statuses.{decided_yes, start_kind, undecided}
-use Rattle.ist_core.proofs.MoveLemmas.{HeldLieApart}
-use Rattle.ist_core.proofs.NamingLemmas.{IsRebuildFor, RootNames, SideNames, WordsName}
-use Rattle.ist_core.proofs.OrderLemmas.{names}
-use Rattle.ist_core.proofs.PlaceLemmas.{anchor_free}
-use Rattle.ist_core.proofs.SlotLemmas.{slot_once}
-use Rattle.ist_core.proofs.StepLemmas.{holds_installed}
+use Rattle.ist_core.specs.TreeTerms.{CanInstall, FitsKind, HasRoomFor, nothing, same_key, IsStarted}
+use Rattle.ist_core.specs.LogTerms.{CanOpen, EachEnabled, state_of, Log, HoldsRows, Snapshot}
+use Rattle.ist_core.specs.WordTerms.{Change, Rebuild, row_at, ChangeAt, RebuildAt, Ref, ref_of, word_of, SlotHolds, start, decided_yes, start_kind, undecided}
+use Rattle.ist_core.proofs.AllEventLemmas.{HeldLieApart, holds_installed}
+use Rattle.ist_core.proofs.AllPlaceLemmas.{IsRebuildFor, RootNames, SideNames, WordsName, names, anchor_free, slot_once}
 use Rattle.laws_links.proofs.ChangeLemmas.{undecided_stands}
 use Rattle.laws_links.proofs.ComesLemmas.{change_comes}
 use Rattle.laws_links.proofs.FormLemmas.{IsFinish, IsFormed, of_finish, of_leaf_put, of_pair_put, of_remove, of_start}
 use Rattle.laws_links.proofs.InductionLemmas.{changes_by, sound_after}
-use Rattle.laws_links.proofs.OriginLemmas.{ChangeComes, change_was, is_decided, is_installed}
+use Rattle.laws_links.proofs.PassLemmas.{ChangeComes, change_was, is_decided, is_installed}
 use Rattle.laws_links.proofs.ReadEventLemmas.{change_past}
 use Rattle.laws_links.proofs.ReadLemmas.{ReadsAs, side_undecided}
+use Rattle.ist_core.proofs.AllWordLemmas.{no_value, same_rebuild, same_change}
+use Rattle.ist_core.proofs.AllLogLemmas.{same_change_word, said_something, known_step}
 use Rattle.ist_core.specs.Installing as kinds
-use Rattle.ist_core.proofs.OptionLemmas.{no_value, same_rebuild, same_change}
-use Rattle.ist_core.proofs.FreezingLemmas.{same_change_word}
-use Rattle.ist_core.proofs.YesLemmas.{said_something}
 
 -- ---- changes that name a rebuild
 
@@ -58,10 +46,8 @@ finish_of t x rebuild (of_finish f) e = record { form = f; same = one (sym f.fro
 
 -- a rebuild that a change of a slot names is one for this slot
 pub side_rebuild : (t : Snapshot) → WordsName t → (base : ℕ) (x : ChangeRow)
-    → t.pieces base ≡ Some (Change x)
-    → (rebuild : ℕ) → (ref_of x.from ≡ Some (RebuildAt rebuild))
-    ⊎ (ref_of x.to ≡ Some (RebuildAt rebuild))
-    → IsRebuildFor t.pieces x.node x.index rebuild
+    → t.pieces base ≡ Some (Change x) → (rebuild : ℕ) → (ref_of x.from ≡ Some (RebuildAt rebuild))
+    ⊎ (ref_of x.to ≡ Some (RebuildAt rebuild)) → IsRebuildFor t.pieces x.node x.index rebuild
 side_rebuild t o base x e rebuild (inl from) =
     subst (λ r. SideNames t.pieces x.node x.index r) from (o.rows base (Change x) e).0
 side_rebuild t o base x e rebuild (inr to) =
@@ -74,13 +60,11 @@ module _ (pairs : List Pair) (words : ℕ) (opens : CanOpen pairs words) where
       → (state_of pairs words log).pieces base ≡ Some (Change x) → x.decision ≡ undecided
       → (ref : Ref)
       → ref_of x.from ≡ Some ref → ReadsAs (state_of pairs words log) x.node x.index ref
-  undecided_reads log h base x e none ref is =
-      record {
-        word = word_of (ChangeAt base);
-        holds = undecided_stands pairs words opens log h base x e none;
-        reads =
-            change_past pairs words opens log h base x e ∙ ap ref_of (side_undecided x none) ∙ is;
-      }
+  undecided_reads log h base x e none ref is = record {
+    word = word_of (ChangeAt base);
+    holds = undecided_stands pairs words opens log h base x e none;
+    reads = change_past pairs words opens log h base x e ∙ ap ref_of (side_undecided x none) ∙ is;
+  }
 
   -- ---- one start
 
@@ -115,8 +99,7 @@ module _ (pairs : List Pair) (words : ℕ) (opens : CanOpen pairs words) where
       → (state_of pairs words log).pieces base ≡ Some (Change x) → x.decision ≡ undecided
       → (rebuild : ℕ)
       → ref_of x.to ≡ Some (RebuildAt rebuild) → ¬ (IsStarted (state_of pairs words log) rebuild)
-  undecided_unstarted =
-      changes_by pairs words
+  undecided_unstarted = changes_by pairs words
       (λ log base x. x.decision ≡ undecided → (rebuild : ℕ) → ref_of x.to ≡ Some (RebuildAt rebuild) → ¬ (IsStarted (state_of pairs words log) rebuild))
       (λ log event h base x old there before none rebuild to s.
       kept log s.base s.change event h base x old there none rebuild to (before none rebuild to) s.kind s.decision s.to s.published (change_comes pairs words log event h s.base s.change s.published))
@@ -130,8 +113,7 @@ module _ (pairs : List Pair) (words : ℕ) (opens : CanOpen pairs words) where
           → (can : CanInstall (start pairs words) log caller base rows) → (rebuild : ℕ)
           → ref_of can.change.to ≡ Some (RebuildAt rebuild)
           → (s : IsStarted (state_of pairs words (Install caller base rows ∷ log)) rebuild)
-          → (event : Event)
-          → ChangeComes (start pairs words) log s.base s.change event → ⊥
+          → (event : Event) → ChangeComes (start pairs words) log s.base s.change event → ⊥
       fresh log caller base rows h can rebuild to s event (change_was old) =
           let it = side_rebuild (state_of pairs words log) (names pairs words opens log h.0) s.base s.change old rebuild (inr s.to) in
           no_value ((state_of pairs words log).pieces rebuild) (Rebuild it.row)
@@ -149,8 +131,7 @@ module _ (pairs : List Pair) (words : ℕ) (opens : CanOpen pairs words) where
           → EachEnabled (start pairs words) (event ∷ log) → (base : ℕ) (x : ChangeRow)
           → (state_of pairs words log).pieces base ≡ Some (Change x)
           → (state_of pairs words (event ∷ log)).pieces base ≡ Some (Change x)
-          → x.decision ≡ undecided → (rebuild : ℕ)
-          → ref_of x.to ≡ Some (RebuildAt rebuild)
+          → x.decision ≡ undecided → (rebuild : ℕ) → ref_of x.to ≡ Some (RebuildAt rebuild)
           → ¬ (IsStarted (state_of pairs words log) rebuild)
           → c.kind ≡ start_kind → c.decision ≡ decided_yes → ref_of c.to ≡ Some (RebuildAt rebuild)
           → (state_of pairs words (event ∷ log)).pieces at ≡ Some (Change c)
@@ -164,8 +145,7 @@ module _ (pairs : List Pair) (words : ℕ) (opens : CanOpen pairs words) where
           let unset = other.unset in let also = ap (λ y. y.decision) same in omega arith
       kept log at c _ h base x old there none rebuild to before kind is also_to now
           (is_decided {caller = caller} {said = said} other same) =
-          let t = state_of pairs words log in
-          let o = names pairs words opens log h.0 in
+          let t = state_of pairs words log in let o = names pairs words opens log h.0 in
           let mine = side_rebuild t o base x old rebuild (inr to) in
           let its = side_rebuild t o at other.change other.pending.published rebuild (inr (ap (λ y. ref_of y.to) (sym same) ∙ also_to)) in
           let row = same_rebuild (t.pieces rebuild) mine.row its.row mine.published its.published in
@@ -180,3 +160,19 @@ module _ (pairs : List Pair) (words : ℕ) (opens : CanOpen pairs words) where
           let u = state_of pairs words (Decide caller at said ∷ log) in
           let both = ap (λ y. y.decision) (same_change (u.pieces at) x c (subst (λ b. u.pieces b ≡ Some (Change x)) one there) now) in
           omega arith
+
+-- ---- the owner of each change is a caller that entered. Serves each law about all callers.
+
+module _ (pairs : List Pair) (words : ℕ) where
+  -- the owner of each change is known
+  pub owner_known : (log : Log) → EachEnabled (start pairs words) log → (base : ℕ) (x : ChangeRow)
+      → (state_of pairs words log).pieces base ≡ Some (Change x)
+      → x.owner < (state_of pairs words log).callers
+  owner_known = changes_by pairs words (λ log base x. x.owner < (state_of pairs words log).callers)
+      (λ log event h base x old there before. known_step (start pairs words) log event x.owner
+      before)
+      (λ log caller base rows h can.
+      known_step (start pairs words) log (Install caller base rows) can.change.owner
+      (subst (λ c. c < (state_of pairs words log).callers) (sym can.owned) can.known))
+      (λ log caller base said h can before.
+      known_step (start pairs words) log (Decide caller base said) can.change.owner before)

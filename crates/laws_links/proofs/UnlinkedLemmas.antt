@@ -5,46 +5,24 @@ use Rattle.ist_core.specs.declared.events.Event.{Event}
 use Rattle.ist_core.specs.declared.events.Event.TheVariants.{Draw, Root}
 use Rattle.ist_core.specs.declared.pairs.Pair.{Pair}
 use Rattle.ist_core.specs.declared.states.RebuildRow.{RebuildRow}
-use Rattle.ist_core.specs.Building.{IsRoot, root_top, root_whole}
-use Rattle.ist_core.specs.Elements.{Among, Each}
-use Rattle.ist_core.specs.Ideals.{IsIdeal, of_more, of_none, of_one}
-use Rattle.ist_core.specs.Lawful.{CanOpen, EachEnabled, state_of}
-use Rattle.ist_core.specs.Leaves.{PlacedLeaf}
-use Rattle.ist_core.specs.Links.{Linked, WasLinked, at_anchor, below}
-use Rattle.ist_core.specs.Logs.{Log}
-use Rattle.ist_core.specs.Pieces.{Inner, Pieces, Rebuild, with_inners}
-use Rattle.ist_core.specs.Rebuilding.{IsReplaced, IsStarted}
-use Rattle.ist_core.specs.References.{InnerAt, Ref, ref_of, unset_word}
-use Rattle.ist_core.specs.RowLayout.{anchor}
-use Rattle.ist_core.specs.Slots.{SlotHolds, in_row, logical, past_rebuild, rebuild_reads}
-use Rattle.ist_core.specs.Snapshots.{bases_of}
-use Rattle.ist_core.specs.StartLayout.{start}
-use Rattle.ist_core.proofs.AddingLemmas.{held_free}
-use Rattle.ist_core.proofs.ElementLemmas.{each-among}
-use Rattle.ist_core.proofs.GrowingLemmas.{leaf_there}
-use Rattle.ist_core.proofs.HomeLemmas.{Mentions, mentioned_here, slot_mentions}
-use Rattle.ist_core.proofs.MentionLemmas.{child_mentioned}
-use Rattle.ist_core.proofs.NamingLemmas.{InnerHere, RootNames}
-use Rattle.ist_core.proofs.OrderLemmas.{names}
-use Rattle.ist_core.proofs.ParentLemmas.{one_home}
-use Rattle.ist_core.proofs.PlaceLemmas.{anchor_free}
-use Rattle.ist_core.proofs.ReferenceLemmas.{ref_of-unset}
-use Rattle.ist_core.proofs.SlotLemmas.{slot_once}
-use Rattle.ist_core.proofs.OptionLemmas.{no_value, same_inner}
-use Rattle.ist_core.proofs.FateLemmas.{grow_after}
-use Rattle.laws_links.proofs.ComesLemmas.{rebuild_comes}
+use Rattle.ist_core.specs.TreeTerms.{IsRoot, root_top, root_whole, PlacedLeaf, Linked, WasLinked, at_anchor, below, IsReplaced, IsStarted}
+use Rattle.ist_core.specs.LogTerms.{Among, Each, CanOpen, EachEnabled, state_of, Log, bases_of}
+use Rattle.ist_core.specs.WordTerms.{IsIdeal, of_more, of_none, of_one, Inner, Pieces, Rebuild, with_inners, InnerAt, Ref, ref_of, unset_word, anchor, SlotHolds, in_row, logical, past_rebuild, rebuild_reads, start}
+use Rattle.ist_core.proofs.AllEventLemmas.{held_free}
+use Rattle.ist_core.proofs.AllWordLemmas.{each-among, ref_of-unset, no_value, same_inner}
+use Rattle.ist_core.proofs.AllLogLemmas.{leaf_there, grow_after}
+use Rattle.ist_core.proofs.AllPlaceLemmas.{Mentions, mentioned_here, slot_mentions, child_mentioned, InnerHere, RootNames, names, one_home, anchor_free, slot_once}
+use Rattle.laws_links.proofs.ComesLemmas.{rebuild_comes, start_quiet}
 use Rattle.laws_links.proofs.FormLemmas.{started_grows}
 use Rattle.laws_links.proofs.InductionLemmas.{rebuilds_by, sound_after}
-use Rattle.laws_links.proofs.OriginLemmas.{RebuildComes, is_begun, is_drawn, is_rooted, rebuild_was}
-use Rattle.laws_links.proofs.QuietLemmas.{start_quiet}
+use Rattle.laws_links.proofs.PassLemmas.{RebuildComes, is_begun, is_drawn, is_rooted, rebuild_was}
 use Rattle.laws_links.proofs.UntouchedLemmas.{not_the_anchor, stays_whole, untouched, was_linked_here, was_linked_parent}
 use Rattle.laws_links.proofs.NewTreeLemmas.{GoesDown, StandInOther, StandsWhole}
 use Rattle.laws_links.proofs.RebuiltLemmas.{started_reads, unreplaced_before}
 
 -- the top of an ideal subtree is one of its rows
 pub ideal_among : (ps : Pieces) (ref : Ref) (leaves : List PlacedLeaf) (above : ℕ) (rows : List ℕ)
-    (base : ℕ)
-    → IsIdeal ps ref leaves above rows → ref ≡ InnerAt base → Among base rows
+    (base : ℕ) → IsIdeal ps ref leaves above rows → ref ≡ InnerAt base → Among base rows
 ideal_among ps _ _ _ _ base of_none e = absurd (cc)
 ideal_among ps _ _ _ _ base (of_one same k) e = absurd (cc)
 ideal_among ps _ _ _ _ base (of_more {base = b} r top under) e =
@@ -65,8 +43,7 @@ module _ (pairs : List Pair) (words : ℕ) (opens : CanOpen pairs words) where
       → (base : ℕ) (r : RebuildRow)
       → (state_of pairs words log).pieces base ≡ Some (Rebuild r) → r.root ≢ unset_word
       → IsStarted (state_of pairs words log) base
-  rooted_is_started =
-      rebuilds_by pairs words
+  rooted_is_started = rebuilds_by pairs words
       (λ log base r. r.root ≢ unset_word → IsStarted (state_of pairs words log) base)
       (λ log event h base r old there before set. started_grows (state_of pairs words log) (state_of pairs words (event ∷ log)) (grow_after pairs words log event h) base (before set))
       (λ log caller change rows h can s set. absurd (set refl))
@@ -97,13 +74,11 @@ module _ (pairs : List Pair) (words : ℕ) (opens : CanOpen pairs words) where
   root_unlinked : (log : Log) → EachEnabled (start pairs words) log
       → (rebuild base : ℕ) (r : RebuildRow)
       → (state_of pairs words log).pieces rebuild ≡ Some (Rebuild r)
-      → ref_of r.root ≡ Some (InnerAt base)
-      → ¬ (IsReplaced (state_of pairs words log) rebuild)
+      → ref_of r.root ≡ Some (InnerAt base) → ¬ (IsReplaced (state_of pairs words log) rebuild)
       → ¬ (Linked (state_of pairs words log) base)
   root_unlinked log h rebuild _ r e is unr at_anchor = root_apart log h rebuild anchor r e is refl
   root_unlinked log h rebuild _ r e is unr (below {node = node} {child = base} i l c) =
-      let t = state_of pairs words log in
-      let o = names pairs words opens log h in
+      let t = state_of pairs words log in let o = names pairs words opens log h in
       let home = (one_home pairs words opens log h).one node i r.parent r.index base (child_mentioned t node i base o c) (root_named log rebuild base r e is) in
       let reads =
       ⊎_elim (λ k. absurd (unr k)) (λ r. r)
@@ -114,15 +89,13 @@ module _ (pairs : List Pair) (words : ℕ) (opens : CanOpen pairs words) where
       let target : r.target ≡ base = cc (sym (ap rebuild_reads e) ∙ sym (ap (past_rebuild t.pieces) reads.reads) ∙ ap (logical t.pieces) (sym same) ∙ c.reads) in
       let high : (r.target < base) × InnerHere t.pieces base =
       subst (λ x. RootNames t.pieces r.target x) is (o.rows rebuild (Rebuild r) e).2 in
-      let higher = high.0 in
-      omega arith
+      let higher = high.0 in omega arith
 
   -- the root of a rebuild that wasn't replaced was never linked
   pub root_never_linked : (log : Log) → EachEnabled (start pairs words) log
       → (rebuild base : ℕ) (r : RebuildRow)
       → (state_of pairs words log).pieces rebuild ≡ Some (Rebuild r)
-      → ref_of r.root ≡ Some (InnerAt base)
-      → ¬ (IsReplaced (state_of pairs words log) rebuild)
+      → ref_of r.root ≡ Some (InnerAt base) → ¬ (IsReplaced (state_of pairs words log) rebuild)
       → ¬ (WasLinked (start pairs words) log base)
   root_never_linked [] h rebuild base r e is unr was = start_quiet pairs words rebuild (Rebuild r) e
   root_never_linked (event ∷ log) h rebuild base r e is unr (inl now) =
@@ -158,8 +131,7 @@ module _ (pairs : List Pair) (words : ℕ) (opens : CanOpen pairs words) where
   child_never : (log : Log) → EachEnabled (start pairs words) log → (node i word child : ℕ)
       → SlotHolds (state_of pairs words log) node i word → ref_of word ≡ Some (InnerAt child)
       → ¬ (WasLinked (start pairs words) log node) → ¬ (WasLinked (start pairs words) log child)
-  child_never log h node i word child slot is never was =
-      let t = state_of pairs words log in
+  child_never log h node i word child slot is never was = let t = state_of pairs words log in
       let named = slot_mentions t node i word (InnerAt child) slot is in
       let row = mentioned_here t node i child (names pairs words opens log h) named in
       let it = was_linked_parent pairs words opens log h child (not_the_anchor pairs words opens log h child row.0 row.1) was in
@@ -175,18 +147,14 @@ module _ (pairs : List Pair) (words : ℕ) (opens : CanOpen pairs words) where
 
   -- whole rows that were never linked stay at an event
   pub never_stand : (log : Log) (event : Event) → EachEnabled (start pairs words) (event ∷ log)
-      → (rows : List ℕ)
-      → Each (λ base. ¬ (WasLinked (start pairs words) log base)) rows
+      → (rows : List ℕ) → Each (λ base. ¬ (WasLinked (start pairs words) log base)) rows
       → Each (StandsWhole (state_of pairs words log).pieces) rows
       → StandInOther (state_of pairs words log).pieces (state_of pairs words (event ∷ log)).pieces rows
-  never_stand log event h rows never whole_rows =
-      let t = state_of pairs words log in
-      let u = state_of pairs words (event ∷ log) in
-      record {
+  never_stand log event h rows never whole_rows = let t = state_of pairs words log in
+      let u = state_of pairs words (event ∷ log) in record {
         leaf =
             λ base r e. leaf_there t.pieces u.pieces (grow_after pairs words log event h) base r e;
-        inner = λ base r i e.
-            let it = each-among (StandsWhole t.pieces) base rows whole_rows i in
+        inner = λ base r i e. let it = each-among (StandsWhole t.pieces) base rows whole_rows i in
             let same = same_inner (t.pieces base) it.row r it.published e in
             let on = untouched pairs words opens log event h base r e (each-among (λ b. ¬ (WasLinked (start pairs words) log b)) base rows never i) in
             on.1 ∙ ap (λ x. Some (Inner x)) (stays_whole (start pairs words) log event base r on.0 e (λ j. subst (λ x. slice_get x.slots j ≢ Some unset_word) same (it.set j)) on.2);

@@ -6,31 +6,16 @@ use Rattle.ist_core.specs.declared.events.Event.TheVariants.{Decide, Draw, Place
 use Rattle.ist_core.specs.declared.lists.Row.{Row}
 use Rattle.ist_core.specs.declared.pairs.Pair.{Pair}
 use Rattle.ist_core.specs.declared.states.InnerRow.{InnerRow}
-use Rattle.ist_core.specs.Building.{CanPlace}
-use Rattle.ist_core.specs.Elements.{Among}
-use Rattle.ist_core.specs.Lawful.{CanOpen, EachEnabled, state_of}
-use Rattle.ist_core.specs.Links.{Chain, IsChild, Linked, WasLinked, WasOnChain, at_anchor, below, one_row}
-use Rattle.ist_core.specs.Logs.{Log, state}
-use Rattle.ist_core.specs.Pieces.{Inner}
-use Rattle.ist_core.specs.References.{InnerAt, unset_word}
-use Rattle.ist_core.specs.RowLayout.{anchor}
-use Rattle.ist_core.specs.Snapshots.{Snapshot}
-use Rattle.ist_core.specs.StartLayout.{start}
-use Rattle.ist_core.proofs.ElementLemmas.{among-append}
-use Rattle.ist_core.proofs.GrowingLemmas.{inner_there}
-use Rattle.ist_core.proofs.HomeLemmas.{Mentions, mentioned_here}
-use Rattle.ist_core.proofs.MentionLemmas.{child_mentioned, mentions_step}
-use Rattle.ist_core.proofs.NamingLemmas.{InnerHere}
-use Rattle.ist_core.proofs.OrderLemmas.{names}
-use Rattle.ist_core.proofs.PlaceLemmas.{anchor_free}
-use Rattle.ist_core.proofs.SlotLemmas.{no_row}
+use Rattle.ist_core.specs.TreeTerms.{CanPlace, Chain, IsChild, Linked, WasLinked, WasOnChain, at_anchor, below, one_row}
+use Rattle.ist_core.specs.LogTerms.{Among, CanOpen, EachEnabled, state_of, Log, state, Snapshot}
+use Rattle.ist_core.specs.WordTerms.{Inner, InnerAt, unset_word, anchor, start}
+use Rattle.ist_core.proofs.AllWordLemmas.{among-append, same_value, no_value, same_inner}
+use Rattle.ist_core.proofs.AllLogLemmas.{inner_there, chain_linked, grow_after}
+use Rattle.ist_core.proofs.AllPlaceLemmas.{Mentions, mentioned_here, child_mentioned, mentions_step, InnerHere, names, anchor_free, no_row}
 use Rattle.laws_links.proofs.ChangeLemmas.{node_was_linked}
 use Rattle.laws_links.proofs.ClosedLemmas.{closed_was_linked, linked_now, mark_linked, passed_was_linked}
 use Rattle.laws_links.proofs.RowEventLemmas.{RowCame, BecameBy, as_it_was, by_count, by_decide, by_draw, by_finish, by_install, by_mark, by_place, by_resolve, by_root, came, from_new, from_old}
 use Rattle.ist_core.specs.Links as chains
-use Rattle.ist_core.proofs.OptionLemmas.{same_value, no_value, same_inner}
-use Rattle.ist_core.proofs.ChainLemmas.{chain_linked}
-use Rattle.ist_core.proofs.FateLemmas.{grow_after}
 
 -- ---- chains
 
@@ -39,8 +24,7 @@ on_chain_linked : (t : Snapshot) (node : ℕ) (rows : List ℕ) → Chain t node
     → Among row rows → Linked t row
 on_chain_linked t _ _ chains.no_row row k = absurd k
 on_chain_linked t _ _ (one_row {node = node} {child = child} {rows = rows} i chain is) row k =
-    ⊎_elim
-    (λ before. on_chain_linked t node rows chain row before)
+    ⊎_elim (λ before. on_chain_linked t node rows chain row before)
     (λ last. ⊎_elim (λ e. subst (λ b. Linked t b) (sym e) (below i (chain_linked t node rows chain) is)) (λ none. absurd none) last)
     (among-append row rows (child ∷ []) k)
 
@@ -69,16 +53,14 @@ inner_row r s e = cc
 module _ (pairs : List Pair) (words : ℕ) (opens : CanOpen pairs words) where
   -- the row after an event
   untouched_turned : (log : Log) (event : Event) → EachEnabled (start pairs words) (event ∷ log)
-      → (node : ℕ) (r s : InnerRow)
-      → ¬ (WasLinked (start pairs words) log node)
+      → (node : ℕ) (r s : InnerRow) → ¬ (WasLinked (start pairs words) log node)
       → BecameBy (start pairs words) log node (Inner r) (Inner s) event
       → Stays (start pairs words) log node r s event
   untouched_turned log event h node r s never (as_it_was is) =
       subst (λ x. Stays (start pairs words) log node r x event) (inner_row r s (sym is)) stays_so
   untouched_turned log _ h node r s never (by_install can here is) =
       absurd (never (subst (λ n. WasLinked (start pairs words) log n) (sym here) can.linked))
-  untouched_turned log _ h node r s never (by_resolve {change = change} can here is) =
-      absurd
+  untouched_turned log _ h node r s never (by_resolve {change = change} can here is) = absurd
       (never (subst (λ n. WasLinked (start pairs words) log n) (sym here) (node_was_linked pairs words opens log h.0 change can.change can.published)))
   untouched_turned log _ h node r s never
       (by_place {caller = caller} {rebuild = rebuild} {i = i} {word = word} {rows = rows} can here is) =
@@ -87,14 +69,11 @@ module _ (pairs : List Pair) (words : ℕ) (opens : CanOpen pairs words) where
   untouched_turned log _ h node r s never (by_decide {caller = caller} {said = said} can is) =
       subst (λ x. Stays (start pairs words) log node r x (Decide caller node said))
       (inner_row r s (sym is)) stays_so
-  untouched_turned log _ h node r s never (by_count can is) =
-      absurd
+  untouched_turned log _ h node r s never (by_count can is) = absurd
       (never (on_chain_was_linked (start pairs words) log can.update.change.node node can.on_chain))
-  untouched_turned log _ h node r s never (by_mark {caller = caller} can is) =
-      absurd
+  untouched_turned log _ h node r s never (by_mark {caller = caller} can is) = absurd
       (never (mark_linked pairs words opens log h.0 caller node (λ at i word p. passed_was_linked pairs words opens log h.0 at i word p) can))
-  untouched_turned log _ h node r s never (by_finish can is) =
-      absurd
+  untouched_turned log _ h node r s never (by_finish can is) = absurd
       (never (closed_was_linked pairs words opens log h.0 node can.row can.published (λ o. let one = can.marked in omega arith)))
   untouched_turned log _ h node r s never (by_root {caller = caller} {word = word} {rows = rows} can is) = subst (λ x. Stays (start pairs words) log node r x (Root caller node word rows)) (inner_row r s (sym is)) stays_so
   untouched_turned log _ h node r s never (by_draw {caller = caller} {part = part} can is) =
@@ -103,10 +82,8 @@ module _ (pairs : List Pair) (words : ℕ) (opens : CanOpen pairs words) where
 
   -- a row that was never linked stays as it is, except for what a Place puts in
   pub untouched : (log : Log) (event : Event) → EachEnabled (start pairs words) (event ∷ log)
-      → (node : ℕ) (r : InnerRow)
-      → (state_of pairs words log).pieces node ≡ Some (Inner r)
-      → ¬ (WasLinked (start pairs words) log node)
-      → (s : InnerRow)
+      → (node : ℕ) (r : InnerRow) → (state_of pairs words log).pieces node ≡ Some (Inner r)
+      → ¬ (WasLinked (start pairs words) log node) → (s : InnerRow)
       × ((state_of pairs words (event ∷ log)).pieces node ≡ Some (Inner s)) × Stays
       (start pairs words) log node r s event
   untouched log event h node r e never =
@@ -125,8 +102,7 @@ module _ (pairs : List Pair) (words : ℕ) (opens : CanOpen pairs words) where
 -- a row without an Unset slot stays as it is
 pub stays_whole : (first : Snapshot) (log : Log) (event : Event) (node : ℕ) (r s : InnerRow)
     → (state first log).pieces node ≡ Some (Inner r)
-    → ((i : ℕ) → slice_get r.slots i ≢ Some unset_word)
-    → Stays first log node r s event → s ≡ r
+    → ((i : ℕ) → slice_get r.slots i ≢ Some unset_word) → Stays first log node r s event → s ≡ r
 stays_whole first log event node r _ e set stays_so = refl
 stays_whole first log _ node r _ e set (is_filled {i = i} can here) =
     let same = same_inner ((state first log).pieces node) can.root_row r (subst (λ b. (state first log).pieces b ≡ Some (Inner can.root_row)) (sym here) can.root_published) e in
@@ -145,24 +121,21 @@ module _ (pairs : List Pair) (words : ℕ) (opens : CanOpen pairs words) where
   linked_parent : (log : Log) → EachEnabled (start pairs words) log → (child : ℕ) → child ≢ anchor
       → Linked (state_of pairs words log) child → HasLinkedParent log child
   linked_parent log h _ ne at_anchor = absurd (ne refl)
-  linked_parent log h _ ne (below {node = node} {child = child} i l c) =
-      record {
-        parent = node;
-        i = i;
-        linked = linked_now (start pairs words) log node l;
-        named =
-            child_mentioned (state_of pairs words log) node i child (names pairs words opens log h) c;
-      }
+  linked_parent log h _ ne (below {node = node} {child = child} i l c) = record {
+    parent = node;
+    i = i;
+    linked = linked_now (start pairs words) log node l;
+    named =
+        child_mentioned (state_of pairs words log) node i child (names pairs words opens log h) c;
+  }
 
   -- a row that was linked has a parent that was linked
   pub was_linked_parent : (log : Log) → EachEnabled (start pairs words) log → (child : ℕ)
-      → child ≢ anchor
-      → WasLinked (start pairs words) log child → HasLinkedParent log child
+      → child ≢ anchor → WasLinked (start pairs words) log child → HasLinkedParent log child
   was_linked_parent [] h child ne was = linked_parent [] h child ne was
   was_linked_parent (event ∷ log) h child ne (inl now) = linked_parent (event ∷ log) h child ne now
   was_linked_parent (event ∷ log) h child ne (inr before) =
-      let it = was_linked_parent log h.0 child ne before in
-      record {
+      let it = was_linked_parent log h.0 child ne before in record {
         parent = it.parent;
         i = it.i;
         linked = inr it.linked;
@@ -174,8 +147,7 @@ module _ (pairs : List Pair) (words : ℕ) (opens : CanOpen pairs words) where
   pub was_linked_here : (log : Log) → EachEnabled (start pairs words) log → (child : ℕ)
       → child ≢ anchor
       → WasLinked (start pairs words) log child → InnerHere (state_of pairs words log).pieces child
-  was_linked_here log h child ne was =
-      let it = was_linked_parent log h child ne was in
+  was_linked_here log h child ne was = let it = was_linked_parent log h child ne was in
       mentioned_here (state_of pairs words log) it.parent it.i child
       (names pairs words opens log h) it.named
 
@@ -188,8 +160,7 @@ module _ (pairs : List Pair) (words : ℕ) (opens : CanOpen pairs words) where
   -- so no child is the anchor
   pub child_no_anchor : (log : Log) → EachEnabled (start pairs words) log → (node i child : ℕ)
       → IsChild (state_of pairs words log) node i child → child ≢ anchor
-  child_no_anchor log h node i child c =
-      let t = state_of pairs words log in
+  child_no_anchor log h node i child c = let t = state_of pairs words log in
       let o = names pairs words opens log h in
       let row = mentioned_here t node i child o (child_mentioned t node i child o c) in
       not_the_anchor log h child row.0 row.1

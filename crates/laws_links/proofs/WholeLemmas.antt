@@ -9,37 +9,21 @@ use Rattle.ist_core.specs.declared.states.ChangeRow.{ChangeRow}
 use Rattle.ist_core.specs.declared.states.InnerRow.{InnerRow}
 use Rattle.ist_core.specs.declared.states.LeafRow.{LeafRow}
 use Rattle.ist_core.specs.declared.states.RebuildRow.{RebuildRow}
-use Rattle.ist_core.specs.Building.{CanRoot, IsRoot, root_top, root_whole}
-use Rattle.ist_core.specs.Ideals.{IsIdeal, of_more}
-use Rattle.ist_core.specs.Installing.{CanInstall, FitsKind, HasRoomFor, nothing, same_key}
-use Rattle.ist_core.specs.Lawful.{CanOpen, EachEnabled, state_of}
-use Rattle.ist_core.specs.Leaves.{HasLeaves, PlacedLeaf}
-use Rattle.ist_core.specs.Logs.{Log}
-use Rattle.ist_core.specs.Parts.{parts}
-use Rattle.ist_core.specs.Pieces.{Change, Inner, Leaf, Pieces, Rebuild, changed_at, with_inners, with_root}
-use Rattle.ist_core.specs.Rebuilding.{IsReplaced}
-use Rattle.ist_core.specs.References.{InnerAt, RebuildAt, Ref, ref_of, unset_word}
-use Rattle.ist_core.specs.Slots.{SlotHolds, in_row, past_change}
-use Rattle.ist_core.specs.Snapshots.{Snapshot, bases_of}
-use Rattle.ist_core.specs.StartLayout.{start}
-use Rattle.ist_core.specs.Statuses.{undecided}
-use Rattle.ist_core.proofs.GrowingLemmas.{rebuild_there}
-use Rattle.ist_core.proofs.KeepingLemmas.{leaves_kept}
-use Rattle.ist_core.proofs.LayoutLemmas.{length-parts}
-use Rattle.ist_core.proofs.LeafLemmas.{reached}
-use Rattle.ist_core.proofs.NamingStepLemmas.{changed_at-fixed}
-use Rattle.laws_links.proofs.ComesLemmas.{rebuild_comes}
+use Rattle.ist_core.specs.TreeTerms.{CanRoot, IsRoot, root_top, root_whole, CanInstall, FitsKind, HasRoomFor, nothing, same_key, HasLeaves, PlacedLeaf, IsReplaced}
+use Rattle.ist_core.specs.WordTerms.{IsIdeal, of_more, parts, Change, Inner, Leaf, Pieces, Rebuild, changed_at, with_inners, with_root, InnerAt, RebuildAt, Ref, ref_of, unset_word, SlotHolds, in_row, past_change, start, undecided}
+use Rattle.ist_core.specs.LogTerms.{CanOpen, EachEnabled, state_of, Log, Snapshot, bases_of}
+use Rattle.ist_core.proofs.AllLogLemmas.{rebuild_there, leaves_kept, grow_after, said_something}
+use Rattle.ist_core.proofs.AllWordLemmas.{length-parts}
+use Rattle.ist_core.proofs.AllPlaceLemmas.{reached, changed_at-fixed}
+use Rattle.laws_links.proofs.ComesLemmas.{rebuild_comes, start_quiet}
 use Rattle.laws_links.proofs.FormedLemmas.{rooted_is_finished}
 use Rattle.laws_links.proofs.InductionLemmas.{changes_by}
-use Rattle.laws_links.proofs.OriginLemmas.{RebuildComes, is_begun, is_drawn, is_rooted, rebuild_was}
-use Rattle.laws_links.proofs.QuietLemmas.{start_quiet}
+use Rattle.laws_links.proofs.PassLemmas.{RebuildComes, is_begun, is_drawn, is_rooted, rebuild_was}
 use Rattle.laws_links.proofs.ReadLemmas.{ReadsAs}
 use Rattle.laws_links.proofs.BuiltLemmas.{IsBuiltOver, partly_step, whole_step}
 use Rattle.laws_links.proofs.NewTreeLemmas.{ArePartly, IsPartly, ideal_kept, in_parts, partly_all, partly_kept, partly_none, top_kept, whole}
 use Rattle.laws_links.proofs.RebuiltLemmas.{finish_unreplaced, read_unreplaced, unreplaced_before}
 use Rattle.ist_core.specs.Installing as kinds
-use Rattle.ist_core.proofs.FateLemmas.{grow_after}
-use Rattle.ist_core.proofs.YesLemmas.{said_something}
 
 -- a new root, in the table of its condition
 root_partly : (ps : Pieces) (word k : ℕ) (leaves : List PlacedLeaf) (target : ℕ) (rows : List ℕ)
@@ -61,8 +45,7 @@ partly_moved : (ps qs : Pieces) (ref : Ref) (leaves : List PlacedLeaf) (above : 
     → ((base : ℕ) (r : LeafRow) → ps base ≡ Some (Leaf r) → qs base ≡ Some (Leaf r))
     → ((base : ℕ) (r : InnerRow) → ps base ≡ Some (Inner r) → qs base ≡ Some (Inner r))
     → IsPartly qs ref leaves above rows
-partly_moved ps qs _ leaves above rows (whole {ref = ref} ideal) leaf inner =
-    whole
+partly_moved ps qs _ leaves above rows (whole {ref = ref} ideal) leaf inner = whole
     (ideal_kept ps qs ref leaves above rows ideal record { leaf = leaf; inner = λ b r i e. inner b r e })
 partly_moved ps qs _ leaves above rows (in_parts {base = base} r top under) leaf inner =
     in_parts r (top_kept ps qs base r leaves above top (inner base r top.published))
@@ -73,8 +56,7 @@ module _ (pairs : List Pair) (words : ℕ) (opens : CanOpen pairs words) where
   pub target_leaves_kept : (log : Log) (event : Event)
       → EachEnabled (start pairs words) (event ∷ log)
       → (at : ℕ) (r : RebuildRow) → (state_of pairs words log).pieces at ≡ Some (Rebuild r)
-      → r.root ≢ unset_word
-      → (leaves : List PlacedLeaf)
+      → r.root ≢ unset_word → (leaves : List PlacedLeaf)
       → HasLeaves (state_of pairs words log).pieces (Some (InnerAt r.target)) leaves
       → HasLeaves (state_of pairs words (event ∷ log)).pieces (Some (InnerAt r.target)) leaves
   target_leaves_kept log event h at r e set leaves reached =
@@ -103,8 +85,7 @@ module _ (pairs : List Pair) (words : ℕ) (opens : CanOpen pairs words) where
       → EachEnabled (start pairs words) (Root caller at word rows ∷ log)
       → (can : CanRoot (state_of pairs words log) caller at word rows)
       → IsBuiltOver (state_of pairs words (Root caller at word rows ∷ log)) (record (can.row) { root = word })
-  built_root log caller at word rows h can =
-      let t = state_of pairs words log in
+  built_root log caller at word rows h can = let t = state_of pairs words log in
       let qs = with_inners t.pieces rows in
       let it = root_partly qs word can.k can.leaves can.row.target (bases_of rows) can.root in
       record {
@@ -114,8 +95,7 @@ module _ (pairs : List Pair) (words : ℕ) (opens : CanOpen pairs words) where
         ref = it.0;
         root_is = it.1;
         rows = it.2;
-        built =
-            partly_moved qs
+        built = partly_moved qs
             (changed_at qs at (with_root word)) it.0 can.leaves can.row.target it.2 it.3
             (λ b r e. changed_at-fixed qs at b (with_root word) (Leaf r) e refl) (λ b r e. changed_at-fixed qs at b (with_root word) (Inner r) e refl);
       }
@@ -169,12 +149,10 @@ module _ (pairs : List Pair) (words : ℕ) (opens : CanOpen pairs words) where
       → (x : ChangeRow) (rebuild : ℕ)
       → ¬ (IsReplaced (state_of pairs words log) rebuild) → IsWholeRoot log x rebuild
       → IsWholeRoot (event ∷ log) x rebuild
-  whole_on log event h x rebuild unr w =
-      let t = state_of pairs words log in
+  whole_on log event h x rebuild unr w = let t = state_of pairs words log in
       let u = state_of pairs words (event ∷ log) in
       let it = rebuild_there t.pieces u.pieces (grow_after pairs words log event h) rebuild w.row w.published in
-      let root = it.2.rooted w.set in
-      record {
+      let root = it.2.rooted w.set in record {
         row = it.0;
         published = it.1;
         to = w.to ∙ sym root;
@@ -191,8 +169,7 @@ module _ (pairs : List Pair) (words : ℕ) (opens : CanOpen pairs words) where
 
   -- a root without an Unset slot is whole
   partly_is_whole : (t : Snapshot) (ref : Ref) (leaves : List PlacedLeaf) (above : ℕ)
-      (rows : List ℕ)
-      → IsPartly t.pieces ref leaves above rows
+      (rows : List ℕ) → IsPartly t.pieces ref leaves above rows
       → ((base i word : ℕ) → ref ≡ InnerAt base → SlotHolds t base i word → word ≢ unset_word)
       → (all : List ℕ) × IsIdeal t.pieces ref leaves above all
   partly_is_whole t _ leaves above rows (whole ideal) set = (rows, ideal)
@@ -217,8 +194,7 @@ module _ (pairs : List Pair) (words : ℕ) (opens : CanOpen pairs words) where
       at (kinds.a_pair f) = absurd (cc (sym f.from ∙ from))
       at (kinds.a_remove f) = absurd (cc (sym f.from ∙ from))
       at (kinds.a_start f) = absurd (cc (sym f.from ∙ from))
-      at (kinds.a_finish f) =
-          let t = state_of pairs words log in
+      at (kinds.a_finish f) = let t = state_of pairs words log in
           let slot = subst (λ j. SlotHolds t f.row.parent j can.change.from) (sym f.index) (subst (λ n. SlotHolds t n can.change.index can.change.from) (sym f.parent) can.in_slot) in
           let reads : ReadsAs t f.row.parent f.row.index (RebuildAt f.rebuild) = record { word = can.change.from; holds = slot; reads = ap (past_change t.pieces) f.from } in
           let unr = read_unreplaced pairs words opens log h.0 f.rebuild f.row f.published reads in
@@ -244,10 +220,8 @@ module _ (pairs : List Pair) (words : ℕ) (opens : CanOpen pairs words) where
   pub finish_is_whole : (log : Log) → EachEnabled (start pairs words) log
       → (base : ℕ) (x : ChangeRow)
       → (state_of pairs words log).pieces base ≡ Some (Change x) → x.decision ≡ undecided
-      → (rebuild : ℕ)
-      → ref_of x.from ≡ Some (RebuildAt rebuild) → IsWholeRoot log x rebuild
-  finish_is_whole =
-      changes_by pairs words
+      → (rebuild : ℕ) → ref_of x.from ≡ Some (RebuildAt rebuild) → IsWholeRoot log x rebuild
+  finish_is_whole = changes_by pairs words
       (λ log base x. x.decision ≡ undecided → (rebuild : ℕ) → ref_of x.from ≡ Some (RebuildAt rebuild) → IsWholeRoot log x rebuild)
       (λ log event h base x old there before none rebuild from. whole_on log event h x rebuild (finish_unreplaced pairs words opens log h.0 base x old none rebuild from) (before none rebuild from))
       (λ log caller base rows h can none rebuild from. whole_install log caller base rows h can rebuild from)

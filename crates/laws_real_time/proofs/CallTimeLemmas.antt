@@ -3,17 +3,14 @@
 -- a test isn't both
 use Rattle.std.proofs.Common.{◌≡◌, ℕ, ◌+◌, ◌<◌, ◌≤◌, Bool, true, false, List, length, slice_get, Some, refl, sym, ap, ◌∙◌, subst, ⊎_elim, arith}
 use Rattle.std.proofs.lemmas.Option.{same_Some, none-some}
-use Rattle.ist_core.specs.Map.{Map}
-use Rattle.ist_core.specs.Elements.{Among}
-use Rattle.ist_core.specs.Changes.{Entry}
-use Rattle.ist_core.specs.Standing.{is_change}
+use Rattle.ist_core.specs.TreeTerms.{Map, Entry, is_change}
+use Rattle.ist_core.specs.LogTerms.{Among}
 use Rattle.laws_real_time.specs.Moments.{Moments, in_call, Ended, ended}
 use Rattle.laws_real_time.specs.RealTime.{TimedCall, timed, Precedes, IsSameCall}
 use Rattle.laws_real_time.specs.Timing.{IsInTime, IsOfBegun, AreInTime}
-use Rattle.laws_real_time.proofs.ChangeCountLemmas.{changes_at, changes_rise}
+use Rattle.laws_real_time.proofs.ChangeCountLemmas.{changes_at, changes_rise, readings, IsByEnded, IsByBegun, OwnsChange, placed_of, IsReadingCall, reading_of}
 use Rattle.laws_real_time.proofs.MomentLemmas.{begun_in, ended_in, ended_before, AreApartInTime, same_call, comes_first, comes_later, ended_apart}
 use Rattle.laws_real_time.proofs.WeaveLemmas.{IsSpot, owns, reads}
-use Rattle.laws_real_time.proofs.OwnerLemmas.{readings, IsByEnded, IsByBegun, OwnsChange, placed_of, IsReadingCall, reading_of}
 
 -- the second did not return before the first began, and is another call
 abbrev pub IsBefore : TimedCall → TimedCall → Type 0
@@ -35,18 +32,13 @@ module _ (m : Map) (entries : List Entry) (moments : Moments)
     to : (time : ℕ) → t.returned ≡ Some time → position ≤ changes_at moments time
 
   -- a returned call with the position
-  ended_timed : (position : ℕ) (x : Ended) → Among x (ended moments)
-      → x.call.position ≡ position
-      → position ≤ x.changes
-      → HasTime position (timed x)
-  ended_timed position x i e low =
-      let it = ended_in moments x i in
+  ended_timed : (position : ℕ) (x : Ended) → Among x (ended moments) → x.call.position ≡ position
+      → position ≤ x.changes → HasTime position (timed x)
+  ended_timed position x i e low = let it = ended_in moments x i in
       let placed = placed_of m entries moments all x i in
       let from : changes_at moments x.begun.time ≤ position
       = omega (arith, it.from, placed.from, e) in
-      let within = it.within in
-      let before = it.before in
-      record {
+      let within = it.within in let before = it.before in record {
         began = omega arith;
         from = from;
         within = λ time r.
@@ -71,23 +63,19 @@ module _ (m : Map) (entries : List Entry) (moments : Moments)
 
   reading_timed : (position : ℕ) (x : Ended) → IsReadingCall m entries moments all x → x.call.position ≡ position
       → HasTime position (timed x)
-  reading_timed position x r e =
-      let to = to_here x (placed_of m entries moments all x r.among) in
+  reading_timed position x r e = let to = to_here x (placed_of m entries moments all x r.among) in
       ended_timed position x r.among e (omega arith)
 
   owner_timed : (position : ℕ) (t : TimedCall) → OwnsAt position t → HasTime position t
   owner_timed position t o = ⊎_elim returned progress o.by
     where
       returned : IsByEnded m entries moments all position t → HasTime position t
-      returned b =
-          let to = to_here b.call (placed_of m entries moments all b.call b.among) in
-          let same = b.position_is in
-          subst (HasTime position) (sym b.is)
+      returned b = let to = to_here b.call (placed_of m entries moments all b.call b.among) in
+          let same = b.position_is in subst (HasTime position) (sym b.is)
           (ended_timed position b.call b.among b.position_is (omega arith))
 
       progress : IsByBegun m entries moments all position o.entry t → HasTime position t
-      progress b =
-          let it = begun_in o.entry.owner moments b.of.begun b.of.in_it in
+      progress b = let it = begun_in o.entry.owner moments b.of.begun b.of.in_it in
           subst (HasTime position) (sym b.is)
           record {
             began = it.within;
@@ -102,8 +90,7 @@ module _ (m : Map) (entries : List Entry) (moments : Moments)
   owner_past position t o time r = ⊎_elim returned progress o.by
     where
       returned : IsByEnded m entries moments all position t → position + 1 ≤ changes_at moments time
-      returned b =
-          let it = ended_in moments b.call b.among in
+      returned b = let it = ended_in moments b.call b.among in
           let to = to_past b.call (placed_of m entries moments all b.call b.among) b.change in
           let place = b.position_is in
           let same : b.call.time ≡ time =
@@ -127,9 +114,7 @@ module _ (m : Map) (entries : List Entry) (moments : Moments)
   in_time p q t u a b l h =
       let rise =
       changes_rise moments all.never_fall h.time t.began (omega (arith, h.before)) a.began in
-      let to = b.to h.time h.returned in
-      let from = a.from in
-      absurd (omega (arith, rise, to, from))
+      let to = b.to h.time h.returned in let from = a.from in absurd (omega (arith, rise, to, from))
 
   -- a call as one that returned, or one in progress
   data IsKnownCall (position : ℕ) (t : TimedCall) : Type 0 where
@@ -142,8 +127,7 @@ module _ (m : Map) (entries : List Entry) (moments : Moments)
   spot_known : (position : ℕ) (t : TimedCall) → IsSpot OwnsAt (readings moments) position t
       → IsKnownCall position t
   spot_known position t (reads x i e is) = known_ended x (reading_of m entries moments all x i).among e is
-  spot_known position t (owns o) = ⊎_elim
-      (λ b. known_ended b.call b.among b.position_is b.is)
+  spot_known position t (owns o) = ⊎_elim (λ b. known_ended b.call b.among b.position_is b.is)
       (λ b. known_begun o.entry o.at b.of (ap (λ (z : TimedCall). z.caller) b.is)
       (ap (λ (z : TimedCall). z.began) b.is)) o.by
 
@@ -154,10 +138,8 @@ module _ (m : Map) (entries : List Entry) (moments : Moments)
     where
       at : AreApartInTime x y → x ≡ y
       at (same_call e) = e
-      at (comes_first l) =
-          let it = ended_in moments x i in absurd (omega (arith, l, it.before, b))
-      at (comes_later l) =
-          let it = ended_in moments y j in absurd (omega (arith, l, it.before, b))
+      at (comes_first l) = let it = ended_in moments x i in absurd (omega (arith, l, it.before, b))
+      at (comes_later l) = let it = ended_in moments y j in absurd (omega (arith, l, it.before, b))
 
   -- calls at different positions are different calls
   other_call : (p q : ℕ) (t u : TimedCall) → IsKnownCall p t → IsKnownCall q u → p < q
@@ -177,8 +159,7 @@ module _ (m : Map) (entries : List Entry) (moments : Moments)
       let late =
       ended_before moments x of.begun i
       (subst (λ n. in_call n moments ≡ Some of.begun) c of.in_it) in
-      let it = ended_in moments x i in
-      absurd (omega (arith, late, b, it.before))
+      let it = ended_in moments x i in absurd (omega (arith, late, b, it.before))
   other_call p q t u (known_begun entry at of caller began) (known_ended x i e is) l h =
       let c : entry.owner ≡ x.caller =
       sym caller ∙ h.caller ∙ ap (λ (z : TimedCall). z.caller) is in
@@ -187,10 +168,8 @@ module _ (m : Map) (entries : List Entry) (moments : Moments)
       let late =
       ended_before moments x of.begun i
       (subst (λ n. in_call n moments ≡ Some of.begun) c of.in_it) in
-      let it = ended_in moments x i in
-      absurd (omega (arith, late, b, it.before))
-  other_call p q t u (known_begun e at of caller began)
-      (known_begun f bt og caller2 began2) l h =
+      let it = ended_in moments x i in absurd (omega (arith, late, b, it.before))
+  other_call p q t u (known_begun e at of caller began) (known_begun f bt og caller2 began2) l h =
       let same =
       all.once p q e f at bt (sym caller ∙ h.caller ∙ caller2) of og in
       absurd (omega (arith, same, l))
@@ -227,8 +206,7 @@ module _ (m : Map) (entries : List Entry) (moments : Moments)
         (let a = reading_timed position x (reading_of m entries moments all x i) e in
         let rise =
         changes_rise moments all.never_fall h.time x.begun.time (omega (arith, h.before)) a.began in
-        let past = owner_past position t o h.time h.returned in
-        let from = a.from in
+        let past = owner_past position t o h.time h.returned in let from = a.from in
         absurd (omega (arith, rise, past, from))),
     λ h. ⊎_elim
         (λ b.

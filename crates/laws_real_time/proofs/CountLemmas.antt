@@ -4,10 +4,9 @@ use Rattle.std.proofs.Common.{◌≡◌, ◌≢◌, ◌⊎◌, ℕ, zero, suc, �
 use Rattle.std.proofs.lemmas.Bool.Decides.{eqb_tells}
 use Rattle.std.proofs.lemmas.Option.{same_Some}
 use Rattle.ist_core.specs.declared.calls.Call.{Call}
-use Rattle.ist_core.specs.Elements.{Among, Each}
-use Rattle.ist_core.specs.Changes.{Entry}
-use Rattle.ist_core.specs.Standing.{entry_by, entries_by}
-use Rattle.ist_core.proofs.ElementLemmas.{each-among, each_of}
+use Rattle.ist_core.specs.LogTerms.{Among, Each}
+use Rattle.ist_core.specs.TreeTerms.{Entry, entry_by, entries_by}
+use Rattle.ist_core.proofs.AllWordLemmas.{each-among, each_of}
 use Rattle.laws_real_time.proofs.PairLemmas.{Pairwise}
 
 module _ (number : ℕ) where
@@ -47,18 +46,15 @@ module _ (number : ℕ) where
     where
       at : (index : ℕ) → a.index ≡ index → IsAtIndex entries (offset + 1) call
       at zero e = let position = a.position_is in absurd (omega arith)
-      at (suc i) e =
-          let position = a.position_is in
-          record {
-            index = i;
-            position_is = omega arith;
-            entry = subst (λ n. slice_get (entry ∷ entries) n ≡ Some (entry_by number call)) e a.entry;
-          }
+      at (suc i) e = let position = a.position_is in record {
+        index = i;
+        position_is = omega arith;
+        entry = subst (λ n. slice_get (entry ∷ entries) n ≡ Some (entry_by number call)) e a.entry;
+      }
 
   -- calls after the first one are past the entries up to its own
   rest_past : (entry : Entry) (entries : List Entry) (offset : ℕ) (call : Call) (calls : List Call)
-      → offset ≤ call.position
-      → Each (λ later. call.position < later.position) calls
+      → offset ≤ call.position → Each (λ later. call.position < later.position) calls
       → Each (IsAtIndex (entry ∷ entries) offset) calls
       → Each (IsAtIndex entries (offset + 1)) calls
   rest_past entry entries offset call calls low rise all =
@@ -89,15 +85,13 @@ module _ (number : ℕ) where
           → (Each (IsAtIndex entries (offset + 1)) (call ∷ calls)
           → length (call ∷ calls) ≤ length (entries_by number entries))
           → length (call ∷ calls) ≤ length (entries_by number (entry ∷ entries))
-      at zero e one both =
-          let few = one rest in
+      at zero e one both = let few = one rest in
           let first : entry ≡ entry_by number call =
           same_Some entry (entry_by number call)
           (subst (λ n. slice_get (entry ∷ entries) n ≡ Some (entry_by number call)) e all.0.entry) in
           ⊎_elim (λ h. omega (arith, h.1, few))
           (λ h. absurd (h.0 (ap (λ (x : Entry). x.owner) first))) (owner_cases entry entries)
-      at (suc i) e one both =
-          let position = all.0.position_is in
+      at (suc i) e one both = let position = all.0.position_is in
           let few = both (past_first entry entries offset call all.0 (omega arith), rest) in
           let more = count_rises entry entries in omega arith
 
@@ -111,12 +105,10 @@ module _ (number : ℕ) where
   pub has_one : (entries : List Entry) (i : ℕ) (e : Entry) → slice_get entries i ≡ Some e
       → e.owner ≡ number → 1 ≤ length (entries_by number entries)
   has_one [] i e h o = absurd (cc)
-  has_one (entry ∷ entries) zero e h o =
-      ⊎_elim (λ t. omega (arith, t.1))
+  has_one (entry ∷ entries) zero e h o = ⊎_elim (λ t. omega (arith, t.1))
       (λ t. absurd (t.0 (ap (λ (x : Entry). x.owner) (same_Some entry e h) ∙ o)))
       (owner_cases entry entries)
-  has_one (entry ∷ entries) (suc i) e h o =
-      let some = has_one entries i e h o in
+  has_one (entry ∷ entries) (suc i) e h o = let some = has_one entries i e h o in
       let more = count_rises entry entries in omega arith
 
   -- two entries of the owner are one, if it has only one
@@ -146,8 +138,7 @@ module _ (number : ℕ) where
   entry_found entries offset [] rise all few i e h o =
       let some = has_one entries i e h o in absurd (omega arith)
   entry_found [] offset (call ∷ calls) rise all few i e h o = absurd (cc)
-  entry_found (entry ∷ entries) offset (call ∷ calls) rise all few i e h o =
-      at all.0.index i refl h
+  entry_found (entry ∷ entries) offset (call ∷ calls) rise all few i e h o = at all.0.index i refl h
       (entry_found entries (offset + 1) calls rise.1)
       (entry_found entries (offset + 1) (call ∷ calls) rise)
     where
@@ -158,14 +149,12 @@ module _ (number : ℕ) where
       rest = rest_past entry entries offset call calls low rise.0 all.1
 
       later : (i : ℕ) → IsFound calls ((offset + 1) + i) → IsFound (call ∷ calls) (offset + suc i)
-      later i f =
-          let position = f.position_is in
+      later i f = let position = f.position_is in
           record { call = f.call; among = inr f.among; position_is = omega arith }
 
       same : (i : ℕ) → IsFound (call ∷ calls) ((offset + 1) + i)
           → IsFound (call ∷ calls) (offset + suc i)
-      same i f =
-          let position = f.position_is in
+      same i f = let position = f.position_is in
           record { call = f.call; among = f.among; position_is = omega arith }
 
       at : (index i : ℕ) → all.0.index ≡ index → slice_get (entry ∷ entries) i ≡ Some e
@@ -178,29 +167,23 @@ module _ (number : ℕ) where
           → (i : ℕ) (e : Entry) → slice_get entries i ≡ Some e → e.owner ≡ number
           → IsFound (call ∷ calls) ((offset + 1) + i))
           → IsFound (call ∷ calls) (offset + i)
-      at zero zero is k one both =
-          let position = all.0.position_is in
+      at zero zero is k one both = let position = all.0.position_is in
           record { call = call; among = inl refl; position_is = omega arith }
       at zero (suc j) is k one both =
           let first : entry ≡ entry_by number call =
           same_Some entry (entry_by number call)
           (subst (λ n. slice_get (entry ∷ entries) n ≡ Some (entry_by number call)) is all.0.entry) in
-          ⊎_elim
-          (λ t. later j (one rest (omega (arith, t.1, few)) j e k o))
+          ⊎_elim (λ t. later j (one rest (omega (arith, t.1, few)) j e k o))
           (λ t. absurd (t.0 (ap (λ (x : Entry). x.owner) first))) (owner_cases entry entries)
-      at (suc n) zero is k one both =
-          let position = all.0.position_is in
+      at (suc n) zero is k one both = let position = all.0.position_is in
           let past = past_first entry entries offset call all.0 (omega arith) in
-          let fit = calls_fit entries (offset + 1) (call ∷ calls) rise (past, rest) in
-          ⊎_elim
+          let fit = calls_fit entries (offset + 1) (call ∷ calls) rise (past, rest) in ⊎_elim
           (λ t. absurd (omega (arith, t.1, few, fit)))
           (λ t. absurd (t.0 (ap (λ (x : Entry). x.owner) (same_Some entry e k) ∙ o)))
           (owner_cases entry entries)
-      at (suc n) (suc j) is k one both =
-          let position = all.0.position_is in
+      at (suc n) (suc j) is k one both = let position = all.0.position_is in
           let past = past_first entry entries offset call all.0 (omega arith) in
-          let fit = calls_fit entries (offset + 1) (call ∷ calls) rise (past, rest) in
-          ⊎_elim
+          let fit = calls_fit entries (offset + 1) (call ∷ calls) rise (past, rest) in ⊎_elim
           (λ t. absurd (omega (arith, t.1, few, fit)))
           (λ t. same j (both (past, rest) (omega (arith, t.1, few)) j e k o))
           (owner_cases entry entries)

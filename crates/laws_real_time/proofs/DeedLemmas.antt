@@ -68,8 +68,7 @@ calls_in-append number xs ys =
 -- calls of others
 pub calls_of_other : (number : ℕ) (moment : Moment) (moments : Moments) → moment.caller ≢ number
     → calls_returned number (moment ∷ moments) ≡ calls_returned number moments
-calls_of_other number moment moments other =
-    calls_in-append number (ended moments) last
+calls_of_other number moment moments other = calls_in-append number (ended moments) last
     ∙ ap (λ xs. calls_returned number moments ++ xs) (none (in_call moment.caller moments) moment.deed)
     ∙ append-nil (calls_returned number moments)
   where
@@ -108,14 +107,13 @@ calls_of_same number moment moments e = ap (calls_in number) (ended_same moment 
 
 -- the call that returns now
 abbrev pub ended_now : Moment → Moments → Begun → Call → Ended
-ended_now moment moments begun call =
-    record {
-      caller = moment.caller;
-      begun = begun;
-      call = call;
-      time = length moments;
-      changes = moment.changes;
-    }
+ended_now moment moments begun call = record {
+  caller = moment.caller;
+  begun = begun;
+  call = call;
+  time = length moments;
+  changes = moment.changes;
+}
 
 -- if the moment returns a call, it is the last one that returned
 pub ended_last : (moment : Moment) (moments : Moments) (begun : Begun) (call : Call)

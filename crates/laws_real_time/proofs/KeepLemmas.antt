@@ -6,15 +6,11 @@ use Rattle.std.proofs.lemmas.Option.{slice_get_within, none-some}
 use Rattle.ist_core.specs.declared.calls.Call.{Call}
 use Rattle.ist_core.specs.declared.commands.Command.{Command}
 use Rattle.ist_core.specs.declared.pairs.Pair.{Pair}
-use Rattle.ist_core.specs.Map.{map_of}
-use Rattle.ist_core.specs.Elements.{Each}
-use Rattle.ist_core.specs.StartLayout.{start}
-use Rattle.ist_core.specs.Logs.{Log, GoesOn, same_log}
-use Rattle.ist_core.specs.Lawful.{Lawful}
-use Rattle.ist_core.specs.Changes.{Entry, changes_of, map_after_entries}
-use Rattle.ist_core.specs.Standing.{is_change, entry_by, entries_by, position_after}
-use Rattle.ist_core.proofs.ElementLemmas.{each_append, each-among, each_of}
-use Rattle.ist_core.proofs.PrefixLemmas.{goes_on_more}
+use Rattle.ist_core.specs.TreeTerms.{map_of, Entry, changes_of, map_after_entries, is_change, entry_by, entries_by, position_after}
+use Rattle.ist_core.specs.LogTerms.{Each, Log, GoesOn, same_log, Lawful}
+use Rattle.ist_core.specs.WordTerms.{start}
+use Rattle.ist_core.proofs.AllWordLemmas.{each_append, each-among, each_of}
+use Rattle.ist_core.proofs.AllLogLemmas.{goes_on_more}
 use Rattle.laws_histories.proofs.ChangeLemmas.{changes_on, changes_rise, get_left, read_on}
 use Rattle.laws_histories.proofs.ContentLemmas.{told_at}
 use Rattle.laws_real_time.specs.declared.moments.Deed.{Deed}
@@ -39,8 +35,7 @@ module _ (pairs : List Pair) (words : ℕ) where
   -- no moment notes more changes than the log has
   pub noted_low : (log : Log) (moments : Moments) → Each (NotesPrefix pairs words log) moments
       → Each (λ m. m.changes ≤ length (told log)) moments
-  noted_low log moments all =
-      each_of (λ m. m.changes ≤ length (told log)) moments
+  noted_low log moments all = each_of (λ m. m.changes ≤ length (told log)) moments
       (λ m i. (let c = each-among (NotesPrefix pairs words log) m moments all i in
       let rise = changes_rise (start pairs words) c.prefix log c.goes_on in
       let is = c.changes_is in omega arith))
@@ -49,16 +44,14 @@ module _ (pairs : List Pair) (words : ℕ) where
   pub begun_low : (log : Log) (moments : Moments) → Each (NotesPrefix pairs words log) moments
       → (number : ℕ) (begun : Begun) → in_call number moments ≡ Some begun
       → begun.changes ≤ length (told log)
-  begun_low log moments all number begun i =
-      let b = begun_in number moments begun i in
+  begun_low log moments all number begun i = let b = begun_in number moments begun i in
       let low = changes_low (length (told log)) moments (noted_low log moments all) begun.time in
       omega (arith, b.changes, low)
 
   -- nor does a call that returned, so its position is among them
   pub ended_low : (log : Log) (moments : Moments) → KeepsTime pairs words log moments
       → Each (λ x. position_after x.call ≤ length (told log)) (ended moments)
-  ended_low log moments k =
-      each_of (λ x. position_after x.call ≤ length (told log)) (ended moments)
+  ended_low log moments k = each_of (λ x. position_after x.call ≤ length (told log)) (ended moments)
       (λ x i. (let t = each-among (IsInTime (map_of pairs) (told log)) x (ended moments) k.placed i in
       let e = ended_in moments x i in
       let low = changes_low (length (told log)) moments (noted_low log moments k.counted) x.time in
@@ -79,16 +72,14 @@ module _ (pairs : List Pair) (words : ℕ) where
           → IsInCall number begun moment moments
           → (prefix : Log) × GoesOn prefix log × (begun.length ≡ length prefix)
           × (begun.changes ≡ length (told prefix))
-      at again (begun_now command mine is time changes long) =
-          let c = all.0 in
+      at again (begun_now command mine is time changes long) = let c = all.0 in
           (c.prefix, c.goes_on, long ∙ c.length_is, changes ∙ c.changes_is)
       at again (begun_before other j) = again j
 
   -- a call is in its time in a longer log too
   in_time_on : (log longer : Log) → GoesOn log longer → (x : Ended)
       → IsInTime (map_of pairs) (told log) x → IsInTime (map_of pairs) (told longer) x
-  in_time_on log longer on x t =
-      let more = changes_on (start pairs words) log longer on in
+  in_time_on log longer on x t = let more = changes_on (start pairs words) log longer on in
       subst (λ es. IsInTime (map_of pairs) es x) (sym more.1)
       record {
         from = t.from;
@@ -101,28 +92,26 @@ module _ (pairs : List Pair) (words : ℕ) where
   -- a longer log keeps the moments
   pub kept_on : (log longer : Log) (moments : Moments) → GoesOn log longer
       → KeepsTime pairs words log moments → KeepsTime pairs words longer moments
-  kept_on log longer moments on k =
-      record {
-        well_formed = k.well_formed;
-        never_fall = k.never_fall;
-        counted = each_of (NotesPrefix pairs words longer) moments
-            (λ m i. (let c = each-among (NotesPrefix pairs words log) m moments k.counted i in
-            record {
-              prefix = c.prefix;
-              goes_on = goes_on_more c.goes_on on;
-              length_is = c.length_is;
-              changes_is = c.changes_is;
-            }));
-        placed = each_of (IsInTime (map_of pairs) (told longer)) (ended moments)
-            (λ x i. in_time_on log longer on x
-            (each-among (IsInTime (map_of pairs) (told log)) x (ended moments) k.placed i));
-        began = λ number begun i.
-            (let more = changes_on (start pairs words) log longer on in
-            let low = begun_low log moments k.counted number begun i in
-            ap (entries_by number)
-            (ap (take begun.changes) more.1 ∙ take-append-le begun.changes (told log) more.0 low)
-            ∙ k.began number begun i);
-      }
+  kept_on log longer moments on k = record {
+    well_formed = k.well_formed;
+    never_fall = k.never_fall;
+    counted = each_of (NotesPrefix pairs words longer) moments
+        (λ m i. (let c = each-among (NotesPrefix pairs words log) m moments k.counted i in
+        record {
+          prefix = c.prefix;
+          goes_on = goes_on_more c.goes_on on;
+          length_is = c.length_is;
+          changes_is = c.changes_is;
+        }));
+    placed = each_of (IsInTime (map_of pairs) (told longer)) (ended moments)
+        (λ x i. in_time_on log longer on x
+        (each-among (IsInTime (map_of pairs) (told log)) x (ended moments) k.placed i));
+    began = λ number begun i.
+        (let more = changes_on (start pairs words) log longer on in
+        let low = begun_low log moments k.counted number begun i in ap (entries_by number)
+        (ap (take begun.changes) more.1 ∙ take-append-le begun.changes (told log) more.0 low)
+        ∙ k.began number begun i);
+  }
 
   -- one more moment
   module _ (log : Log) (moments : Moments) (caller : ℕ) (deed : Deed)
@@ -146,24 +135,22 @@ module _ (pairs : List Pair) (words : ℕ) where
         → entries_by caller (take begun.changes (told log))
         ≡ changes_by caller (calls_returned caller (moment ∷ moments)))
         → KeepsTime pairs words log (moment ∷ moments)
-    adds may placed own =
-        record {
-          well_formed = (may, k.well_formed);
-          never_fall = (noted_low log moments k.counted, k.never_fall);
-          counted = (
-            record { prefix = log; goes_on = same_log; length_is = refl; changes_is = refl },
-            k.counted,
-          );
-          placed = placed;
-          began = λ number begun i. at number begun i (eqb_tells caller number);
-        }
+    adds may placed own = record {
+      well_formed = (may, k.well_formed);
+      never_fall = (noted_low log moments k.counted, k.never_fall);
+      counted = (
+        record { prefix = log; goes_on = same_log; length_is = refl; changes_is = refl },
+        k.counted,
+      );
+      placed = placed;
+      began = λ number begun i. at number begun i (eqb_tells caller number);
+    }
       where
         at : (number : ℕ) (begun : Begun) → in_call number (moment ∷ moments) ≡ Some begun
             → (((caller == number) ≡ true) × (caller ≡ number)) ⊎ (((caller == number) ≡ false) × (caller ≢ number))
             → entries_by number (take begun.changes (told log))
             ≡ changes_by number (calls_returned number (moment ∷ moments))
-        at number begun i (inl t) =
-            subst
+        at number begun i (inl t) = subst
             (λ n. entries_by n (take begun.changes (told log))
             ≡ changes_by n (calls_returned n (moment ∷ moments))) t.1
             (own begun (sym (in_call_own number moment moments t.1) ∙ i))
@@ -175,8 +162,7 @@ module _ (pairs : List Pair) (words : ℕ) where
       → entries_by caller (told log) ≡ changes_by caller (calls_returned caller moments)
       → KeepsTime pairs words log moments
       → KeepsTime pairs words log (moment_now pairs words log caller (Begins command) ∷ moments)
-  begins_keep log moments caller command out made k =
-      adds log moments caller (Begins command) k
+  begins_keep log moments caller command out made k = adds log moments caller (Begins command) k
       (subst (λ o. MayDo o (Begins command)) (sym out) tt)
       (subst (Each (IsInTime (map_of pairs) (told log))) (sym (ended_same now moments none)) k.placed)
       (λ begun e.
@@ -203,8 +189,7 @@ module _ (pairs : List Pair) (words : ℕ) where
   pub gives_up_keeps : (log : Log) (moments : Moments) (caller : ℕ) (begun : Begun)
       → in_call caller moments ≡ Some begun → KeepsTime pairs words log moments
       → KeepsTime pairs words log (moment_now pairs words log caller GivesUp ∷ moments)
-  gives_up_keeps log moments caller begun in_it k =
-      adds log moments caller GivesUp k
+  gives_up_keeps log moments caller begun in_it k = adds log moments caller GivesUp k
       (subst (λ o. MayDo o GivesUp) (sym in_it) tt)
       (subst (Each (IsInTime (map_of pairs) (told log)))
       (sym (ended_same now moments (gives_up_ends_none (in_call caller moments) (length moments) now)))
@@ -217,8 +202,7 @@ module _ (pairs : List Pair) (words : ℕ) where
   -- a call returns
   pub returns_keep : (log : Log) (moments : Moments) (caller : ℕ) (begun : Begun) (call : Call)
       → in_call caller moments ≡ Some begun → begun.command ≡ Some call.command
-      → begun.changes ≤ call.position
-      → IsPlacedCall (map_of pairs) (told log) caller call
+      → begun.changes ≤ call.position → IsPlacedCall (map_of pairs) (told log) caller call
       → KeepsTime pairs words log moments
       → KeepsTime pairs words log (moment_now pairs words log caller (Returns call) ∷ moments)
   returns_keep log moments caller begun call in_it command from placed k =
@@ -254,8 +238,7 @@ module _ (pairs : List Pair) (words : ℕ) where
       → ((number : ℕ) → HasMadeChanges (told log) number (calls_returned number moments)
       (in_call number moments))
       → LinearizesTo (map_of pairs) moments (map_after_entries (map_of pairs) (told log))
-  kept_linearizes log moments lawful k made =
-      accounted_linearizes (map_of pairs) (told log) moments
+  kept_linearizes log moments lawful k made = accounted_linearizes (map_of pairs) (told log) moments
       record {
         well_formed = k.well_formed;
         never_fall = k.never_fall;

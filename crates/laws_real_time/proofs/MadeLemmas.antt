@@ -4,12 +4,9 @@ use Rattle.std.proofs.Common.{◌≡◌, ◌⊎◌, ℕ, zero, suc, ◌+◌, ◌
 use Rattle.std.proofs.lemmas.List.{append_cancel_left, take-append-drop, length-map}
 use Rattle.std.proofs.lemmas.List.Elements.{filter-append}
 use Rattle.ist_core.specs.declared.calls.Call.{Call}
-use Rattle.ist_core.specs.Map.{Map}
-use Rattle.ist_core.specs.Elements.{Among, Each}
-use Rattle.ist_core.specs.Changes.{Entry}
-use Rattle.ist_core.specs.Standing.{is_change, entry_by, entries_by}
-use Rattle.ist_core.proofs.ElementLemmas.{each-among, among-filter, among_filter, each_of}
-use Rattle.ist_core.proofs.PieceLemmas.{slice_get-drop, slice_get-take}
+use Rattle.ist_core.specs.TreeTerms.{Map, Entry, is_change, entry_by, entries_by}
+use Rattle.ist_core.specs.LogTerms.{Among, Each}
+use Rattle.ist_core.proofs.AllWordLemmas.{each-among, among-filter, among_filter, each_of, slice_get-drop, slice_get-take}
 use Rattle.laws_real_time.specs.Moments.{Moments, Begun, in_call, Ended, ended}
 use Rattle.laws_real_time.specs.Timing.{IsInTime, IsOfEnded, IsOfBegun}
 use Rattle.laws_real_time.specs.Making.{calls_returned, changes_by, HasMadeChanges, none_since, one_since, AreAccounted}
@@ -45,11 +42,9 @@ module _ (m : Map) (entries : List Entry) (moments : Moments)
     change : is_change call ≡ true
 
   changing_of : (call : Call) → Among call changing → IsChanging call
-  changing_of call i =
-      let a = among-filter is_change call (calls_returned number moments) i in
+  changing_of call i = let a = among-filter is_change call (calls_returned number moments) i in
       let b = among-map (λ (x : Ended). x.call) call own_calls a.0 in
-      let c = among-filter (λ x. x.caller == number) b.0 (ended moments) b.1 in
-      record {
+      let c = among-filter (λ x. x.caller == number) b.0 (ended moments) b.1 in record {
         of = b.0;
         among = c.0;
         caller = eqb-true b.0.caller number c.1;
@@ -71,32 +66,25 @@ module _ (m : Map) (entries : List Entry) (moments : Moments)
   comes_before x y i j c e l = at (ended_apart moments x y i j c)
     where
       at : AreApartInTime x y → x.call.position < y.call.position
-      at (same_call s) =
-          let t = ap (λ (z : Ended). z.time) s in absurd (omega (arith, t, l))
-      at (comes_first f) =
-          let a = ended_in moments x i in
-          let b = ended_in moments y j in
-          let past = past_of x (placed_of x i) e in
-          let from = (placed_of y j).from in
+      at (same_call s) = let t = ap (λ (z : Ended). z.time) s in absurd (omega (arith, t, l))
+      at (comes_first f) = let a = ended_in moments x i in let b = ended_in moments y j in
+          let past = past_of x (placed_of x i) e in let from = (placed_of y j).from in
           let rise =
           changes_rise moments all.never_fall x.time y.begun.time (omega arith)
           (omega (arith, b.before, b.within)) in
           omega (arith, a.changes, b.from, past, from, rise)
-      at (comes_later f) =
-          let a = ended_in moments x i in absurd (omega (arith, a.before, l, f))
+      at (comes_later f) = let a = ended_in moments x i in absurd (omega (arith, a.before, l, f))
 
   -- the second call is at a higher position, if the first is a change
   abbrev RisesPast : Call → Call → Type 0
   RisesPast a b = is_change a ≡ true → a.position < b.position
 
   own_of : (x : Ended) → Among x own_calls → Among x (ended moments) × (x.caller ≡ number)
-  own_of x i =
-      let it = among-filter (λ y. y.caller == number) x (ended moments) i in
+  own_of x i = let it = among-filter (λ y. y.caller == number) x (ended moments) i in
       (it.0, eqb-true x.caller number it.1)
 
   rising : Pairwise (λ a b. a.position < b.position) changing
-  rising =
-      pairwise_gives RisesPast (λ a b. a.position < b.position) changing
+  rising = pairwise_gives RisesPast (λ a b. a.position < b.position) changing
       (λ a b i j r. r (among-filter is_change a (calls_returned number moments) i).1)
       (pairwise_filter RisesPast is_change (calls_returned number moments)
       (pairwise_map (λ x y. x.time < y.time) RisesPast (λ (x : Ended). x.call) own_calls
@@ -115,8 +103,7 @@ module _ (m : Map) (entries : List Entry) (moments : Moments)
       (subst (λ x. slice_get entries x.position ≡ Some (entry_by c.of.caller x)) (sym c.is) made)
 
   all_at : Each (IsAtIndex number entries 0) changing
-  all_at =
-      each_of (IsAtIndex number entries 0) changing
+  all_at = each_of (IsAtIndex number entries 0) changing
       (λ call i. record {
         index = call.position;
         position_is = omega arith;
@@ -125,45 +112,37 @@ module _ (m : Map) (entries : List Entry) (moments : Moments)
 
   -- a change of a call that was found
   found : (position : ℕ) → IsFound number changing (0 + position) → IsOfEnded moments position
-  found position f =
-      let c = changing_of f.call f.among in
-      let place = f.position_is in
-      record {
-        call = c.of;
-        among = c.among;
-        change = subst (λ x. is_change x ≡ true) c.is c.change;
-        position_is = ap (λ (x : Call). x.position) (sym c.is) ∙ omega arith;
-      }
+  found position f = let c = changing_of f.call f.among in let place = f.position_is in record {
+    call = c.of;
+    among = c.among;
+    change = subst (λ x. is_change x ≡ true) c.is c.change;
+    position_is = ap (λ (x : Call). x.position) (sym c.is) ∙ omega arith;
+  }
 
   -- how many changes the calls make
   few_by : (xs : List Entry) → entries_by number xs ≡ changes_by number (calls_returned number moments)
       → length (entries_by number xs) ≤ length changing
-  few_by xs e =
-      let long = ap length e in
+  few_by xs e = let long = ap length e in
       let same = length-map changing (entry_by number) in omega (arith, long, same)
 
   -- before the call in progress each change is that of a call that returned
   before : (begun : Begun) → in_call number moments ≡ Some begun
       → (position : ℕ) (entry : Entry) → slice_get entries position ≡ Some entry
-      → entry.owner ≡ number
-      → position < begun.changes → IsOfEnded moments position
-  before begun i position entry at o l =
-      found position
+      → entry.owner ≡ number → position < begun.changes → IsOfEnded moments position
+  before begun i position entry at o l = found position
       (entry_found number (take begun.changes entries) 0 changing rising all_early
       (few_by (take begun.changes entries) ((all.callers number).began begun i)) position entry
       (slice_get-take begun.changes entries position l ∙ at) o)
     where
       all_early : Each (IsAtIndex number (take begun.changes entries) 0) changing
-      all_early =
-          each_of (IsAtIndex number (take begun.changes entries) 0) changing
+      all_early = each_of (IsAtIndex number (take begun.changes entries) 0) changing
           (λ call j. (let c = changing_of call j in
           let past =
           past_of c.of (placed_of c.of c.among) (subst (λ x. is_change x ≡ true) c.is c.change) in
           let late =
           ended_before moments c.of begun c.among
           (subst (λ n. in_call n moments ≡ Some begun) (sym c.caller) i) in
-          let a = ended_in moments c.of c.among in
-          let b = begun_in number moments begun i in
+          let a = ended_in moments c.of c.among in let b = begun_in number moments begun i in
           let rise =
           changes_rise moments all.never_fall c.of.time begun.time (omega (arith, late)) b.within in
           let place : call.position ≡ c.of.call.position = ap (λ (x : Call). x.position) c.is in
@@ -181,11 +160,9 @@ module _ (m : Map) (entries : List Entry) (moments : Moments)
   since begun = drop begun.changes entries
 
   -- the caller's changes are those from before, and those since
-  cut : (begun : Begun) → in_call number moments ≡ Some begun
-      → entries_by number entries
+  cut : (begun : Begun) → in_call number moments ≡ Some begun → entries_by number entries
       ≡ changes_by number (calls_returned number moments) ++ entries_by number (since begun)
-  cut begun i =
-      ap (entries_by number) (sym (take-append-drop begun.changes entries))
+  cut begun i = ap (entries_by number) (sym (take-append-drop begun.changes entries))
       ∙ filter-append (λ entry. entry.owner == number) (take begun.changes entries) (since begun)
       ∙ ap (λ xs. xs ++ entries_by number (since begun)) ((all.callers number).began begun i)
 
@@ -196,8 +173,7 @@ module _ (m : Map) (entries : List Entry) (moments : Moments)
         → begun.command ≡ Some entry.command → HasSince begun
 
   since_of : (begun : Begun) (o : Option Begun) → in_call number moments ≡ Some begun
-      → o ≡ Some begun
-      → HasMadeChanges entries number (calls_returned number moments) o
+      → o ≡ Some begun → HasMadeChanges entries number (calls_returned number moments) o
       → HasSince begun
   since_of begun o i is (none_since e) =
       nothing (nil_of (entries_by number (since begun))
@@ -209,8 +185,7 @@ module _ (m : Map) (entries : List Entry) (moments : Moments)
       nil_of : (xs : List Entry) → length xs ≡ 0 → xs ≡ []
       nil_of [] h = refl
       nil_of (x ∷ xs) h = absurd (omega arith)
-  since_of begun _ i is (one_since {begun = b} entry e command) =
-      let same : b ≡ begun = cc in
+  since_of begun _ i is (one_since {begun = b} entry e command) = let same : b ≡ begun = cc in
       one entry
       (append_cancel_left (changes_by number (calls_returned number moments))
       (entries_by number (since begun)) (entry ∷ []) (sym (cut begun i) ∙ e))
@@ -240,8 +215,7 @@ module _ (m : Map) (entries : List Entry) (moments : Moments)
   command_since begun h j entry at o = near h
     where
       kept : Among entry (entries_by number (since begun))
-      kept =
-          among_filter (λ e. e.owner == number) entry (since begun)
+      kept = among_filter (λ e. e.owner == number) entry (since begun)
           (among_get (since begun) j entry at) (eq-eqb entry.owner number o)
 
       near : HasSince begun → begun.command ≡ Some entry.command
@@ -261,10 +235,8 @@ module _ (m : Map) (entries : List Entry) (moments : Moments)
       near None is (none_since e) =
           inl (found position
           (entry_found number entries 0 changing rising all_at (few_by entries e) position entry at o))
-      near (Some begun) is made =
-          ⊎_elim
-          (λ e. (let l = e.1 in
-          let since = since_at begun position entry at l in
+      near (Some begun) is made = ⊎_elim
+          (λ e. (let l = e.1 in let since = since_at begun position entry at l in
           let command =
           command_since begun (since_of begun (Some begun) is refl made) since.0 entry since.2 o in
           inr record {
@@ -278,14 +250,11 @@ module _ (m : Map) (entries : List Entry) (moments : Moments)
   -- two changes of the caller since its call in progress began are one
   pub one_of : (begun : Begun) → in_call number moments ≡ Some begun → (p q : ℕ) (e f : Entry)
       → slice_get entries p ≡ Some e → slice_get entries q ≡ Some f
-      → e.owner ≡ number → f.owner ≡ number
-      → begun.changes ≤ p → begun.changes ≤ q → p ≡ q
-  one_of begun i p q e f at bt o r l k =
-      let a = since_at begun p e at l in
+      → e.owner ≡ number → f.owner ≡ number → begun.changes ≤ p → begun.changes ≤ q → p ≡ q
+  one_of begun i p q e f at bt o r l k = let a = since_at begun p e at l in
       let b = since_at begun q f bt k in
       let made =
       subst (HasMadeChanges entries number (calls_returned number moments)) i (all.callers number).made in
       let few = few_since begun (since_of begun (Some begun) i refl made) in
-      let same = only_one number (since begun) few a.0 b.0 e f a.2 b.2 o r in
-      let left = a.1 in
+      let same = only_one number (since begun) few a.0 b.0 e f a.2 b.2 o r in let left = a.1 in
       let right = b.1 in omega arith

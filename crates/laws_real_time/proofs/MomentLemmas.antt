@@ -2,8 +2,8 @@
 use Rattle.std.proofs.Common.{◌≡◌, ◌≢◌, ◌⊎◌, ℕ, ◌<◌, ◌==◌, true, false, List, [], ◌∷◌, length, Option, Some, None, refl, sym, ap, ◌∙◌, subst, inl, inr, ⊎_elim, arith}
 use Rattle.std.proofs.lemmas.Bool.Decides.{eqb_tells}
 use Rattle.ist_core.specs.declared.commands.Command.{Command}
-use Rattle.ist_core.specs.Elements.{Among}
-use Rattle.ist_core.proofs.ElementLemmas.{among-append}
+use Rattle.ist_core.specs.LogTerms.{Among}
+use Rattle.ist_core.proofs.AllWordLemmas.{among-append}
 use Rattle.laws_real_time.specs.declared.moments.Deed.{Deed}
 use Rattle.laws_real_time.specs.declared.moments.Deed.TheVariants.{Begins, Returns, GivesUp}
 use Rattle.laws_real_time.specs.declared.moments.Moment.{Moment}
@@ -16,8 +16,7 @@ use Rattle.laws_real_time.proofs.ChangeCountLemmas.{changes_at, changes_here, ch
 -- a call in progress was begun at the last moment, or before it
 pub data IsInCall (caller : ℕ) (begun : Begun) (moment : Moment) (moments : Moments) : Type 0 where
   begun_now : (command : Option Command) → moment.caller ≡ caller → moment.deed ≡ Begins command
-      → begun.time ≡ length moments → begun.changes ≡ moment.changes
-      → begun.length ≡ moment.length
+      → begun.time ≡ length moments → begun.changes ≡ moment.changes → begun.length ≡ moment.length
       → IsInCall caller begun moment moments
   begun_before : moment.caller ≢ caller → in_call caller moments ≡ Some begun
       → IsInCall caller begun moment moments
@@ -25,8 +24,7 @@ pub data IsInCall (caller : ℕ) (begun : Begun) (moment : Moment) (moments : Mo
 -- if the last moment is the caller's own, it began the call
 begun_here : (caller : ℕ) (begun : Begun) (moment : Moment) (moments : Moments) (deed : Deed)
     → moment.caller ≡ caller → moment.deed ≡ deed
-    → begun_by (length moments) moment deed ≡ Some begun
-    → IsInCall caller begun moment moments
+    → begun_by (length moments) moment deed ≡ Some begun → IsInCall caller begun moment moments
 begun_here caller begun moment moments (Begins command) mine is h =
     begun_now command mine is (ap (time_in begun) (sym h)) (ap (changes_in begun) (sym h))
     (ap (length_in begun) (sym h))
@@ -67,17 +65,14 @@ begun_in caller (moment ∷ moments) begun h =
   where
     at : (in_call caller moments ≡ Some begun → IsBegunIn moments begun)
         → IsInCall caller begun moment moments → IsBegunIn (moment ∷ moments) begun
-    at again (begun_now command mine is time changes long) =
-        record {
-          within = omega arith;
-          changes = changes_here moment moments begun.time time ∙ sym changes;
-        }
-    at again (begun_before other i) =
-        let rest = again i in
-        record {
-          within = omega arith;
-          changes = changes_before moment moments begun.time rest.within ∙ rest.changes;
-        }
+    at again (begun_now command mine is time changes long) = record {
+      within = omega arith;
+      changes = changes_here moment moments begun.time time ∙ sym changes;
+    }
+    at again (begun_before other i) = let rest = again i in record {
+      within = omega arith;
+      changes = changes_before moment moments begun.time rest.within ∙ rest.changes;
+    }
 
 -- ---- calls that returned
 
@@ -93,16 +88,15 @@ pub record ReturnsAt (o : Option Begun) (time : ℕ) (moment : Moment) (deed : D
 
 pub ends_at : (o : Option Begun) (time : ℕ) (moment : Moment) (deed : Deed) (x : Ended)
     → Among x (ended_by o time moment deed) → ReturnsAt o time moment deed x
-ends_at (Some begun) time moment (Returns call) x (inl e) =
-    record {
-      begun = begun;
-      in_it = refl;
-      deed_is = ap (λ (y : Ended). Returns y.call) (sym e);
-      caller_is = ap (λ (y : Ended). y.caller) e;
-      begun_is = ap (λ (y : Ended). y.begun) e;
-      time_is = ap (λ (y : Ended). y.time) e;
-      changes_is = ap (λ (y : Ended). y.changes) e;
-    }
+ends_at (Some begun) time moment (Returns call) x (inl e) = record {
+  begun = begun;
+  in_it = refl;
+  deed_is = ap (λ (y : Ended). Returns y.call) (sym e);
+  caller_is = ap (λ (y : Ended). y.caller) e;
+  begun_is = ap (λ (y : Ended). y.begun) e;
+  time_is = ap (λ (y : Ended). y.time) e;
+  changes_is = ap (λ (y : Ended). y.changes) e;
+}
 ends_at (Some begun) time moment (Returns call) x (inr h) = absurd h
 ends_at (Some begun) time moment (Begins command) x h = absurd h
 ends_at (Some begun) time moment GivesUp x h = absurd h
@@ -153,8 +147,7 @@ ended_in (moment ∷ moments) x h =
         ends_at (in_call moment.caller moments) (length moments) moment moment.deed x i in
         let first = begun_in moment.caller moments it.begun it.in_it in
         let same : x.begun.time ≡ it.begun.time = ap (λ (b : Begun). b.time) it.begun_is in
-        let older : x.begun.time < length moments = omega (arith, first.within, same) in
-        record {
+        let older : x.begun.time < length moments = omega (arith, first.within, same) in record {
           within = omega (arith, it.time_is);
           before = omega (arith, it.time_is, older);
           changes = changes_here moment moments x.time it.time_is ∙ sym it.changes_is;
@@ -167,8 +160,7 @@ ended_in (moment ∷ moments) x h =
 pub ended_before : (moments : Moments) (x : Ended) (begun : Begun) → Among x (ended moments)
     → in_call x.caller moments ≡ Some begun → x.time < begun.time
 ended_before [] x begun h i = absurd h
-ended_before (moment ∷ moments) x begun h i =
-    ⊎_elim
+ended_before (moment ∷ moments) x begun h i = ⊎_elim
     (λ j. older (λ k. ended_before moments x begun j k)
     (in_call_cases x.caller begun moment moments i) j)
     (here (in_call_cases x.caller begun moment moments i)) (among-append x (ended moments) last h)
@@ -177,8 +169,7 @@ ended_before (moment ∷ moments) x begun h i =
     last = ended_by (in_call moment.caller moments) (length moments) moment moment.deed
 
     older : (in_call x.caller moments ≡ Some begun → x.time < begun.time)
-        → IsInCall x.caller begun moment moments → Among x (ended moments)
-        → x.time < begun.time
+        → IsInCall x.caller begun moment moments → Among x (ended moments) → x.time < begun.time
     older again (begun_now command mine is time changes long) j =
         let it = ended_in moments x j in omega (arith, it.within, time)
     older again (begun_before other k) j = again k
@@ -202,8 +193,7 @@ pub data AreApartInTime (x y : Ended) : Type 0 where
 pub ended_apart : (moments : Moments) (x y : Ended) → Among x (ended moments)
     → Among y (ended moments) → x.caller ≡ y.caller → AreApartInTime x y
 ended_apart [] x y h k same = absurd h
-ended_apart (moment ∷ moments) x y h k same =
-    ⊎_elim
+ended_apart (moment ∷ moments) x y h k same = ⊎_elim
     (λ i. ⊎_elim (λ j. ended_apart moments x y i j same)
     (λ j. comes_first (first x y i j same)) (among-append y (ended moments) last k))
     (λ i. ⊎_elim (λ j. comes_later (first y x j i (sym same)))

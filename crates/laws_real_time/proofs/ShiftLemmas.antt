@@ -18,8 +18,7 @@ begun_later n (Some begun) = Some record begun { time = begun.time + n }
 
 -- a call that begins and returns later
 abbrev pub ended_later : ℕ → Ended → Ended
-ended_later n x =
-    record x { begun = record x.begun { time = x.begun.time + n }; time = x.time + n }
+ended_later n x = record x { begun = record x.begun { time = x.begun.time + n }; time = x.time + n }
 
 -- a return that is later
 abbrev pub returned_later : ℕ → Option ℕ → Option ℕ
@@ -67,8 +66,7 @@ module _ (first : Moments) (over : IsOver first) where
       at rest false = rest
 
   ended_by_later : (o : Option Begun) (time late : ℕ) (moment : Moment) (deed : Deed)
-      → late ≡ time + count
-      → ended_by (begun_later count o) late moment deed
+      → late ≡ time + count → ended_by (begun_later count o) late moment deed
       ≡ map (ended_later count) (ended_by o time moment deed)
   ended_by_later (Some begun) time late moment (Returns call) e =
       ap (λ n. record {
@@ -90,12 +88,10 @@ module _ (first : Moments) (over : IsOver first) where
   ended_both [] = sym (append-nil (ended first))
   ended_both (moment ∷ moments) =
       ap (λ o. ended (moments ++ first) ++ ended_by o (length (moments ++ first)) moment moment.deed)
-      (in_call_later moment.caller moments)
-      ∙ ap (λ xs. ended (moments ++ first) ++ xs)
+      (in_call_later moment.caller moments) ∙ ap (λ xs. ended (moments ++ first) ++ xs)
       (ended_by_later (in_call moment.caller moments) (length moments) (length (moments ++ first)) moment moment.deed (long moments))
       ∙ ap (λ xs. xs ++ map (ended_later count) (ended_by (in_call moment.caller moments) (length moments) moment moment.deed))
-      (ended_both moments)
-      ∙ append_assoc (ended first) (map (ended_later count) (ended moments))
+      (ended_both moments) ∙ append_assoc (ended first) (map (ended_later count) (ended moments))
       (map (ended_later count) (ended_by (in_call moment.caller moments) (length moments) moment moment.deed))
       ∙ ap (λ xs. ended first ++ xs)
       (sym (map-append (ended_later count) (ended moments) (ended_by (in_call moment.caller moments) (length moments) moment moment.deed)))
@@ -105,11 +101,9 @@ module _ (first : Moments) (over : IsOver first) where
   timed_both [] = refl
   timed_both (x ∷ xs) = ap (λ ys. timed_later count (timed x) ∷ ys) (timed_both xs)
 
-  pub returned_both : (moments : Moments)
-      → returned_calls (moments ++ first)
+  pub returned_both : (moments : Moments) → returned_calls (moments ++ first)
       ≡ returned_calls first ++ map (timed_later count) (returned_calls moments)
-  returned_both moments =
-      ap (map timed) (ended_both moments)
+  returned_both moments = ap (map timed) (ended_both moments)
       ∙ map-append timed (ended first) (map (ended_later count) (ended moments))
       ∙ ap (λ xs. returned_calls first ++ xs) (timed_both (ended moments))
 
@@ -148,7 +142,6 @@ calls_later n number (x ∷ xs) = at (calls_later n number xs) (eqb_tells x.call
 pub calls_both : (first second : Moments) → IsOver first → (number : ℕ)
     → calls_returned number (second ++ first)
     ≡ calls_returned number first ++ calls_returned number second
-calls_both first second over number =
-    ap (calls_in number) (ended_both first over second)
+calls_both first second over number = ap (calls_in number) (ended_both first over second)
     ∙ calls_in-append number (ended first) (map (ended_later (length first)) (ended second))
     ∙ ap (λ cs. calls_returned number first ++ cs) (calls_later (length first) number (ended second))

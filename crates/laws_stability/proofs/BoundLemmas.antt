@@ -7,25 +7,13 @@ use Rattle.ist_core.specs.declared.lists.Row.{Row}
 use Rattle.ist_core.specs.declared.pairs.Pair.{Pair}
 use Rattle.ist_core.specs.declared.states.ChangeRow.{ChangeRow}
 use Rattle.ist_core.specs.declared.states.InnerRow.{InnerRow}
-use Rattle.ist_core.specs.Elements.{Distinct, Each}
-use Rattle.ist_core.specs.Growing.{AllGrow}
-use Rattle.ist_core.specs.Lawful.{CanOpen, EachEnabled, state_of}
-use Rattle.ist_core.specs.Logs.{Happened, Log, Resolves}
-use Rattle.ist_core.specs.Pieces.{Change, Inner, Piece, size_of, with_status}
-use Rattle.ist_core.specs.Snapshots.{Snapshot}
-use Rattle.ist_core.specs.StartLayout.{start}
-use Rattle.ist_core.specs.Statuses.{marked_word, open_word}
-use Rattle.ist_core.proofs.ElementLemmas.{each-among}
-use Rattle.ist_core.proofs.GrowingLemmas.{change_there, inner_there}
-use Rattle.ist_core.proofs.PlaceLemmas.{Claimed, claimed_apart, claimed_within, placed, size_positive}
-use Rattle.ist_core.proofs.RoomLemmas.{next_within, words_same}
-use Rattle.ist_core.proofs.RowLemmas.{changed_at-same}
-use Rattle.ist_core.proofs.SlotStepLemmas.{install_stands}
-use Rattle.ist_core.proofs.StepLemmas.{holds_installed}
-use Rattle.ist_core.proofs.YesLemmas.{distinct_below}
-use Rattle.ist_core.proofs.OptionLemmas.{no_value, same_inner}
-use Rattle.ist_core.proofs.FreezingLemmas.{closed_on}
-use Rattle.ist_core.proofs.FateLemmas.{grow_after}
+use Rattle.ist_core.specs.LogTerms.{Distinct, Each, CanOpen, EachEnabled, state_of, Happened, Log, Resolves, Snapshot}
+use Rattle.ist_core.specs.TreeTerms.{AllGrow}
+use Rattle.ist_core.specs.WordTerms.{Change, Inner, Piece, size_of, with_status, start, marked_word, open_word}
+use Rattle.ist_core.proofs.AllWordLemmas.{each-among, changed_at-same, no_value, same_inner}
+use Rattle.ist_core.proofs.AllLogLemmas.{change_there, inner_there, next_within, words_same, distinct_below, closed_on, grow_after}
+use Rattle.ist_core.proofs.AllPlaceLemmas.{Claimed, claimed_apart, claimed_within, placed, size_positive, install_stands}
+use Rattle.ist_core.proofs.AllEventLemmas.{holds_installed}
 use Rattle.laws_links.proofs.ChangeLemmas.{install_free}
 use Rattle.laws_links.proofs.InductionLemmas.{sound_after}
 use Rattle.laws_links.proofs.ResolvedLemmas.{resolved_gone}
@@ -52,11 +40,9 @@ data Counted (t : Snapshot) (log : Log) (number : ℕ) : Type 0 where
 counted_on : (t u : Snapshot) → AllGrow t.pieces u.pieces → (log : Log) (event : Event)
     (number : ℕ) → Counted t log number → Counted u (event ∷ log) number
 counted_on t u g log event number (of_install base r e is) =
-    let on = change_there t.pieces u.pieces g base r e in
-    of_install base on.0 on.1 is
+    let on = change_there t.pieces u.pieces g base r e in of_install base on.0 on.1 is
 counted_on t u g log event number (of_resolve base r e before is) =
-    let on = change_there t.pieces u.pieces g base r e in
-    of_resolve base on.0 on.1 (inr before) is
+    let on = change_there t.pieces u.pieces g base r e in of_resolve base on.0 on.1 (inr before) is
 counted_on t u g log event number (of_mark node r e shut is) =
     let on = inner_there t.pieces u.pieces g node r e in
     of_mark node on.0 on.1 (closed_on r.status on.0.status on.2.status shut) is
@@ -80,16 +66,14 @@ module _ (pairs : List Pair) (words : ℕ) (opens : CanOpen pairs words) where
   on : (log : Log) (event : Event) → EachEnabled (start pairs words) (event ∷ log)
       → Each (Counted (state_of pairs words log) log) (numbers log)
       → Each (Counted (state_of pairs words (event ∷ log)) (event ∷ log)) (numbers log)
-  on log event h all =
-      each_on (state_of pairs words log) (state_of pairs words (event ∷ log))
+  on log event h all = each_on (state_of pairs words log) (state_of pairs words (event ∷ log))
       (grow_after pairs words log event h) log event (numbers log) all
 
   -- no row begins at the second word of a change
   second_word : (log : Log) → EachEnabled (start pairs words) log → (base : ℕ) (r : ChangeRow)
       → (state_of pairs words log).pieces base ≡ Some (Change r) → (other size : ℕ)
       → Claimed pairs words log other size → other ≢ base + 1
-  second_word log h base r e other size c is =
-      ⊎_elim (λ same. let here = same.0 in omega arith)
+  second_word log h base r e other size c is = ⊎_elim (λ same. let here = same.0 in omega arith)
       (λ apart. ⊎_elim (λ le. omega arith) (λ le. omega arith) apart.1)
       (claimed_apart pairs words log base (size_of (Change r)) other size h
       ((placed pairs words log h).published base (Change r) e) c)
@@ -120,8 +104,7 @@ module _ (pairs : List Pair) (words : ℕ) (opens : CanOpen pairs words) where
       second_word log h.0 base h.1.change h.1.published other (size_of (Change r))
       ((placed pairs words log h.0).published other (Change r) e) (sym is)
   fresh_resolve log caller base h (of_resolve other r e before is) =
-      let same : other ≡ base = omega arith in
-      resolved_gone pairs words opens log h.0 base
+      let same : other ≡ base = omega arith in resolved_gone pairs words opens log h.0 base
       (subst (λ b. Happened (Resolves b) log) same before) h.1.change.node h.1.change.index
       h.1.in_slot
   fresh_resolve log caller base h (of_mark node r e shut is) =
@@ -147,8 +130,7 @@ module _ (pairs : List Pair) (words : ℕ) (opens : CanOpen pairs words) where
   good : (log : Log) → EachEnabled (start pairs words) log → Good log
   unfolding Good numbers
   good [] h = (tt, tt)
-  good (Install caller base rows ∷ log) h =
-      let before = good log h.0 in
+  good (Install caller base rows ∷ log) h = let before = good log h.0 in
       let event = Install caller base rows in (
         (
           of_install base h.1.change (install_stands (start pairs words) log caller base rows h.1) refl,
@@ -160,8 +142,7 @@ module _ (pairs : List Pair) (words : ℕ) (opens : CanOpen pairs words) where
           before.1,
         ),
       )
-  good (Resolve caller base ∷ log) h =
-      let before = good log h.0 in
+  good (Resolve caller base ∷ log) h = let before = good log h.0 in
       let event = Resolve caller base in
       let there = change_there (state_of pairs words log).pieces
       (state_of pairs words (event ∷ log)).pieces (grow_after pairs words log event h) base
@@ -174,9 +155,7 @@ module _ (pairs : List Pair) (words : ℕ) (opens : CanOpen pairs words) where
           before.1,
         ),
       )
-  good (Mark caller node ∷ log) h =
-      let before = good log h.0 in
-      let event = Mark caller node in
+  good (Mark caller node ∷ log) h = let before = good log h.0 in let event = Mark caller node in
       let ps = (state_of pairs words log).pieces in
       let there : (state_of pairs words (event ∷ log)).pieces node
       ≡ Some (Inner (record (h.1.row) { status = marked_word })) =
@@ -193,38 +172,24 @@ module _ (pairs : List Pair) (words : ℕ) (opens : CanOpen pairs words) where
           before.1,
         ),
       )
-  good (Enter c ∷ log) h =
-      let before = good log h.0 in
-      (on log (Enter c) h before.0, before.1)
-  good (Reserve c b z ∷ log) h =
-      let before = good log h.0 in
+  good (Enter c ∷ log) h = let before = good log h.0 in (on log (Enter c) h before.0, before.1)
+  good (Reserve c b z ∷ log) h = let before = good log h.0 in
       (on log (Reserve c b z) h before.0, before.1)
-  good (Okay c d ∷ log) h =
-      let before = good log h.0 in
-      (on log (Okay c d) h before.0, before.1)
-  good (Decide c d said ∷ log) h =
-      let before = good log h.0 in
+  good (Okay c d ∷ log) h = let before = good log h.0 in (on log (Okay c d) h before.0, before.1)
+  good (Decide c d said ∷ log) h = let before = good log h.0 in
       (on log (Decide c d said) h before.0, before.1)
-  good (Count c n ∷ log) h =
-      let before = good log h.0 in
-      (on log (Count c n) h before.0, before.1)
-  good (Pass c n j w ∷ log) h =
-      let before = good log h.0 in
+  good (Count c n ∷ log) h = let before = good log h.0 in (on log (Count c n) h before.0, before.1)
+  good (Pass c n j w ∷ log) h = let before = good log h.0 in
       (on log (Pass c n j w) h before.0, before.1)
-  good (Finish c n k ∷ log) h =
-      let before = good log h.0 in
+  good (Finish c n k ∷ log) h = let before = good log h.0 in
       (on log (Finish c n k) h before.0, before.1)
-  good (Root c o w rows ∷ log) h =
-      let before = good log h.0 in
+  good (Root c o w rows ∷ log) h = let before = good log h.0 in
       (on log (Root c o w rows) h before.0, before.1)
-  good (Draw c o part ∷ log) h =
-      let before = good log h.0 in
+  good (Draw c o part ∷ log) h = let before = good log h.0 in
       (on log (Draw c o part) h before.0, before.1)
-  good (Place c o j w rows ∷ log) h =
-      let before = good log h.0 in
+  good (Place c o j w rows ∷ log) h = let before = good log h.0 in
       (on log (Place c o j w rows) h before.0, before.1)
-  good (Lose c bases ∷ log) h =
-      let before = good log h.0 in
+  good (Lose c bases ∷ log) h = let before = good log h.0 in
       (on log (Lose c bases) h before.0, before.1)
 
   -- the words of a row are words of the table
@@ -233,24 +198,18 @@ module _ (pairs : List Pair) (words : ℕ) (opens : CanOpen pairs words) where
   inside log h base p e =
       let row = claimed_within pairs words log base (size_of p) h
       ((placed pairs words log h).published base p e) in
-      let high = row.below_next in
-      let fits = next_within pairs words opens log h in
-      let same = words_same pairs words opens log in
-      omega arith
+      let high = row.below_next in let fits = next_within pairs words opens log h in
+      let same = words_same pairs words opens log in omega arith
 
   -- each number is that of a word
   low : (log : Log) → EachEnabled (start pairs words) log → (number : ℕ)
       → Counted (state_of pairs words log) log number → number < words
-  low log h number (of_install base r e is) =
-      let most = inside log h base (Change r) e in
+  low log h number (of_install base r e is) = let most = inside log h base (Change r) e in
       omega arith
-  low log h number (of_resolve base r e before is) =
-      let most = inside log h base (Change r) e in
+  low log h number (of_resolve base r e before is) = let most = inside log h base (Change r) e in
       omega arith
-  low log h number (of_mark node r e shut is) =
-      let most = inside log h node (Inner r) e in
-      let some = size_positive (Inner r) in
-      omega arith
+  low log h number (of_mark node r e shut is) = let most = inside log h node (Inner r) e in
+      let some = size_positive (Inner r) in omega arith
 
   all_low : (log : Log) → EachEnabled (start pairs words) log → (xs : List ℕ)
       → Each (Counted (state_of pairs words log) log) xs → Each (λ x. x < words) xs
@@ -267,15 +226,10 @@ module _ (pairs : List Pair) (words : ℕ) (opens : CanOpen pairs words) where
   -- progress is at most the number of words
   pub within_words : (log : Log) → EachEnabled (start pairs words) log → progress log ≤ words
   unfolding Good
-  within_words log h =
-      let all = good log h in
+  within_words log h = let all = good log h in
       let few = distinct_below words (numbers log) all.1 (all_low log h (numbers log) all.0) in
-      let same = as_many log in
-      omega arith
+      let same = as_many log in omega arith
 
   -- progress is at most `most_progress`, whatever number of words the table has
   pub bounded : (log : Log) → EachEnabled (start pairs words) log → progress log ≤ most_progress
-  bounded log h =
-      let few = within_words log h in
-      let most = opens.within in
-      omega arith
+  bounded log h = let few = within_words log h in let most = opens.within in omega arith

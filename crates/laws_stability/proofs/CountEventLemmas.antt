@@ -7,25 +7,13 @@ use Rattle.ist_core.specs.declared.events.Event.TheVariants.{Count, Decide}
 use Rattle.ist_core.specs.declared.events.Who.TheVariants.{Caller}
 use Rattle.ist_core.specs.declared.pairs.Pair.{Pair}
 use Rattle.ist_core.specs.declared.states.ChangeRow.{ChangeRow}
-use Rattle.ist_core.specs.Deciding.{CanCount, IsUpdateOf, SaysYes}
-use Rattle.ist_core.specs.Growing.{AllGrow}
-use Rattle.ist_core.specs.Lawful.{EachEnabled, state_of}
-use Rattle.ist_core.specs.Links.{WasOnChain}
-use Rattle.ist_core.specs.Logs.{Counts, Happened, Log}
+use Rattle.ist_core.specs.TreeTerms.{CanCount, IsUpdateOf, SaysYes, AllGrow, WasOnChain, IsUpdate}
+use Rattle.ist_core.specs.LogTerms.{EachEnabled, state_of, Counts, Happened, Log, Snapshot, Later, whose, no_more, one_more}
 use Rattle.laws_links.proofs.DecisionLemmas.{Decides}
-use Rattle.ist_core.specs.Pieces.{Change, with_decision}
-use Rattle.ist_core.specs.Rebuilding.{IsUpdate}
-use Rattle.ist_core.specs.Snapshots.{Snapshot}
-use Rattle.ist_core.specs.StartLayout.{start}
-use Rattle.ist_core.specs.Statuses.{decided_yes, undecided}
-use Rattle.ist_core.proofs.GrowingLemmas.{change_there}
-use Rattle.ist_core.proofs.RowLemmas.{changed_at-same}
+use Rattle.ist_core.specs.WordTerms.{Change, with_decision, start, decided_yes, undecided}
+use Rattle.ist_core.proofs.AllLogLemmas.{change_there, known_step, happened_left, grow_after}
+use Rattle.ist_core.proofs.AllWordLemmas.{changed_at-same, same_change}
 use Rattle.laws_stability.specs.Meanwhile.{NoneAccepted}
-use Rattle.ist_core.specs.Authors.{Later, whose, no_more, one_more}
-use Rattle.ist_core.proofs.CallerLemmas.{known_step}
-use Rattle.ist_core.proofs.OptionLemmas.{same_change}
-use Rattle.ist_core.proofs.PrefixLemmas.{happened_left}
-use Rattle.ist_core.proofs.FateLemmas.{grow_after}
 use Rattle.laws_stability.proofs.OwnLemmas.{Was, own_was}
 
 -- a Count of a caller is its own event
@@ -43,8 +31,7 @@ record IsYes (t : Snapshot) (base : ℕ) : Type 0 where
   decision : change.decision ≡ decided_yes
 
 yes_grows : (t u : Snapshot) → AllGrow t.pieces u.pieces → (base : ℕ) → IsYes t base → IsYes u base
-yes_grows t u g base y =
-    let it = change_there t.pieces u.pieces g base y.change y.published in
+yes_grows t u g base y = let it = change_there t.pieces u.pieces g base y.change y.published in
     record {
       change = it.0;
       published = it.1;
@@ -61,17 +48,14 @@ blank change = record change { decision = undecided }
 -- a change without its decision stays
 blank_same : (t u : Snapshot) → AllGrow t.pieces u.pieces → (base : ℕ) (x y : ChangeRow)
     → t.pieces base ≡ Some (Change x) → u.pieces base ≡ Some (Change y) → blank x ≡ blank y
-blank_same t u g base x y e f =
-    let it = change_there t.pieces u.pieces g base x e in
+blank_same t u g base x y e f = let it = change_there t.pieces u.pieces g base x e in
     sym it.2.others ∙ ap blank (same_change (u.pieces base) it.0 y it.1 f)
 
 -- a put or remove of the caller stays one
 update_grows : (t u : Snapshot) → AllGrow t.pieces u.pieces → (caller base : ℕ)
-    → IsUpdateOf t caller base
-    → IsUpdateOf u caller base
+    → IsUpdateOf t caller base → IsUpdateOf u caller base
 update_grows t u g caller base h =
-    let it = change_there t.pieces u.pieces g base h.change h.published in
-    record {
+    let it = change_there t.pieces u.pieces g base h.change h.published in record {
       change = it.0;
       published = it.1;
       owned = ap (λ c. c.owner) it.2.others ∙ h.owned;
@@ -115,8 +99,7 @@ module _ (pairs : List Pair) (words : ℕ) where
   -- the change of a Decide with yes is decided yes after it
   yes_now : (log : Log) (event : Event) → EachEnabled (start pairs words) (event ∷ log) → (base : ℕ)
       → Decides base true event → IsYes (state_of pairs words (event ∷ log)) base
-  yes_now log (Decide c d x) h base is =
-      let change = h.1.change in
+  yes_now log (Decide c d x) h base is = let change = h.1.change in
       let ps = (state_of pairs words log).pieces in
       subst (λ b. IsYes (state_of pairs words (Decide c d x ∷ log)) b) is.0
       (subst (λ s. IsYes (state_of pairs words (Decide c d s ∷ log)) d) (sym is.1)
@@ -135,8 +118,7 @@ module _ (pairs : List Pair) (words : ℕ) where
   yes_after (event ∷ log) h base (inl now) = yes_now log event h base now
   yes_after (event ∷ log) h base (inr old) =
       yes_grows (state_of pairs words log) (state_of pairs words (event ∷ log))
-      (grow_after pairs words log event h)
-      base (yes_after log h.0 base old)
+      (grow_after pairs words log event h) base (yes_after log h.0 base old)
 
   module _ (caller : ℕ) where
     -- if another's event says yes to an update of the caller, the update was pending when others
@@ -173,14 +155,11 @@ module _ (pairs : List Pair) (words : ℕ) where
     -- a Count stays enabled over one event of another
     count_step : (log : Log) (event : Event) → EachEnabled (start pairs words) (event ∷ log)
         → whose event ≢ Caller caller → ¬ (SaysYes (state_of pairs words (event ∷ log)) caller event)
-        → (node : ℕ)
-        → CanCount (start pairs words) log caller node
+        → (node : ℕ) → CanCount (start pairs words) log caller node
         → CanCount (start pairs words) (event ∷ log) caller node
     unfolding update_grows
-    count_step log event h other none node can =
-        let t = state_of pairs words log in
-        let u = state_of pairs words (event ∷ log) in
-        let g = grow_after pairs words log event h in
+    count_step log event h other none node can = let t = state_of pairs words log in
+        let u = state_of pairs words (event ∷ log) in let g = grow_after pairs words log event h in
         let it = change_there t.pieces u.pieces g can.base can.update.change can.update.published in
         record {
           known = known_step (start pairs words) log event caller can.known;
@@ -190,8 +169,7 @@ module _ (pairs : List Pair) (words : ℕ) where
           earlier = can.earlier;
           log_is = ap (λ xs. event ∷ xs) can.log_is;
           update = update_grows t u g caller can.base can.update;
-          last = λ is.
-              ⊎_elim none
+          last = λ is. ⊎_elim none
               (λ old. can.last (happened_back t u caller can.later
               (λ b d up. update_was t u g caller b
               (yes_after log h.0 b (subst (Happened (Decides b true)) (sym can.log_is)

@@ -1,29 +1,59 @@
 -- What a caller holds stays while others make events. Serves each clause on events that take held
 -- rows.
-use Rattle.std.proofs.Common.{Bool, List, [], ap, false, filter, if◌then◌else◌, inl, inr, length, map, not, refl, subst, sym, true, ℕ, ⊎_elim, ◌++◌, ◌==◌, ◌∙◌, ◌∷◌, ◌≡◌, ◌≢◌}
-use Rattle.std.specs.List.{list_any}
+use Rattle.std.proofs.Common.{Some, ap, arith, if◌then◌else◌, length, slice_get, subst, ℕ, ⊎_elim, ◌+◌, ◌∙◌, ◌≡◌, ◌≢◌, List, Bool, [], false, filter, inl, inr, map, not, refl, sym, true, ◌++◌, ◌==◌, ◌∷◌, None}
 use Rattle.std.proofs.lemmas.Bool.Decides.{eqb_tells}
-use Rattle.std.proofs.lemmas.Bool.{not-false, ne_eqb}
+use Rattle.ist_core.specs.declared.pairs.Pair.{Pair}
+use Rattle.ist_core.specs.declared.states.InnerRow.{InnerRow}
 use Rattle.ist_core.specs.declared.events.Event.{Event}
 use Rattle.ist_core.specs.declared.events.Event.TheVariants.{Install, Lose, Place, Reserve, Resolve, Root}
 use Rattle.ist_core.specs.declared.events.Who.TheVariants.{Caller}
 use Rattle.ist_core.specs.declared.lists.HeldRow.{HeldRow}
 use Rattle.ist_core.specs.declared.lists.Row.{Row}
-use Rattle.ist_core.specs.declared.pairs.Pair.{Pair}
-use Rattle.ist_core.specs.Building.{HoldsSizes}
-use Rattle.ist_core.specs.Elements.{Among}
-use Rattle.ist_core.specs.Enabled.{Enabled}
-use Rattle.ist_core.specs.Lawful.{EachEnabled, state_of}
-use Rattle.ist_core.specs.Logs.{Log, state}
-use Rattle.ist_core.specs.Pieces.{as_change}
-use Rattle.ist_core.specs.Snapshots.{HoldsRow, HoldsRows, Snapshot, bases_of, sizes_held, without}
-use Rattle.ist_core.specs.StartLayout.{start}
-use Rattle.ist_core.proofs.ElementLemmas.{among-filter, among_filter}
-use Rattle.ist_core.proofs.MoveLemmas.{HeldLieApart}
-use Rattle.ist_core.proofs.PublishingLemmas.{among_bases}
+use Rattle.ist_core.specs.LogTerms.{EachEnabled, state_of, Log, IsShown, Among, Enabled, state, HoldsRow, HoldsRows, Snapshot, bases_of, sizes_held, without, Later, whose, no_more, one_more, GoesOn}
+use Rattle.ist_core.specs.Naming.{HasDegree}
+use Rattle.ist_core.specs.WordTerms.{Inner, as_inner, words_of, anchor, anchor_slot_place, SlotHolds, in_anchor, in_row, start, as_change, slot_place}
+use Rattle.ist_core.specs.TreeTerms.{place_in, place_of_slot, HoldsSizes, AllGrow, Touch, touch_of}
+use Rattle.ist_core.proofs.AllPlaceLemmas.{get-words_of_slot, anchor_free, shaped, no_row}
+use Rattle.ist_core.proofs.AllLogLemmas.{anchor_word, row_word, rows_holder, lost_holder, held-resolved, enabled_before, grow_between, inner_there, get_alike}
+use Rattle.std.specs.List.{list_any}
+use Rattle.std.proofs.lemmas.Bool.{not-false, ne_eqb}
+use Rattle.ist_core.proofs.AllWordLemmas.{among-filter, among_filter, same_inner}
+use Rattle.ist_core.proofs.AllEventLemmas.{HeldLieApart, among_bases}
 use Rattle.laws_links.proofs.InductionLemmas.{sound_after}
-use Rattle.ist_core.specs.Authors.{Later, whose, no_more, one_more}
-use Rattle.ist_core.proofs.HoldingLemmas.{rows_holder, lost_holder, held-resolved}
+use Rattle.laws_stability.specs.Words.{FindsItsWord}
+
+-- ---- which word a lawful state has in the slot of a node. Serves each clause about an event's word.
+
+module _ (pairs : List Pair) (words : ℕ) (log : Log)
+    (enabled : EachEnabled (start pairs words) log) where
+  -- the place of a slot
+  slot_at : (node i : ℕ) (r : InnerRow) → (state_of pairs words log).pieces node ≡ Some (Inner r)
+      → place_of_slot (state_of pairs words log) node i ≡ node + (3 + r.degree + i)
+  slot_at node i r e =
+      let out : node ≢ anchor = λ a. no_row (state_of pairs words log).pieces node r
+      (anchor_free pairs words log enabled) a e in
+      ⊎_elim (λ same. absurd (out same.1))
+      (λ other.
+      ap (λ b. if b then anchor_slot_place else place_in node i
+      (as_inner ((state_of pairs words log).pieces node))) other.0
+      ∙ ap (λ o. place_in node i (as_inner o)) e ∙ sums node r.degree)
+      (eqb_tells node anchor)
+    where
+      sums : (base d : ℕ) → base + 3 + d + i ≡ base + (3 + d + i)
+      sums base d = omega arith
+
+  -- the word of a slot is shown at its place
+  pub slot_word : (node i w : ℕ) → SlotHolds (state_of pairs words log) node i w → (v : ℕ)
+      → IsShown (state_of pairs words log) (place_of_slot (state_of pairs words log) node i) v
+      → v ≡ w
+  slot_word node i w (in_anchor a b e) v has =
+      anchor_word pairs words log enabled _ v has (ap (λ n. place_of_slot (state_of pairs words log) n i) a) ∙ e
+  slot_word node i w (in_row r e g) v has =
+      let degree : HasDegree r = shaped pairs words log enabled node (Inner r) e in
+      let keys = degree.keys in let same : 4 + length r.keys + i ≡ 3 + r.degree + i = omega arith in
+      row_word pairs words log enabled node (3 + r.degree + i) w (Inner r) e
+      (subst (λ k. slice_get (words_of (Inner r)) k ≡ Some w) same (get-words_of_slot r i ∙ g))
+      _ v has (slot_at node i r e)
 
 -- ---- who holds a held row
 
@@ -139,3 +169,69 @@ module _ (pairs : List Pair) (words : ℕ) (number : ℕ) where
   bases_later later h (base ∷ bases) [] held = absurd held
   bases_later later h (base ∷ bases) (size ∷ sizes) held =
       (holds_later later h base size held.0, bases_later later h bases sizes held.1)
+
+-- ---- the slots of a node, and its place, stay; what a slot holds is what the state has at its place.
+-- Serves each clause on an event of a slot.
+
+-- the word of an event, if its touch is known
+pub finds : (t u : Snapshot) (event : Event) (a : Touch) → touch_of t event ≡ Some a
+    → FindsItsWord t u event → IsShown u a.place a.found
+finds t u event a is f = let same : f.touch ≡ a = cc (sym f.is ∙ is) in
+    subst (λ x. IsShown u x.place x.found) same f.found
+
+-- if there is a row at the node, the place of its slot depends on the degree
+pub place_of_row : (t : Snapshot) (node i : ℕ) (r : InnerRow) → t.pieces anchor ≡ None
+    → t.pieces node ≡ Some (Inner r) → place_of_slot t node i ≡ slot_place node r.degree i
+place_of_row t node i r free e = ⊎_elim (λ same. absurd (no_row t.pieces node r free same.1 e))
+    (λ other.
+    ap (λ b. if b then anchor_slot_place else place_in node i (as_inner (t.pieces node))) other.0
+    ∙ ap (λ o. place_in node i (as_inner o)) e)
+    (eqb_tells node anchor)
+
+-- what slot i of a row holds
+pub slot_of_row : (t : Snapshot) (node i word : ℕ) (r : InnerRow) → t.pieces anchor ≡ None
+    → t.pieces node ≡ Some (Inner r) → SlotHolds t node i word → slice_get r.slots i ≡ Some word
+slot_of_row t node i word r free e (in_anchor a b c) = absurd (no_row t.pieces node r free a e)
+slot_of_row t node i word r free e (in_row s f at) =
+    ap (λ x. slice_get x.slots i) (same_inner (t.pieces node) r s e f) ∙ at
+
+module _ (pairs : List Pair) (words : ℕ) (earlier log : Log) (on : GoesOn earlier log)
+    (h : EachEnabled (start pairs words) log) where
+  grows : AllGrow (state_of pairs words earlier).pieces (state_of pairs words log).pieces
+  grows = grow_between pairs words earlier log h on
+
+  -- a slot keeps its place
+  pub place_later : (node i word : ℕ) → SlotHolds (state_of pairs words earlier) node i word
+      → place_of_slot (state_of pairs words log) node i ≡ place_of_slot
+      (state_of pairs words earlier) node i
+  place_later node i word (in_anchor a b c) =
+      ap (λ n. place_of_slot (state_of pairs words log) n i) a
+      ∙ sym (ap (λ n. place_of_slot (state_of pairs words earlier) n i) a)
+  place_later node i word (in_row r e at) =
+      let it = inner_there (state_of pairs words earlier).pieces
+      (state_of pairs words log).pieces grows node r e in
+      let old = enabled_before (start pairs words) earlier log on h in
+      place_of_row (state_of pairs words log) node i it.0 (anchor_free pairs words log h) it.1
+      ∙ ap (λ d. slot_place node d i) it.2.degree
+      ∙ sym (place_of_row (state_of pairs words earlier) node i r
+      (anchor_free pairs words earlier old) e)
+
+  -- a slot that held a word holds one in the longer log
+  slot_stays : (node i word : ℕ) → SlotHolds (state_of pairs words earlier) node i word
+      → (v : ℕ) × SlotHolds (state_of pairs words log) node i v
+  slot_stays node i word (in_anchor a b c) = ((state_of pairs words log).anchor, in_anchor a b refl)
+  slot_stays node i word (in_row r e at) =
+      let it = inner_there (state_of pairs words earlier).pieces
+      (state_of pairs words log).pieces grows node r e in
+      let v = get_alike r.slots it.0.slots i word it.2.slots at in (v.0, in_row it.0 it.1 v.1)
+
+  -- what a slot holds is the word that the state has at this place
+  pub slot_later : (node i word : ℕ) → SlotHolds (state_of pairs words earlier) node i word
+      → (now : ℕ) → IsShown (state_of pairs words log)
+      (place_of_slot (state_of pairs words earlier) node i) now
+      → SlotHolds (state_of pairs words log) node i now
+  slot_later node i word holds now has = let it = slot_stays node i word holds in
+      let there = subst (λ p. IsShown (state_of pairs words log) p now)
+      (sym (place_later node i word holds)) has in
+      subst (λ w. SlotHolds (state_of pairs words log) node i w)
+      (sym (slot_word pairs words log h node i it.0 it.1 now there)) it.1

@@ -6,34 +6,18 @@ use Rattle.ist_core.specs.declared.lists.Row.{Row}
 use Rattle.ist_core.specs.declared.pairs.Pair.{Pair}
 use Rattle.ist_core.specs.declared.states.ChangeRow.{ChangeRow}
 use Rattle.ist_core.specs.declared.states.RebuildRow.{RebuildRow}
-use Rattle.ist_core.specs.Growing.{AllGrow}
-use Rattle.ist_core.specs.Installing.{CanInstall, ComesByKey, Finishes, FitsKind, Starts, a_finish, a_pair, a_put, a_remove, a_start}
-use Rattle.ist_core.specs.Lawful.{CanOpen, EachEnabled, state_of}
-use Rattle.ist_core.specs.Links.{Leads, Linked}
-use Rattle.ist_core.specs.Logs.{GoesOn, Log}
-use Rattle.ist_core.specs.Pieces.{Rebuild}
-use Rattle.ist_core.specs.Rebuilding.{IsBuilt}
-use Rattle.ist_core.specs.References.{InnerAt, ref_of, unset_word}
-use Rattle.ist_core.specs.Slots.{SlotHolds, in_row}
-use Rattle.ist_core.specs.Snapshots.{Snapshot}
-use Rattle.ist_core.specs.StartLayout.{start}
-use Rattle.ist_core.specs.Writing.{first_change, touch_of}
-use Rattle.ist_core.proofs.FateLemmas.{enabled_before, grow_between}
-use Rattle.ist_core.proofs.GrowingLemmas.{inner_there, rebuild_there, get_alike, due_later, child_remains}
-use Rattle.ist_core.proofs.NamingLemmas.{InnerHere, RootNames}
-use Rattle.ist_core.proofs.OrderLemmas.{names}
-use Rattle.ist_core.proofs.PlaceLemmas.{anchor_free}
-use Rattle.ist_core.proofs.SlotLemmas.{slot_once}
+use Rattle.ist_core.specs.TreeTerms.{AllGrow, CanInstall, ComesByKey, Finishes, FitsKind, Starts, a_finish, a_pair, a_put, a_remove, a_start, Leads, Linked, IsBuilt, first_change, touch_of}
+use Rattle.ist_core.specs.LogTerms.{CanOpen, EachEnabled, state_of, GoesOn, Log, Snapshot, Later}
+use Rattle.ist_core.specs.WordTerms.{Rebuild, InnerAt, ref_of, unset_word, SlotHolds, in_row, start}
+use Rattle.ist_core.proofs.AllLogLemmas.{enabled_before, grow_between, inner_there, rebuild_there, get_alike, due_later, child_remains, ever_later, goes_on_by}
+use Rattle.ist_core.proofs.AllPlaceLemmas.{InnerHere, RootNames, names, anchor_free, slot_once}
 use Rattle.laws_links.proofs.FormLemmas.{leaf_of_grows, room_grows, started_grows}
 use Rattle.laws_stability.specs.Meanwhile.{NoneRefused}
-use Rattle.ist_core.specs.Authors.{Later}
-use Rattle.ist_core.proofs.PrefixLemmas.{ever_later, goes_on_by}
 use Rattle.laws_stability.specs.Words.{FindsItsWord}
-use Rattle.laws_stability.proofs.HoldingLemmas.{rows_later}
+use Rattle.laws_stability.proofs.HoldingLemmas.{rows_later, finds, slot_later, slot_of_row}
 use Rattle.laws_stability.proofs.LaterLemmas.{known_later}
 use Rattle.laws_stability.proofs.OwnLemmas.{unrefused_later}
 use Rattle.laws_stability.proofs.SetLemmas.{set_later}
-use Rattle.laws_stability.proofs.SlotWordLemmas.{finds, slot_later, slot_of_row}
 
 -- a list of the same length had an element at each index at which the other has one
 get_back : (xs ys : List ℕ) (i x : ℕ) → length ys ≡ length xs → slice_get ys i ≡ Some x
@@ -46,8 +30,7 @@ root_here : (t : Snapshot) (target word base : ℕ) → RootNames t.pieces targe
 root_here t target word base named is = (subst (λ o. RootNames t.pieces target o) is named).1
 
 module _ (pairs : List Pair) (words : ℕ) (opens : CanOpen pairs words) {earlier log : Log}
-    (on : GoesOn earlier log)
-    (h : EachEnabled (start pairs words) log) where
+    (on : GoesOn earlier log) (h : EachEnabled (start pairs words) log) where
   grows : AllGrow (state_of pairs words earlier).pieces (state_of pairs words log).pieces
   grows = grow_between pairs words earlier log h on
 
@@ -57,13 +40,11 @@ module _ (pairs : List Pair) (words : ℕ) (opens : CanOpen pairs words) {earlie
   -- the way to the slot stays
   by_key_later : (change : ChangeRow) → ComesByKey (start pairs words) earlier change
       → ComesByKey (start pairs words) log change
-  by_key_later change c =
-      record {
-        led = ever_later (start pairs words) (λ t. Leads t change.key change.node) on c.led;
-        index = child_remains (state_of pairs words earlier)
-            (state_of pairs words log) grows change.node change.key
-            change.index c.index;
-      }
+  by_key_later change c = record {
+    led = ever_later (start pairs words) (λ t. Leads t change.key change.node) on c.led;
+    index = child_remains (state_of pairs words earlier)
+        (state_of pairs words log) grows change.node change.key change.index c.index;
+  }
 
   clash : (w v : ℕ) → w ≢ unset_word → w ≡ v → v ≡ unset_word → ⊥
   clash w v set same none = set (same ∙ none)
@@ -72,30 +53,28 @@ module _ (pairs : List Pair) (words : ℕ) (opens : CanOpen pairs words) {earlie
   built_later : (rebuild : ℕ) (r : RebuildRow)
       → (state_of pairs words earlier).pieces rebuild ≡ Some (Rebuild r)
       → IsBuilt (state_of pairs words earlier) r.root → IsBuilt (state_of pairs words log) r.root
-  built_later rebuild r e built =
-      record {
-        set = built.set;
-        whole = λ base i word is holds none.
-            let named = (names pairs words opens earlier before).rows rebuild (Rebuild r) e in
-            let here = root_here (state_of pairs words earlier) r.target r.root base named.2 is in
-            let row = inner_there (state_of pairs words earlier).pieces
-            (state_of pairs words log).pieces grows base here.0 here.1 in
-            let at = slot_of_row (state_of pairs words log) base i word row.0
-            (anchor_free pairs words log h) row.1 holds in
-            let old = get_back here.0.slots row.0.slots i word row.2.slots at in
-            let holds_old : SlotHolds (state_of pairs words earlier) base i old.0 =
-            in_row here.0 here.1 old.1 in
-            let s = set_later pairs words opens on h base i
-            record {
-              word = old.0;
-              holds = holds_old;
-              set =
-                  built.whole base i old.0 is holds_old;
-            } in
-            let same : s.word ≡ word = slot_once (state_of pairs words log) base i s.word word
-            (anchor_free pairs words log h) s.holds holds in
-            clash s.word word s.set same none;
-      }
+  built_later rebuild r e built = record {
+    set = built.set;
+    whole = λ base i word is holds none.
+        let named = (names pairs words opens earlier before).rows rebuild (Rebuild r) e in
+        let here = root_here (state_of pairs words earlier) r.target r.root base named.2 is in
+        let row = inner_there (state_of pairs words earlier).pieces
+        (state_of pairs words log).pieces grows base here.0 here.1 in
+        let at = slot_of_row (state_of pairs words log) base i word row.0
+        (anchor_free pairs words log h) row.1 holds in
+        let old = get_back here.0.slots row.0.slots i word row.2.slots at in
+        let holds_old : SlotHolds (state_of pairs words earlier) base i old.0 =
+        in_row here.0 here.1 old.1 in
+        let s = set_later pairs words opens on h base i
+        record {
+          word = old.0;
+          holds = holds_old;
+          set = built.whole base i old.0 is holds_old;
+        } in
+        let same : s.word ≡ word = slot_once (state_of pairs words log) base i s.word word
+        (anchor_free pairs words log h) s.holds holds in
+        clash s.word word s.set same none;
+  }
 
   -- what a start needs stays
   starts_later : (change : ChangeRow) (fresh : List Row)
@@ -125,8 +104,7 @@ module _ (pairs : List Pair) (words : ℕ) (opens : CanOpen pairs words) {earlie
   finishes_later change fresh f =
       let it = rebuild_there (state_of pairs words earlier).pieces
       (state_of pairs words log).pieces grows f.rebuild f.row f.published in
-      let root = it.2.rooted f.built.set in
-      record {
+      let root = it.2.rooted f.built.set in record {
         kind = f.kind;
         key = f.key;
         value = f.value;
@@ -148,50 +126,46 @@ module _ (pairs : List Pair) (words : ℕ) (opens : CanOpen pairs words) {earlie
   fits_later : (change : ChangeRow) (fresh : List Row)
       → FitsKind (start pairs words) earlier change fresh
       → FitsKind (start pairs words) log change fresh
-  fits_later change fresh (a_put p) =
-      a_put record {
-        kind = p.kind;
-        by_key = by_key_later change p.by_key;
-        from = room_grows (state_of pairs words earlier)
-            (state_of pairs words log) grows change.key change.from p.from;
-        leaf = p.leaf;
-        to = p.to;
-        fresh_are = p.fresh_are;
-      }
-  fits_later change fresh (a_pair p) =
-      a_pair record {
-        kind = p.kind;
-        by_key = by_key_later change p.by_key;
-        other = p.other;
-        other_key = p.other_key;
-        from = p.from;
-        stands = leaf_of_grows (state_of pairs words earlier)
-            (state_of pairs words log) grows p.other p.other_key p.stands;
-        differs = p.differs;
-        pair = p.pair;
-        leaf = p.leaf;
-        to = p.to;
-        above = p.above;
-        fresh_are = p.fresh_are;
-      }
-  fits_later change fresh (a_remove p) =
-      a_remove record {
-        kind = p.kind;
-        by_key = by_key_later change p.by_key;
-        leaf = p.leaf;
-        from = p.from;
-        stands = leaf_of_grows (state_of pairs words earlier)
-            (state_of pairs words log) grows p.leaf change.key p.stands;
-        to = p.to;
-        value = p.value;
-        fresh_are = p.fresh_are;
-      }
+  fits_later change fresh (a_put p) = a_put record {
+    kind = p.kind;
+    by_key = by_key_later change p.by_key;
+    from = room_grows (state_of pairs words earlier)
+        (state_of pairs words log) grows change.key change.from p.from;
+    leaf = p.leaf;
+    to = p.to;
+    fresh_are = p.fresh_are;
+  }
+  fits_later change fresh (a_pair p) = a_pair record {
+    kind = p.kind;
+    by_key = by_key_later change p.by_key;
+    other = p.other;
+    other_key = p.other_key;
+    from = p.from;
+    stands = leaf_of_grows (state_of pairs words earlier)
+        (state_of pairs words log) grows p.other p.other_key p.stands;
+    differs = p.differs;
+    pair = p.pair;
+    leaf = p.leaf;
+    to = p.to;
+    above = p.above;
+    fresh_are = p.fresh_are;
+  }
+  fits_later change fresh (a_remove p) = a_remove record {
+    kind = p.kind;
+    by_key = by_key_later change p.by_key;
+    leaf = p.leaf;
+    from = p.from;
+    stands = leaf_of_grows (state_of pairs words earlier)
+        (state_of pairs words log) grows p.leaf change.key p.stands;
+    to = p.to;
+    value = p.value;
+    fresh_are = p.fresh_are;
+  }
   fits_later change fresh (a_start p) = a_start (starts_later change fresh p)
   fits_later change fresh (a_finish p) = a_finish (finishes_later change fresh p)
 
 module _ (pairs : List Pair) (words : ℕ) (opens : CanOpen pairs words) {earlier log : Log}
-    (caller : ℕ)
-    (later : Later (Caller caller) earlier log)
+    (caller : ℕ) (later : Later (Caller caller) earlier log)
     (h : EachEnabled (start pairs words) log) where
   -- an Install stays enabled if `from` is in its slot and no change of the caller on the node is
   -- decided no
@@ -202,9 +176,7 @@ module _ (pairs : List Pair) (words : ℕ) (opens : CanOpen pairs words) {earlie
       → ((change : ChangeRow) → first_change rows ≡ Some change
       → NoneRefused (state_of pairs words earlier) (state_of pairs words log) caller change.node)
       → CanInstall (start pairs words) log caller base rows
-  install_stays base rows can f none =
-      let change = can.change in
-      let on = goes_on_by later in
+  install_stays base rows can f none = let change = can.change in let on = goes_on_by later in
       let has = finds (state_of pairs words earlier) (state_of pairs words log)
       (Install caller base rows) _
       (ap (λ xs. touch_of (state_of pairs words earlier) (Install caller base xs)) can.rows_are)

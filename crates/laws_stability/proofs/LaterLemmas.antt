@@ -3,15 +3,12 @@ use Rattle.std.proofs.Common.{refl, ℕ, ⊎_elim, ◌<◌, ◌∙◌, ◌≡◌
 use Rattle.ist_core.specs.declared.events.Event.{Event}
 use Rattle.ist_core.specs.declared.events.Who.{Who}
 use Rattle.ist_core.specs.declared.events.Who.TheVariants.{Maker}
-use Rattle.ist_core.specs.Authors.{Later, whose, no_more, one_more}
-use Rattle.ist_core.specs.Logs.{GoesOn, Happened, Log, one_event, same_log, state}
-use Rattle.ist_core.specs.Snapshots.{Snapshot}
-use Rattle.ist_core.proofs.CallerLemmas.{callers_step, known_step}
+use Rattle.ist_core.specs.LogTerms.{Later, whose, no_more, one_more, GoesOn, Happened, Log, one_event, same_log, state, Snapshot}
+use Rattle.ist_core.proofs.AllLogLemmas.{callers_step, known_step}
 pub use Rattle.ist_core.proofs.PrefixLemmas.{happened_later, ever_later, goes_on_by as goes_on}
 
 -- if only others made the further events, what only one's own events do was done before
-pub done_before : (P : Event → Type 0) (who : Who)
-    → ((event : Event) → P event → whose event ≡ who)
+pub done_before : (P : Event → Type 0) (who : Who) → ((event : Event) → P event → whose event ≡ who)
     → {earlier log : Log} → Later who earlier log → Happened P log → Happened P earlier
 done_before P who own no_more h = h
 done_before P who own (one_more event later other) h =

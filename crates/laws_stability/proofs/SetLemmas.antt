@@ -1,23 +1,21 @@
 -- A slot that is set stays set: no event puts Unset into a slot. Serves the clause on Install.
-use Rattle.std.proofs.Common.{Bool, List, false, if◌then◌else◌, subst, sym, true, ℕ, ⊎_elim, ◌*◌, ◌+◌, ◌==◌, ◌∙◌, ◌∷◌, ◌≡◌, ◌≢◌}
+use Rattle.std.proofs.Common.{Bool, List, false, if◌then◌else◌, subst, sym, true, ℕ, ⊎_elim, ◌*◌, ◌+◌, ◌==◌, ◌∙◌, ◌∷◌, ◌≡◌, ◌≢◌, [], ap, inl, inr, refl, ◌++◌, ◌<◌, ◌≤◌}
 use Rattle.ist_core.specs.declared.events.Event.{Event}
-use Rattle.ist_core.specs.declared.events.Event.TheVariants.{Install, Place, Resolve}
+use Rattle.ist_core.specs.declared.events.Event.TheVariants.{Install, Place, Resolve, Lose, Reserve, Root}
 use Rattle.ist_core.specs.declared.pairs.Pair.{Pair}
 use Rattle.ist_core.specs.declared.states.ChangeRow.{ChangeRow}
-use Rattle.ist_core.specs.After.{side_of}
-use Rattle.ist_core.specs.Lawful.{CanOpen, EachEnabled, state_of}
-use Rattle.ist_core.specs.Logs.{GoesOn, Log, one_event, same_log}
-use Rattle.ist_core.specs.References.{ChangeAt, unset_word, word_of}
-use Rattle.ist_core.specs.Slots.{SlotHolds}
-use Rattle.ist_core.specs.Snapshots.{Snapshot}
-use Rattle.ist_core.specs.StartLayout.{start}
-use Rattle.ist_core.specs.Statuses.{decided_yes}
-use Rattle.ist_core.proofs.PlaceLemmas.{anchor_free}
-use Rattle.ist_core.proofs.SlotStepLemmas.{WritesSlot, WritesNoSlot, install_writes, place_writes, resolve_writes, slot_stays}
-use Rattle.ist_core.proofs.SettingLemmas.{change_set, room_set, set_by}
-use Rattle.laws_links.proofs.FormLemmas.{IsFormed, of_finish, of_leaf_put, of_pair_put, of_remove, of_start}
+use Rattle.ist_core.specs.declared.events.Who.TheVariants.{Caller, Maker}
+use Rattle.ist_core.specs.LogTerms.{side_of, CanOpen, EachEnabled, state_of, GoesOn, Log, one_event, same_log, Snapshot, CanEnter, CanReserve, AreBuilds, IsBuilding, IsFair, last_build, no_build, stuck_build, state, Later, whose, no_more, one_more}
+use Rattle.ist_core.specs.WordTerms.{ChangeAt, unset_word, word_of, SlotHolds, start, decided_yes, pair_words}
+use Rattle.ist_core.proofs.AllPlaceLemmas.{anchor_free, WritesSlot, WritesNoSlot, install_writes, place_writes, resolve_writes, slot_stays}
+use Rattle.ist_core.proofs.AllLogLemmas.{change_set, room_set, set_by, grow_between, inner_there, rebuild_there, words_same, next_word, goes_on_by}
+use Rattle.laws_links.proofs.FormLemmas.{IsFormed, of_finish, of_leaf_put, of_pair_put, of_remove, of_start, finished_with_grows, started_grows}
 use Rattle.laws_links.proofs.FormedLemmas.{changes_are_formed}
 use Rattle.laws_links.proofs.InductionLemmas.{sound_after}
+use Rattle.ist_core.specs.TreeTerms.{CanLose, IsBeaten, LosesBuild, LosesPair, AllGrow, IsFinishedWith}
+use Rattle.laws_stability.specs.Words.{FindsItsWord}
+use Rattle.laws_stability.proofs.HoldingLemmas.{bases_later, holds_later, sizes_later, finds}
+use Rattle.laws_stability.proofs.LaterLemmas.{callers_later, known_later}
 
 -- neither side of a change is Unset
 sides_set : (t : Snapshot) (change : ChangeRow) → IsFormed t change
@@ -50,37 +48,31 @@ pub record IsSet (t : Snapshot) (node i : ℕ) : Type 0 where
 -- a slot stays set when a slot is written with a word that isn't Unset
 set_written : (t u : Snapshot) (node i at j new old : ℕ) → WritesSlot t u at j new old
     → new ≢ unset_word → IsSet t node i → IsSet u node i
-set_written t u node i at j new old w set h =
-    ⊎_elim
+set_written t u node i at j new old w set h = ⊎_elim
     (λ here. record {
       word = new;
       holds = subst (λ k. SlotHolds u node k new) (sym here.2)
           (subst (λ n. SlotHolds u n j new) (sym here.1) w.now);
       set = set;
     })
-    (λ there. record { word = h.word; holds = there; set = h.set })
-    (w.others node i h.word h.holds)
+    (λ there. record { word = h.word; holds = there; set = h.set }) (w.others node i h.word h.holds)
 
 -- a slot that is set stays set when an event takes Unset out of a slot
 set_filled : (t u : Snapshot) (node i at j new : ℕ) → WritesSlot t u at j new unset_word
     → IsSet t node i → IsSet u node i
-set_filled t u node i at j new w h =
-    ⊎_elim (λ here. absurd (h.set here.0))
-    (λ there. record { word = h.word; holds = there; set = h.set })
-    (w.others node i h.word h.holds)
+set_filled t u node i at j new w h = ⊎_elim (λ here. absurd (h.set here.0))
+    (λ there. record { word = h.word; holds = there; set = h.set }) (w.others node i h.word h.holds)
 
 module _ (pairs : List Pair) (words : ℕ) (opens : CanOpen pairs words) where
   quiet : (log : Log) (event : Event) → EachEnabled (start pairs words) (event ∷ log)
-      → WritesNoSlot event
-      → (node i : ℕ) → IsSet (state_of pairs words log) node i
+      → WritesNoSlot event → (node i : ℕ) → IsSet (state_of pairs words log) node i
       → IsSet (state_of pairs words (event ∷ log)) node i
-  quiet log event h none node i s =
-      record {
-        word = s.word;
-        holds = slot_stays (start pairs words) log event h.1
-            (sound_after pairs words log h.0) none node i s.word s.holds;
-        set = s.set;
-      }
+  quiet log event h none node i s = record {
+    word = s.word;
+    holds = slot_stays (start pairs words) log event h.1
+        (sound_after pairs words log h.0) none node i s.word s.holds;
+    set = s.set;
+  }
 
   -- an event leaves a slot set
   set_step : (log : Log) (event : Event) → EachEnabled (start pairs words) (event ∷ log)
@@ -98,8 +90,7 @@ module _ (pairs : List Pair) (words : ℕ) (opens : CanOpen pairs words) where
       (resolve_writes (state_of pairs words log) caller base h.1 (anchor_free pairs words log h.0))
       (side_set (state_of pairs words log) h.1.change
       (changes_are_formed pairs words log h.0 base h.1.change h.1.published)) s
-  set_step log (Place caller rebuild j word rows) h node i s =
-      set_filled _ _ node i h.1.root j word
+  set_step log (Place caller rebuild j word rows) h node i s = set_filled _ _ node i h.1.root j word
       (place_writes (state_of pairs words log) caller rebuild j word rows h.1
       (sound_after pairs words log h.0) (anchor_free pairs words log h.0)) s
   set_step log event h node i s = quiet log event h tt node i s
@@ -111,3 +102,122 @@ module _ (pairs : List Pair) (words : ℕ) (opens : CanOpen pairs words) where
   set_later same_log h node i s = s
   set_later (one_event {log = log} event g) h node i s =
       set_step log event h node i (set_later g h.0 node i s)
+
+-- ---- enters, Reserves and Loses stay enabled under events of others. Serves their clauses.
+
+-- a building list stays one
+building_later : (t u : Snapshot) → AllGrow t.pieces u.pieces → (sizes : List ℕ)
+    → IsBuilding t sizes → IsBuilding u sizes
+building_later t u g sizes b =
+    let it = rebuild_there t.pieces u.pieces g b.rebuild b.row b.published in record {
+      rebuild = b.rebuild;
+      row = it.0;
+      published = it.1;
+      started = started_grows t u g b.rebuild b.started;
+      k = b.k;
+      finished = subst (λ n. IsFinishedWith u n b.k) (sym it.2.target)
+          (finished_with_grows t u g b.row.target b.k b.finished);
+      build = b.build;
+    }
+
+-- builds stay builds if the number of free words stays: a stuck one stays stuck
+builds_later : (t u : Snapshot) → AllGrow t.pieces u.pieces → u.words ≡ t.words → u.next ≡ t.next
+    → (sizes : List ℕ) → AreBuilds t sizes → AreBuilds u sizes
+builds_later t u g same next _ no_build = no_build
+builds_later t u g same next _ (last_build {sizes = sizes} rest b) =
+    last_build rest (building_later t u g (sizes ++ rest) b)
+builds_later t u g same next _ (stuck_build {sizes = sizes} {more = more} stuck others) =
+    let full = stuck.no_room in stuck_build
+    record {
+      next_size = stuck.next_size;
+      rest = stuck.rest;
+      building = building_later t u g (sizes ++ stuck.next_size ∷ stuck.rest) stuck.building;
+      no_room = subst (λ n. u.words < n + stuck.next_size) (sym next)
+          (subst (λ n. n < t.next + stuck.next_size) (sym same) full);
+    }
+    (builds_later t u g same next more others)
+
+-- another's event leaves a build beaten
+beaten_step : (caller : ℕ) (sizes : List ℕ) (event : Event) (log : Log) → whose event ≢ Caller caller
+    → IsBeaten caller sizes log → IsBeaten caller sizes (event ∷ log)
+beaten_step caller sizes (Root c rebuild word rows) log other b = ((λ e. other (ap Caller e)), inr b)
+beaten_step caller sizes (Place c rebuild i word rows) log other b =
+    ((λ e. other (ap Caller e)), inr b)
+beaten_step caller sizes (Lose c bases) log other b = ((λ e. other (ap Caller e)), b)
+beaten_step caller sizes _ log other b = b
+
+beaten_later : (caller : ℕ) (sizes : List ℕ) {earlier log : Log} → Later (Caller caller) earlier log
+    → IsBeaten caller sizes earlier → IsBeaten caller sizes log
+beaten_later caller sizes no_more b = b
+beaten_later caller sizes (one_more {log = log} event later other) b =
+    beaten_step caller sizes event log other (beaten_later caller sizes later b)
+
+-- an Enter stays enabled
+pub enter_stays : (first : Snapshot) {earlier log : Log} → Later Maker earlier log → (caller : ℕ)
+    → CanEnter (state first earlier) caller → CanEnter (state first log) caller
+enter_stays first later caller can =
+    record { number = can.number ∙ sym (callers_later first later); below_limit = can.below_limit }
+
+module _ (pairs : List Pair) (words : ℕ) (opens : CanOpen pairs words) {earlier log : Log}
+    (caller : ℕ) (later : Later (Caller caller) earlier log)
+    (h : EachEnabled (start pairs words) log) where
+  -- a Reserve stays enabled if the first free word is the same
+  pub reserve_stays : (base size : ℕ) → CanReserve (state_of pairs words earlier) caller base size
+      → FindsItsWord (state_of pairs words earlier) (state_of pairs words log)
+      (Reserve caller base size) → CanReserve (state_of pairs words log) caller base size
+  reserve_stays base size can f = let t = state_of pairs words earlier in
+      let u = state_of pairs words log in let has = finds t u (Reserve caller base size) _ refl f in
+      let now : base ≡ u.next = next_word pairs words log h _ _ has refl in
+      let next : u.next ≡ t.next = sym now ∙ can.base_is in
+      let same : u.words ≡ t.words = words_same pairs words opens log
+      ∙ sym (words_same pairs words opens earlier) in
+      let room = can.room in record {
+        known = known_later (start pairs words) (goes_on_by later) caller can.known;
+        base_is = now;
+        room = subst (λ n. n + size ≤ u.words) (sym next)
+            (subst (λ n. t.next + size ≤ n) (sym same) room);
+        fair = subst (λ sizes. IsFair u (sizes ++ size ∷ []))
+            (sym (sizes_later pairs words caller later h))
+            record {
+              building = can.fair.building;
+              spare = can.fair.spare;
+              merge = can.fair.merge;
+              builds = builds_later t u (grow_between pairs words earlier log h (goes_on_by later)) same next can.fair.building can.fair.builds;
+              few = can.fair.few;
+              one_each = can.fair.one_each;
+            };
+      }
+
+  pair_later : (bases : List ℕ) → LosesPair (state_of pairs words earlier) caller bases
+      → LosesPair (state_of pairs words log) caller bases
+  pair_later bases p =
+      let it = inner_there (state_of pairs words earlier).pieces
+      (state_of pairs words log).pieces (grow_between pairs words earlier log h (goes_on_by later)) p.node p.row p.published in
+      record {
+        pair = p.pair;
+        bases_are = p.bases_are;
+        held = holds_later pairs words caller later h p.pair pair_words p.held;
+        node = p.node;
+        row = it.0;
+        published = it.1;
+        above = p.above;
+      }
+
+  build_later : (bases : List ℕ) → LosesBuild (state_of pairs words earlier) earlier caller bases
+      → LosesBuild (state_of pairs words log) log caller bases
+  build_later bases b = record {
+    sizes = b.sizes;
+    held = bases_later pairs words caller later h bases b.sizes b.held;
+    once = b.once;
+    building = building_later (state_of pairs words earlier)
+        (state_of pairs words log) (grow_between pairs words earlier log h (goes_on_by later)) b.sizes b.building;
+    beaten = beaten_later caller b.sizes later b.beaten;
+  }
+
+  -- a Lose stays enabled
+  pub lose_stays : (bases : List ℕ) → CanLose (state_of pairs words earlier) earlier caller bases
+      → CanLose (state_of pairs words log) log caller bases
+  lose_stays bases can = record {
+    known = known_later (start pairs words) (goes_on_by later) caller can.known;
+    cause = ⊎_elim (λ p. inl (pair_later bases p)) (λ b. inr (build_later bases b)) can.cause;
+  }

@@ -1,20 +1,10 @@
 -- The place of a row that is open and once was in a slot. Serves `laws.open_rows_stand`.
 use Rattle.std.proofs.Common.{List, Option, Some, None, ap, refl, subst, sym, ℕ, ◌∙◌, ◌≡◌, ◌≢◌}
 use Rattle.ist_core.specs.declared.pairs.Pair.{Pair}
-use Rattle.ist_core.specs.Lawful.{CanOpen, EachEnabled, state_of}
-use Rattle.ist_core.specs.Links.{Linked, WasLinked, at_anchor, below}
-use Rattle.ist_core.specs.Logs.{GoesOn, Log}
-use Rattle.ist_core.specs.References.{ChangeAt, Empty, InnerAt, LeafAt, RebuildAt, Ref, Unset, ref_of}
-use Rattle.ist_core.specs.Slots.{IsOpen, SlotHolds, past_change, past_rebuild, rebuild_reads}
-use Rattle.ist_core.specs.Snapshots.{Snapshot}
-use Rattle.ist_core.specs.StartLayout.{start}
-use Rattle.ist_core.proofs.HomeLemmas.{Mentions, mentioned_here, slot_mentions}
-use Rattle.ist_core.proofs.MentionLemmas.{child_mentioned, mentions_stay}
-use Rattle.ist_core.proofs.NamingLemmas.{SlotNames, slot_names}
-use Rattle.ist_core.proofs.OrderLemmas.{names}
-use Rattle.ist_core.proofs.ParentLemmas.{one_home}
-use Rattle.ist_core.proofs.PlaceLemmas.{anchor_free}
-use Rattle.ist_core.proofs.SlotLemmas.{slot_once}
+use Rattle.ist_core.specs.LogTerms.{CanOpen, EachEnabled, state_of, GoesOn, Log, Snapshot}
+use Rattle.ist_core.specs.TreeTerms.{Linked, WasLinked, at_anchor, below}
+use Rattle.ist_core.specs.WordTerms.{ChangeAt, Empty, InnerAt, LeafAt, RebuildAt, Ref, Unset, ref_of, IsOpen, SlotHolds, past_change, past_rebuild, rebuild_reads, start}
+use Rattle.ist_core.proofs.AllPlaceLemmas.{Mentions, mentioned_here, slot_mentions, child_mentioned, mentions_stay, SlotNames, slot_names, names, one_home, anchor_free, slot_once}
 use Rattle.laws_links.proofs.LinkLemmas.{open_linked}
 use Rattle.laws_links.proofs.UntouchedLemmas.{not_the_anchor}
 use Rattle.laws_links.proofs.ReturnLemmas.{one_inner}
@@ -30,12 +20,11 @@ stands_for : (t : Snapshot) (node i word row : ℕ) (ref : Option Ref) → ref_o
     → past_rebuild t.pieces (past_change t.pieces ref) ≡ Some (InnerAt row) → StandsAtRow t word row
 stands_for t node i word row (Some (InnerAt base)) is named reads = its_own (is ∙ reads)
 stands_for t node i word row (Some (ChangeAt base)) is named reads = by_change base is
-stands_for t node i word row (Some (RebuildAt base)) is named reads =
-    by_rebuild base is record {
-      row = named.row;
-      published = named.published;
-      target_is = one_inner named.row.target row (sym (ap rebuild_reads named.published) ∙ reads);
-    }
+stands_for t node i word row (Some (RebuildAt base)) is named reads = by_rebuild base is record {
+  row = named.row;
+  published = named.published;
+  target_is = one_inner named.row.target row (sym (ap rebuild_reads named.published) ∙ reads);
+}
 stands_for t node i word row (Some Empty) is named reads = absurd (cc)
 stands_for t node i word row (Some Unset) is named reads = absurd (cc)
 stands_for t node i word row (Some (LeafAt base)) is named reads = absurd (cc)
@@ -56,8 +45,7 @@ module _ (pairs : List Pair) (words : ℕ) (opens : CanOpen pairs words) where
       t = state_of pairs words log
 
       named : Mentions (state_of pairs words log) node i (InnerAt row)
-      named =
-          mentions_stay pairs words opens earlier log g h node i (InnerAt row) (no_change row)
+      named = mentions_stay pairs words opens earlier log g h node i (InnerAt row) (no_change row)
           (λ e. cc)
           (slot_mentions (state_of pairs words earlier) node i old (InnerAt row) stood was_it)
 
@@ -66,8 +54,7 @@ module _ (pairs : List Pair) (words : ℕ) (opens : CanOpen pairs words) where
       at _ same at_anchor =
           let it = mentioned_here (state_of pairs words log) node i row (names pairs words opens log h) named in
           absurd (not_the_anchor pairs words opens log h row it.0 it.1 (sym same))
-      at _ same (below {node = above} {child = child} j l c) =
-          let u = state_of pairs words log in
+      at _ same (below {node = above} {child = child} j l c) = let u = state_of pairs words log in
           let o = names pairs words opens log h in
           let mention = subst (λ n. Mentions u above j (InnerAt n)) same (child_mentioned u above j child o c) in
           let home = (one_home pairs words opens log h).one above j node i row mention named in

@@ -19,17 +19,12 @@ module _ (pairs : List Pair) where
 
   -- if one key isn't below the next, they aren't strictly increasing
   pub not_rising : (i : ℕ) → 1 ≤ i → i < length pairs → (get_or pairs i no_pair).key ≤
-      (get_or pairs (i - 1) no_pair).key
-      → ¬ (IsStrictlyIncreasing (keys_of pairs))
-  not_rising i some low over rise =
-      let long = length-map pairs (λ pair. pair.key) in
-      let up = rise (i - 1) (omega arith) in
-      let next : i - 1 + 1 ≡ i = omega arith in
+      (get_or pairs (i - 1) no_pair).key → ¬ (IsStrictlyIncreasing (keys_of pairs))
+  not_rising i some low over rise = let long = length-map pairs (λ pair. pair.key) in
+      let up = rise (i - 1) (omega arith) in let next : i - 1 + 1 ≡ i = omega arith in
       let up_to : slice_index (keys_of pairs) (i - 1) < slice_index (keys_of pairs) i = subst
       (λ n. slice_index (keys_of pairs) (i - 1) < slice_index (keys_of pairs) n) next up in
-      let a = key_at (i - 1) (omega arith) in
-      let b = key_at i low in
-      omega arith
+      let a = key_at (i - 1) (omega arith) in let b = key_at i low in omega arith
 
   -- keys that increase up to one increase up to the next, if that is higher
   pub rising_more : (i : ℕ) → 1 ≤ i → i < length pairs → (get_or pairs (i - 1) no_pair).key <
@@ -43,9 +38,7 @@ module _ (pairs : List Pair) where
       split = grind arith
 
       here : k ≡ i - 1 → slice_index (keys_of pairs) k < slice_index (keys_of pairs) (k + 1)
-      here is =
-          let next : k + 1 ≡ i = omega arith in
-          let a = key_at (i - 1) (omega arith) in
+      here is = let next : k + 1 ≡ i = omega arith in let a = key_at (i - 1) (omega arith) in
           let b = key_at i low in
           let up_to : slice_index (keys_of pairs) (i - 1) < slice_index (keys_of pairs) i = omega
           arith in

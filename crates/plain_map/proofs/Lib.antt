@@ -1,6 +1,2 @@
 pub mod RisingLemmas
-pub mod ValueLemmas
 pub mod PlaceLemmas
-pub mod ListingLemmas
-pub mod EntriesLemmas
-pub mod PairCountLemmas

@@ -1,30 +1,33 @@
 -- What a search finds in a list of pairs with increasing keys, and what an edit at that place does
 -- to the list and its map.
-use Rattle.std.proofs.Common.{◌≡◌, ℕ, ◌+◌, ◌-◌, ◌<◌, ◌≤◌, ◌≢◌, ◌==◌, List, length, get_or, set, if◌then◌else◌, Some, None, Result, Ok, Err, IfOk, IfErr, refl, sym, ap, subst, ◌∙◌, arith}
-use Rattle.std.specs.FinMap as fin
+use Rattle.std.proofs.Common.{◌≡◌, ℕ, ◌+◌, ◌-◌, ◌<◌, ◌≤◌, ◌≢◌, ◌==◌, List, length, get_or, set, if◌then◌else◌, Some, None, Result, Ok, Err, IfOk, IfErr, refl, sym, ap, subst, ◌∙◌, arith, suc, Bool, true, false, ◌&&◌, T, [], ◌∷◌, map}
 use Rattle.std.specs.List.{insert, remove}
 use Rattle.std.specs.List.Sorted.{IsSearchInRange, IsBinarySearchResult, IsNonDecreasingBy}
-use Rattle.std.specs.Ordering.{nat_cmp, ordering_index}
-use Rattle.std.specs.Cmp.{unsigned_tied}
+use Rattle.std.specs.Ordering.{nat_cmp, ordering_index, is_lt}
+use Rattle.std.specs.Cmp.{unsigned_tied, nat_cmp_is}
 use Rattle.std.proofs.lemmas.Cmp.{ranked, nat_cmp_total}
 use Rattle.std.proofs.lemmas.List.Sorted.{IsNonDecreasingBy-from_default}
 use Rattle.std.proofs.lemmas.List.Edits.{length-insert, get_or-insert_below, get_or-insert_at, get_or-insert_above, length-remove, get_or-remove_below, get_or-remove_above}
 use Rattle.std.proofs.lemmas.Bool.Decides.{nat_tests}
 use Rattle.std.proofs.lemmas.Grind.{common_steps}
-use Rattle.ist_core.specs.Map.{map_of}
+use Rattle.ist_core.specs.TreeTerms.{map_of, pairs_of, Map, replay}
 use Rattle.ist_core.specs.declared.pairs.Pair.{Pair}
+use Rattle.ist_core.specs.declared.commands.Command.{Command}
 use Rattle.plain_map.specs.Rising.{IsRising}
 use Rattle.plain_map.specs.Place.{key_at, IsAt, IsGapFor}
-use Rattle.plain_map.proofs.RisingLemmas.{key_at-rises, rises_by_steps}
-use Rattle.plain_map.proofs.ValueLemmas.{NoKeyBefore, no_pair, value_in, get-map_of, value_in-absent, value_in-at, value_in-set, value_in-insert, value_in-remove}
+use Rattle.plain_map.proofs.RisingLemmas.{key_at-rises, rises_by_steps, NoKeyBefore, no_pair, value_in, get-map_of, value_in-absent, value_in-at, value_in-set, value_in-insert, value_in-remove}
+use Rattle.std.specs.FinMap.{is_sorted}
+use Rattle.std.specs.FinMap.Entries.{below_all}
+use Rattle.std.specs.declared.cmp.Ordering.TheVariants.{Less}
+use Rattle.ist_core.proofs.AllPlaceLemmas.{pairs-entries, entry, pair, adds_few_keys, length-pairs_of}
+use Rattle.std.specs.FinMap as fin
 
 -- lists with the same values at all keys but one represent maps that differ by a put
 set_from_values : (old new : List Pair) (key value : ℕ)
     → ((q : ℕ) → value_in new q ≡ (if q == key then Some value else value_in old q))
     → map_of new ≡ fin.insert (map_of old) key value
 set_from_values old new key value values =
-    fin.same_map nat_cmp_total fin.nat_cmp-IsAntisymmetric _ _ (λ q.
-    get-map_of new q ∙ values q
+    fin.same_map nat_cmp_total fin.nat_cmp-IsAntisymmetric _ _ (λ q. get-map_of new q ∙ values q
     ∙ sym (fin.get-insert nat_cmp_total (map_of old) key value q
     ∙ rw (unsigned_tied, get-map_of) refl))
 
@@ -33,8 +36,7 @@ gone_from_values : (old new : List Pair) (key : ℕ)
     → ((q : ℕ) → value_in new q ≡ (if q == key then None else value_in old q))
     → map_of new ≡ fin.remove (map_of old) key
 gone_from_values old new key values =
-    fin.same_map nat_cmp_total fin.nat_cmp-IsAntisymmetric _ _ (λ q.
-    get-map_of new q ∙ values q
+    fin.same_map nat_cmp_total fin.nat_cmp-IsAntisymmetric _ _ (λ q. get-map_of new q ∙ values q
     ∙ sym (fin.get-remove nat_cmp_total (map_of old) key q
     ∙ rw (unsigned_tied, get-map_of) refl))
 
@@ -99,8 +101,7 @@ module _ (pairs : List Pair) (rising : IsRising pairs) (key at : ℕ) (here : Is
 
   -- and the others keep their order
   pub rising_remove : IsRising (remove pairs at)
-  rising_remove = rises_by_steps _ (λ i within.
-      let fewer = length-remove pairs at here.within in
+  rising_remove = rises_by_steps _ (λ i within. let fewer = length-remove pairs at here.within in
       let left : (i : ℕ) → i < at → key_at (remove pairs at) i ≡ key_at pairs i =
       λ i before. ap (λ (p : Pair). p.key)
       (get_or-remove_below pairs at no_pair i before here.within) in
@@ -170,3 +171,48 @@ module _ (pairs : List Pair) (key at : ℕ) (gap : IsGapFor pairs key at) where
         gap.below i,
         gap.above i,
       ))
+
+-- ---- the pairs of a map are the list that it was made of, if the keys of that list are strictly
+-- increasing; and the map of its pairs is the map.
+
+-- two tests that pass, pass together
+both : (a b : Bool) → T a → T b → T (a && b)
+both true b first second = second
+both false b first second = absurd first
+
+-- a key below each of some pairs is below their entries
+below_entries : (key : ℕ) (pairs : List Pair) → ((j : ℕ) → j < length pairs → key < key_at pairs j)
+    → T (below_all nat_cmp key (map entry pairs))
+below_entries key [] below = tt
+below_entries key (p ∷ pairs) below =
+    subst (λ r. T (is_lt r && below_all nat_cmp key (map entry pairs)))
+    (nat_cmp_is key p.key Less (below 0 (omega arith)))
+    (below_entries key pairs (λ j within. below (suc j) (omega arith)))
+
+-- entries of pairs with increasing keys are in order
+sorted_entries : (pairs : List Pair)
+    → ((i j : ℕ) → i < j → j < length pairs → key_at pairs i < key_at pairs j)
+    → T (is_sorted nat_cmp (map entry pairs))
+sorted_entries [] rises = tt
+sorted_entries (p ∷ pairs) rises =
+    both _ _ (below_entries p.key pairs (λ j within. rises 0 (suc j) (omega arith) (omega arith)))
+    (sorted_entries pairs (λ i j before within. rises (suc i) (suc j) (omega arith) (omega arith)))
+
+-- the map of pairs with increasing keys has them as its pairs
+pub pairs_of-map_of : (pairs : List Pair) → IsRising pairs → pairs_of (map_of pairs) ≡ pairs
+pairs_of-map_of pairs rising = let es = map entry pairs in
+    let sorted = sorted_entries pairs (key_at-rises pairs rising) in
+    let same : map_of pairs ≡ fin.from_sorted es =
+    fin.same_map nat_cmp_total fin.nat_cmp-IsAntisymmetric _ _ (λ q.
+    fin.get-from_entries nat_cmp_total es q ∙ sym (fin.get-from_sorted nat_cmp es q sorted)) in
+    ap (λ m. map pair (fin.entries m)) same
+    ∙ ap (map pair) (fin.entries-from_sorted nat_cmp es sorted) ∙ pairs-entries pairs
+
+-- ---- how many keys and pairs a map has, also after commands.
+
+-- commands add at most as many pairs as there are commands
+pub adds_few_pairs : (m : Map) (cs : List Command)
+    → length (pairs_of (replay m cs)) ≤ length (pairs_of m) + length cs
+adds_few_pairs m cs =
+    (let few = adds_few_keys m cs in let one = length-pairs_of m in
+    let two = length-pairs_of (replay m cs) in omega arith)

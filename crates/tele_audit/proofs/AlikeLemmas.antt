@@ -2,10 +2,8 @@
 use Rattle.std.proofs.Common.{◌≡◌, ℕ, ◌+◌, ◌*◌, ◌≤◌, ◌==◌, if◌then◌else◌, true, is_some, List, [], ◌∷◌, ◌++◌, slice_range, Option, Some, None, refl, sym, ap, ◌∙◌, subst, arith}
 use Rattle.std.specs.List.Sorted.{IsStrictlyIncreasing}
 use Rattle.ist_core.specs.declared.pairs.Pair.{Pair}
-use Rattle.ist_core.specs.RowLayout.{next_place, change_to_offset, change_from_offset}
-use Rattle.ist_core.specs.References.{Ref, Empty, Unset, LeafAt, InnerAt, ChangeAt, RebuildAt, ref_of}
-use Rattle.ist_core.specs.Statuses.{status_of, decided_yes}
-use Rattle.ist_core.specs.Elements.{Each}
+use Rattle.ist_core.specs.WordTerms.{next_place, change_to_offset, change_from_offset, Ref, Empty, Unset, LeafAt, InnerAt, ChangeAt, RebuildAt, ref_of, status_of, decided_yes}
+use Rattle.ist_core.specs.LogTerms.{Each}
 use Rattle.ist_rest.specs.WordRows.{word_at, row_degree, row_keys, row_slots, side_in, past_change_in, past_rebuild_in, reads_in, rows_on, change_on, rebuild_on, Span, IsWithinUsed}
 use Rattle.ist_rest.specs.Walks.{Visit, LeadsBy, HasDecision, IsGoodRow, IsGoodAs, IsGood, row_read, rows_read, pairs_read, visits_from, visits_below, Walks, ends, goes_on, AreApart}
 use Rattle.ist_rest.specs.RestingWords.{read_on, BreaksFirstAt, breaks, later}
@@ -20,17 +18,14 @@ pub record AreAlike (a b : List ℕ) : Type 0 where
 
 -- words that agree also agree the other way round
 pub flip : (a b : List ℕ) → AreAlike a b → AreAlike b a
-flip a b h =
-    record {
-      same = λ place. sym (h.same place);
-      range = λ from to less. let n = h.same next_place in sym (h.range from to (omega arith));
-    }
+flip a b h = record {
+  same = λ place. sym (h.same place);
+  range = λ from to less. let n = h.same next_place in sym (h.range from to (omega arith));
+}
 
 module _ (a b : List ℕ) (h : AreAlike a b) where
   side_same : (base : ℕ) → side_in a base ≡ side_in b base
-  side_same base =
-      let x = h.same base in
-      let y = h.same (base + change_to_offset) in
+  side_same base = let x = h.same base in let y = h.same (base + change_to_offset) in
       let z = h.same (base + change_from_offset) in
       ap (λ n. if n == decided_yes then word_at a (base + change_to_offset) else word_at a
       (base + change_from_offset)) x
@@ -85,17 +80,13 @@ module _ (a b : List ℕ) (h : AreAlike a b) where
 
   keys_same : (visit : Visit) (base : ℕ) → IsGoodRow a visit.node base
       → row_keys a base ≡ row_keys b base
-  keys_same visit base g =
-      let w = g.within in
-      let y = w.below_next in
+  keys_same visit base g = let w = g.within in let y = w.below_next in
       h.range (base + 4) (base + 3 + row_degree a base) (omega arith)
       ∙ ap (λ d. slice_range b (base + 4) (base + 3 + d)) (degree_same base)
 
   slots_same : (visit : Visit) (base : ℕ) → IsGoodRow a visit.node base
       → row_slots a base ≡ row_slots b base
-  slots_same visit base g =
-      let w = g.within in
-      let y = w.below_next in
+  slots_same visit base g = let w = g.within in let y = w.below_next in
       h.range (base + 3 + row_degree a base) (base + 3 + row_degree a base + row_degree a base)
       (omega arith)
       ∙ ap (λ d. slice_range b (base + 3 + d) (base + 3 + d + d)) (degree_same base)
@@ -103,22 +94,13 @@ module _ (a b : List ℕ) (h : AreAlike a b) where
   good_same : (visit : Visit) (ref : Ref) → IsGoodAs a visit ref → IsGoodAs b visit ref
   good_same visit Empty g = tt
   good_same visit Unset g = g
-  good_same visit (LeafAt base) g =
-      record {
-        within = within_same record { base = base; size = 2 } g.within;
-        lies =
-            subst (λ k. Each (LeadsBy k) visit.ways) (h.same base) g.lies;
-      }
-  good_same visit (InnerAt base) g =
-      let d = degree_same base in
-      let z = h.same (base + 3) in
-      let two = g.degree in
-      let big = g.size in
-      let w = g.within in
-      let n = h.same next_place in
-      let x = w.after_fixed in
-      let y = w.below_next in
-      record {
+  good_same visit (LeafAt base) g = record {
+    within = within_same record { base = base; size = 2 } g.within;
+    lies = subst (λ k. Each (LeadsBy k) visit.ways) (h.same base) g.lies;
+  }
+  good_same visit (InnerAt base) g = let d = degree_same base in let z = h.same (base + 3) in
+      let two = g.degree in let big = g.size in let w = g.within in let n = h.same next_place in
+      let x = w.after_fixed in let y = w.below_next in record {
         within = record { after_fixed = omega arith; below_next = omega arith };
         status = subst (λ s. is_some (status_of s) ≡ true) (h.same base) g.status;
         degree = omega arith;
@@ -130,17 +112,16 @@ module _ (a b : List ℕ) (h : AreAlike a b) where
   good_same visit (RebuildAt base) g = g
 
   abbrev shape_same : (visit : Visit) (at : IsGood a visit) → IsGood b visit
-  shape_same visit at =
-      record {
-        ref = at.ref;
-        reads = record {
-          decision = decision_same (ref_of visit.word) at.reads.decision;
-          through = subst (Each (IsWithinUsed b)) (on_same (ref_of visit.word))
-              (all_within (rows_on a (ref_of visit.word)) at.reads.through);
-          is = sym (reads_same visit.word) ∙ at.reads.is;
-        };
-        good = good_same visit at.ref at.good;
-      }
+  shape_same visit at = record {
+    ref = at.ref;
+    reads = record {
+      decision = decision_same (ref_of visit.word) at.reads.decision;
+      through = subst (Each (IsWithinUsed b)) (on_same (ref_of visit.word))
+          (all_within (rows_on a (ref_of visit.word)) at.reads.through);
+      is = sym (reads_same visit.word) ∙ at.reads.is;
+    };
+    good = good_same visit at.ref at.good;
+  }
 
   read_same : (ref : Ref) → row_read a ref ≡ row_read b ref
   read_same (InnerAt base) = ap (λ d. record { base = base; size = 2 * d + 3 } ∷ [])
@@ -153,14 +134,11 @@ module _ (a b : List ℕ) (h : AreAlike a b) where
 
   -- words that agree have the same rows at a slot
   pub rows_same : (visit : Visit) (ref : Ref) → rows_read a visit ref ≡ rows_read b visit ref
-  rows_same visit ref =
-      ap (λ xs. xs ++ row_read a ref) (on_same (ref_of visit.word))
+  rows_same visit ref = ap (λ xs. xs ++ row_read a ref) (on_same (ref_of visit.word))
       ∙ ap (λ xs. rows_on b (ref_of visit.word) ++ xs) (read_same ref)
 
   pairs_same : (ref : Ref) → pairs_read a ref ≡ pairs_read b ref
-  pairs_same (LeafAt base) =
-      let k = h.same base in
-      let v = h.same (base + 1) in
+  pairs_same (LeafAt base) = let k = h.same base in let v = h.same (base + 1) in
       ap (λ n. record { key = n; value = word_at a (base + 1) } ∷ []) k
       ∙ ap (λ n. record { key = word_at b base; value = n } ∷ []) v
   pairs_same Empty = refl

@@ -4,8 +4,7 @@ use Rattle.std.proofs.lemmas.List.{append_assoc, append-nil, get_or-replicate, l
 use Rattle.std.proofs.lemmas.List.Sums.{sum_by-append, sum_by-cons}
 use Rattle.std.specs.List.{sum_by}
 use Rattle.ist_core.specs.declared.pairs.Pair.{Pair}
-use Rattle.ist_core.specs.RowLayout.{next_place}
-use Rattle.ist_core.specs.References.{Ref, Empty, Unset, LeafAt, InnerAt, ChangeAt, RebuildAt, ref_of}
+use Rattle.ist_core.specs.WordTerms.{next_place, Ref, Empty, Unset, LeafAt, InnerAt, ChangeAt, RebuildAt, ref_of}
 use Rattle.ist_rest.specs.declared.slots.SlotLeft.{SlotLeft}
 use Rattle.tele_audit.specs.declared.tasks.AuditTask.{AuditTask}
 use Rattle.ist_rest.specs.WordRows.{word_at, row_degree, row_keys, row_slots, rows_on, reads_in}
@@ -33,9 +32,7 @@ next_task : (visits : List Visit) (ts : List AuditTask) → AreTasksOf visits ts
 next_task _ _ no_task task tasks e = absurd (cc)
 next_task _ _ (one_task {visit = visit} {visits = vs} {task = t} {tasks = ts} one more) task tasks
     e =
-    let same : t ≡ task = cc in
-    let rest : ts ≡ tasks = cc in
-    record {
+    let same : t ≡ task = cc in let rest : ts ≡ tasks = cc in record {
       visit = visit;
       rest = vs;
       visits_are = refl;
@@ -64,8 +61,7 @@ module _ (words : List ℕ) (bounds : HasGoodBounds words) where
         word = word_at words 3;
         node = 2;
         low = 0;
-        high =
-            None;
+        high = None;
       } in
       let f = given
       ∙ ap (λ k. none ++ record { place = 3; word = first; node = k; low = 0; high = None } ∷ []) is
@@ -75,8 +71,7 @@ module _ (words : List ℕ) (bounds : HasGoodBounds words) where
       let one : IsTaskOf (first_visit words) task = record {
         place = refl;
         word = refl;
-        node =
-            refl;
+        node = refl;
         leads = λ key. ((λ h. tt), (λ h. (omega arith, tt)));
       } in
       let l : length marks ≡ word_at words next_place = ap length m
@@ -98,8 +93,7 @@ module _ (words : List ℕ) (bounds : HasGoodBounds words) where
         whole = λ rows pairs w apart. subst (λ (ps : List Pair). AreLawful words (ps ++ pairs))
             (sym g) record {
               holds = record { bounds = bounds; rows = rows; walk = w };
-              apart =
-                  apart;
+              apart = apart;
             };
         broken = λ place b. b;
       }
@@ -111,26 +105,22 @@ module _ (words : List ℕ) (bounds : HasGoodBounds words) where
   pub audit_step : (marks new : List Bool) (left ys more : List AuditTask)
       (found pairs : List Pair) (task : AuditTask) → HasAudited words marks left found
       → left ≡ ys ++ task ∷ [] → PassesSlot words task marks new ys more found pairs
-      → length new ≡ length marks
-      → HasAudited words new more pairs
+      → length new ≡ length marks → HasAudited words new more pairs
   audit_step marks new left ys more found pairs task h e p long =
       let it = next_task h.visits (reverse left) h.tasks task (reverse ys)
       (turned left ys task e) in
-      let ref = p.ref in
-      let visit = it.visit in
+      let ref = p.ref in let visit = it.visit in
       let good : IsGood words visit =
       record {
         ref = ref;
         reads = subst (λ w. Reads words w ref) it.is.word p.reads;
-        good =
-            p.good visit it.is;
+        good = p.good visit it.is;
       } in
       let rows : rows_on words (ref_of task.word) ++ row_read words ref ≡ rows_read words visit
       ref = ap (λ w. rows_on words (ref_of w) ++ row_read words ref) it.is.word in
       let claimed = subst (λ rs. AreApart h.seen rs × AreMarked new (read_on h.seen rs)) rows
       (p.claimed.all h.seen h.marked) in
-      let below_all = below_tasks words visit task ref bounds.high it.is good.good in
-      record {
+      let below_all = below_tasks words visit task ref bounds.high it.is good.good in record {
         seen = read_on h.seen (rows_read words visit ref);
         visits = visits_below words visit ref ++ it.rest;
         long = long ∙ h.long;
@@ -197,11 +187,8 @@ below_less : (words : List ℕ) (visit : Visit) (task : AuditTask) (ref : Ref)
     → IsGoodAs words visit ref → reads_in words task.word ≡ Some ref
     → work_left words (map slot_of_task (tasks_below words task ref)) < work_of words
     (slot_of_task task)
-below_less words visit task (InnerAt base) used is good e =
-    let within = good.within in
-    let room = within.below_next in
-    let up = good.above in
-    let n = is.node in
+below_less words visit task (InnerAt base) used is good e = let within = good.within in
+    let room = within.below_next in let up = good.above in let n = is.node in
     let less = row_falls words task.word task.node base (omega arith) (omega arith) e in
     subst (λ ss. work_left words ss < work_of words (slot_of_task task))
     (sym (slots_of_tasks base task (row_keys words base) 0 (base + 3 + row_degree words base)
@@ -223,15 +210,8 @@ audit_less words bounds marks new left ys more found pairs task h e p =
     let less = below_less words it.visit task p.ref bounds.high it.is (p.good it.visit it.is)
     p.reads.is in
     let f : AuditTask → ℕ = λ t. work_of words (slot_of_task t) in
-    let bs = tasks_below words task p.ref in
-    let a = sum_by-append f ys (reverse bs) in
-    let b = sum_reverse f bs in
-    let c = sum_by-append f ys (task ∷ []) in
-    let d = sum_by-cons f task [] in
-    let n : sum_by f [] ≡ 0 = refl in
-    let x = ap (sum_by f) e in
-    let y = ap (sum_by f) p.tasks in
-    let s = sum_map (work_of words) bs in
-    let u = sum_map (work_of words) more in
-    let v = sum_map (work_of words) left in
-    omega arith
+    let bs = tasks_below words task p.ref in let a = sum_by-append f ys (reverse bs) in
+    let b = sum_reverse f bs in let c = sum_by-append f ys (task ∷ []) in
+    let d = sum_by-cons f task [] in let n : sum_by f [] ≡ 0 = refl in let x = ap (sum_by f) e in
+    let y = ap (sum_by f) p.tasks in let s = sum_map (work_of words) bs in
+    let u = sum_map (work_of words) more in let v = sum_map (work_of words) left in omega arith

@@ -5,7 +5,7 @@ use Rattle.std.specs.Cmp.Lexicographic.{same_text}
 use Rattle.std.proofs.lemmas.Bool.Decides.{nat_tests}
 use Rattle.std.proofs.lemmas.List.{take-append-drop, length-drop, length-append, length-replicate, take_at, drop-drop, get_or_append_left}
 use Rattle.ist_core.specs.declared.pairs.Pair.{Pair}
-use Rattle.ist_core.specs.RowLayout.{first_row, place_limit, next_place, anchor_status_place}
+use Rattle.ist_core.specs.WordTerms.{first_row, place_limit, next_place, anchor_status_place}
 use Rattle.ist_rest.specs.WordRows.{word_at}
 use Rattle.tele_audit.specs.WordLaws.{ZerosChangeNothing}
 use Rattle.ist_rest.specs.RestingWords.{HasGoodBounds, AreLawful, BreaksFirstAt}
@@ -61,8 +61,7 @@ good_head bytes e =
     let p = picked (starts_with nat_eq bytes magic) (nat_lt (length bytes) 16)
     (is_out first_row place_limit (count_told bytes)) (nat_lt (length bytes) 24)
     (is_out first_row (count_told bytes) (used_told bytes)) e in
-    let t = p.long in
-    record {
+    let t = p.long in record {
       begins = p.begins;
       long = grind (arith, nat_tests);
       count = in_bounds first_row place_limit (count_told bytes) p.count;
@@ -95,12 +94,10 @@ sized false false e = (refl, refl)
 -- the length is a dump's
 pub good_length : (bytes : List ℕ) → length_flaw bytes ≡ None
     → length bytes ≡ dump_length (used_told bytes)
-good_length bytes e =
-    let n = dump_length (used_told bytes) in
+good_length bytes e = let n = dump_length (used_told bytes) in
     let p = sized (nat_lt (length bytes) n) (nat_lt n (length bytes)) e in
     let a : nat_lt (length bytes) n ≡ false = p.0 in
-    let b : nat_lt n (length bytes) ≡ false = p.1 in
-    grind (arith, nat_tests)
+    let b : nat_lt n (length bytes) ≡ false = p.1 in grind (arith, nat_tests)
 
 -- ---- the words of a dump
 
@@ -132,19 +129,14 @@ module _ (bytes : List ℕ) (head : IsGoodHead bytes)
 
   -- the first of them says so
   pub first_told : word_at (words_told bytes) next_place ≡ used_told bytes
-  first_told =
-      let some = head.used.0 in
+  first_told = let some = head.used.0 in
       get_or_numbers_in (used_told bytes) (drop 16 bytes) 0 (omega arith)
 
   -- they are in bounds if the anchor is open
   pub bounds_told : word_at (words_told bytes) anchor_status_place ≡ 0
       → HasGoodBounds (words_told bytes)
-  bounds_told open_anchor =
-      let l = length_told in
-      let f = first_told in
-      let u = head.used in
-      let c = head.count in
-      record {
+  bounds_told open_anchor = let l = length_told in let f = first_told in let u = head.used in
+      let c = head.count in record {
         least = omega arith;
         most = omega arith;
         low = omega arith;
@@ -155,35 +147,27 @@ module _ (bytes : List ℕ) (head : IsGoodHead bytes)
 
   -- the whole table has as many words as the dump says
   pub length_table : length (table_told bytes) ≡ count_told bytes
-  length_table =
-      let l = length_told in
+  length_table = let l = length_told in
       let a = length-append (words_told bytes) (replicate (count_told bytes - used_told bytes) 0) in
-      let r = length-replicate (count_told bytes - used_told bytes) zero in
-      let u = head.used in
+      let r = length-replicate (count_told bytes - used_told bytes) zero in let u = head.used in
       omega arith
 
   -- the first word of the table
   pub first_table : word_at (table_told bytes) next_place ≡ used_told bytes
-  first_table =
-      let l = length_told in
-      let u = head.used in
+  first_table = let l = length_told in let u = head.used in
       get_or_append_left (words_told bytes) (replicate (count_told bytes - used_told bytes) 0) 0 0
       (omega arith)
       ∙ first_told
 
   -- its used words
   pub used_table : used_words (table_told bytes) ≡ words_told bytes
-  used_table =
-      ap (λ n. take n (table_told bytes)) first_table
+  used_table = ap (λ n. take n (table_told bytes)) first_table
       ∙ take_at (words_told bytes) (replicate (count_told bytes - used_told bytes) 0)
       (used_told bytes) length_told
 
   -- the bytes are its dump
   pub dumped_table : AreBytes bytes → bytes ≡ dump_of (table_told bytes)
-  dumped_table are =
-      let u = head.used in
-      let long = head.long in
-      let l8 = length-drop 8 bytes in
+  dumped_table are = let u = head.used in let long = head.long in let l8 = length-drop 8 bytes in
       let l16 = length-drop 16 bytes in
       let first : take 8 bytes ≡ magic = begin_magic bytes head.begins in
       let count : take 8 (drop 8 bytes) ≡ number_bytes (length (table_told bytes)) =
@@ -207,35 +191,29 @@ module _ (bytes : List ℕ) (head : IsGoodHead bytes)
         × ((place : ℕ)
         → BreaksFirstAt (words_told bytes) [] (first_visit (words_told bytes) ∷ []) place
         → BreaksFirstAt (table_told bytes) [] (first_visit (table_told bytes) ∷ []) place)
-    following =
-        let l = length_told in
-        let u = head.used in
-        let c = head.count in
+    following = let l = length_told in let u = head.used in let c = head.count in
         zeros (words_told bytes) (count_told bytes - used_told bytes) (omega arith)
         (first_told ∙ sym length_told) (omega arith)
 
     -- the report of bytes whose words are lawful
-    pub told_lawfully : AreBytes bytes
-        → ((place : ℕ) → word_at (words_told bytes) place < 2 ^ 64)
+    pub told_lawfully : AreBytes bytes → ((place : ℕ) → word_at (words_told bytes) place < 2 ^ 64)
         → (told : DumpContent) → told.words ≡ count_told bytes → told.used ≡ used_told bytes
         → AreLawful (words_told bytes) told.pairs → IsLawfulDump bytes told
-    told_lawfully are fit told count used lawful =
-        record {
-          table = table_told bytes;
-          fit = fit_zeros (words_told bytes) (count_told bytes - used_told bytes) fit;
-          lawful = following.0 told.pairs lawful;
-          dumped = dumped_table are;
-          words = count ∙ sym length_table;
-          used = used ∙ sym first_table;
-        }
+    told_lawfully are fit told count used lawful = record {
+      table = table_told bytes;
+      fit = fit_zeros (words_told bytes) (count_told bytes - used_told bytes) fit;
+      lawful = following.0 told.pairs lawful;
+      dumped = dumped_table are;
+      words = count ∙ sym length_table;
+      used = used ∙ sym first_table;
+    }
 
     -- where the words of the table break
     pub told_broken : word_at (words_told bytes) anchor_status_place ≡ 0
         → head_flaw bytes ≡ None → length_flaw bytes ≡ None → (place : ℕ)
         → BreaksFirstAt (words_told bytes) [] (first_visit (words_told bytes) ∷ []) place
         → BreaksAtRow bytes place
-    told_broken open_anchor h l place first =
-        record {
-          before = none_before bytes h l open_anchor;
-          breaks = following.1 place first;
-        }
+    told_broken open_anchor h l place first = record {
+      before = none_before bytes h l open_anchor;
+      breaks = following.1 place first;
+    }

@@ -4,7 +4,7 @@ use Rattle.std.specs.List.{starts_with}
 use Rattle.std.proofs.lemmas.Bool.Decides.{nat_tests}
 use Rattle.std.proofs.lemmas.Option.{IfSome_then}
 use Rattle.std.proofs.lemmas.List.{take-append-le, length-append, append-nil}
-use Rattle.ist_core.specs.RowLayout.{first_row, place_limit}
+use Rattle.ist_core.specs.WordTerms.{first_row, place_limit}
 use Rattle.tele_audit.specs.declared.flaws.Flaw.{Flaw}
 use Rattle.tele_audit.specs.declared.flaws.Flaw.TheVariants.{Magic, Short, Size, Used, Long, Anchor, Row}
 use Rattle.tele_audit.specs.Dumps.{magic}
@@ -64,8 +64,7 @@ first_is bytes (Row place) p e = absurd p
 
 first_of_head : (bytes : List ℕ) (flaw : Flaw) → head_flaw bytes ≡ Some flaw
     → IsFirstFlaw bytes flaw
-first_of_head bytes flaw e =
-    first_is bytes flaw
+first_of_head bytes flaw e = first_is bytes flaw
     (plain_head (starts_with nat_eq bytes magic) (nat_lt (length bytes) 16)
     (is_out first_row place_limit (count_told bytes)) (nat_lt (length bytes) 24)
     (is_out first_row (count_told bytes) (used_told bytes)) flaw e)
@@ -73,8 +72,7 @@ first_of_head bytes flaw e =
 
 first_of_length : (bytes : List ℕ) (flaw : Flaw) → head_flaw bytes ≡ None
     → length_flaw bytes ≡ Some flaw → IsFirstFlaw bytes flaw
-first_of_length bytes flaw h e =
-    first_is bytes flaw
+first_of_length bytes flaw h e = first_is bytes flaw
     (plain_length (nat_lt (length bytes) (dump_length (used_told bytes)))
     (nat_lt (dump_length (used_told bytes)) (length bytes)) flaw e)
     (ap (λ f. flaw_or f (flaw_or (length_flaw bytes) (anchor_flaw bytes))) h
@@ -88,16 +86,14 @@ same_side n m bound a b = grind (arith, nat_tests)
 
 -- the head is determined by its first 24 bytes
 pub head_front : (xs ys : List ℕ) → 24 ≤ length xs → head_flaw (xs ++ ys) ≡ head_flaw xs
-head_front xs ys long =
-    let l = length-append xs ys in
+head_front xs ys long = let l = length-append xs ys in
     let m : starts_with nat_eq (xs ++ ys) magic ≡ starts_with nat_eq xs magic =
     rw (take-append-le 8 xs ys (omega arith)) refl in
     let s : nat_lt (length (xs ++ ys)) 16 ≡ nat_lt (length xs) 16 =
     same_side (length xs) (length (xs ++ ys)) 16 (omega arith) (omega arith) in
     let t : nat_lt (length (xs ++ ys)) 24 ≡ nat_lt (length xs) 24 =
     same_side (length xs) (length (xs ++ ys)) 24 (omega arith) (omega arith) in
-    let c = count_front xs ys long in
-    let u = used_front xs ys long in
+    let c = count_front xs ys long in let u = used_front xs ys long in
     let z : is_out first_row place_limit (count_told (xs ++ ys))
     ≡ is_out first_row place_limit (count_told xs) = ap (is_out first_row place_limit) c in
     let o : is_out first_row (count_told (xs ++ ys)) (used_told (xs ++ ys))
@@ -116,16 +112,14 @@ head_front xs ys long =
 -- bytes past the end are too many, however many follow
 long_front : (xs ys : List ℕ) → 24 ≤ length xs → dump_length (used_told xs) + 1 ≤ length xs
     → (length_flaw xs ≡ Some Long) × (length_flaw (xs ++ ys) ≡ Some Long)
-long_front xs ys long more =
-    let l = length-append xs ys in
+long_front xs ys long more = let l = length-append xs ys in
     let u = used_front xs ys long in (
       too_long (length xs) (dump_length (used_told xs)) (omega arith),
       too_long (length (xs ++ ys)) (dump_length (used_told (xs ++ ys))) (omega arith),
     )
   where
     too_long : (n d : ℕ) → d + 1 ≤ n → length_by (nat_lt n d) (nat_lt d n) ≡ Some Long
-    too_long n d h =
-        let a : nat_lt n d ≡ false = grind (arith, nat_tests) in
+    too_long n d h = let a : nat_lt n d ≡ false = grind (arith, nat_tests) in
         let b : nat_lt d n ≡ true = grind (arith, nat_tests) in
         ap (λ x. length_by x (nat_lt d n)) a ∙ ap (λ x. length_by false x) b
 
@@ -134,8 +128,7 @@ long_front xs ys long more =
 -- if nothing is left, all was taken
 all_taken : (rest taken bytes : List ℕ) (now : Option (List ℕ)) → now ≡ Some rest
     → taken ++ rest ≡ bytes → now ≡ Some [] → taken ≡ bytes
-all_taken rest taken bytes now is same end =
-    let none : rest ≡ [] = cc in
+all_taken rest taken bytes now is same end = let none : rest ≡ [] = cc in
     sym (append-nil taken) ∙ ap (λ xs. taken ++ xs) (sym none) ∙ same
 
 -- a fact on the bytes taken first, followed by those left then, is a fact on all bytes
@@ -151,8 +144,7 @@ pub head_flaw_of_all : (start now : Option (List ℕ)) (taken : List ℕ) (flaw 
     → TakesBytes start now [] taken → IfSome start (λ _. AreEnough now 24 taken)
     → head_flaw taken ≡ Some flaw → IfSome start (λ bytes. IsFirstFlaw bytes flaw)
 head_flaw_of_all None now taken flaw h enough e = tt
-head_flaw_of_all (Some bytes) now taken flaw h enough e =
-    ⊎_elim
+head_flaw_of_all (Some bytes) now taken flaw h enough e = ⊎_elim
     (λ long. subst (λ xs. IsFirstFlaw xs flaw) h.2
     (first_of_head (taken ++ h.0) flaw (head_front taken h.0 long ∙ e)))
     (λ end. subst (λ xs. IsFirstFlaw xs flaw) (all_taken h.0 taken bytes now h.1 h.2 end)
@@ -167,12 +159,9 @@ pub length_flaw_of_all : (mid now : Option (List ℕ)) (taken more : List ℕ) (
     → IfSome mid (λ left. IsFirstFlaw (taken ++ left) flaw)
 length_flaw_of_all None now taken more flaw k enough head e = tt
 length_flaw_of_all (Some left) now taken more flaw k enough head e =
-    let long = (good_head more head).long in
-    ⊎_elim
-    (λ past.
-    let both = long_front more k.0 long past in
-    let which : Some Long ≡ Some flaw = sym both.0 ∙ e in
-    subst (λ xs. IsFirstFlaw xs flaw) k.2
+    let long = (good_head more head).long in ⊎_elim
+    (λ past. let both = long_front more k.0 long past in
+    let which : Some Long ≡ Some flaw = sym both.0 ∙ e in subst (λ xs. IsFirstFlaw xs flaw) k.2
     (first_of_length (more ++ k.0) flaw (head_front more k.0 long ∙ head)
     (both.1 ∙ which)))
     (λ end. subst (λ xs. IsFirstFlaw xs flaw)
@@ -183,12 +172,9 @@ length_flaw_of_all (Some left) now taken more flaw k enough head e =
 pub all_of_length : (mid now : Option (List ℕ)) (taken more : List ℕ)
     → TakesBytes mid now taken more
     → IfSome mid (λ _. AreEnough now (dump_length (used_told more) + 1) more)
-    → length_flaw more ≡ None
-    → IfSome mid (λ left. (more ≡ taken ++ left) × (now ≡ Some []))
+    → length_flaw more ≡ None → IfSome mid (λ left. (more ≡ taken ++ left) × (now ≡ Some []))
 all_of_length None now taken more k enough e = tt
-all_of_length (Some left) now taken more k enough e =
-    let exact = good_length more e in
-    ⊎_elim
+all_of_length (Some left) now taken more k enough e = let exact = good_length more e in ⊎_elim
     (λ past. absurd (omega arith))
     (λ end. (all_taken k.0 more (taken ++ left) now k.1 k.2 end, end))
     enough
@@ -225,8 +211,7 @@ module _ {mid now : Option (List ℕ)} {taken more first second : List ℕ} {use
   head_more = extended_head taken more h.extends h.head
 
   used_more : used ≡ used_told more
-  used_more =
-      h.used_is ∙ ap (λ xs. number_encoded (drop 16 xs)) h.first_is
+  used_more = h.used_is ∙ ap (λ xs. number_encoded (drop 16 xs)) h.first_is
       ∙ sym (extended_used taken more h.extends h.head)
 
   enough_more : IfSome mid (λ _. AreEnough now (dump_length (used_told more) + 1) more)
@@ -236,14 +221,12 @@ module _ {mid now : Option (List ℕ)} {taken more first second : List ℕ} {use
   -- a flaw that was found is the first flaw of all bytes
   pub reached_flaw : (flaw : Flaw) → found ≡ Some flaw
       → IfSome mid (λ left. IsFirstFlaw (taken ++ left) flaw)
-  reached_flaw flaw is =
-      length_flaw_of_all mid now taken more flaw h.takes enough_more head_more
+  reached_flaw flaw is = length_flaw_of_all mid now taken more flaw h.takes enough_more head_more
       (ap length_flaw (sym h.second_is) ∙ sym h.found_is ∙ is)
 
   -- if no flaw was found, all bytes were taken
   reached_all : found ≡ None → IfSome mid (λ left. (more ≡ taken ++ left) × (now ≡ Some []))
-  reached_all is =
-      all_of_length mid now taken more h.takes enough_more
+  reached_all is = all_of_length mid now taken more h.takes enough_more
       (ap length_flaw (sym h.second_is) ∙ sym h.found_is ∙ is)
 
   -- then what is so of the bytes that were taken is so of all

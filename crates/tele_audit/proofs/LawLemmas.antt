@@ -4,8 +4,8 @@ use Rattle.std.specs.List.{flat_map}
 use Rattle.std.proofs.lemmas.Bool.Decides.{nat_tests}
 use Rattle.std.proofs.lemmas.List.{take-append-drop, length-drop, length-append, length-take-le, drop_at, drop-drop, append-nil, get_or-drop, get_or-take}
 use Rattle.ist_core.specs.declared.pairs.Pair.{Pair}
-use Rattle.ist_core.specs.Map.{pairs_between}
-use Rattle.ist_core.specs.RowLayout.{first_row, place_limit, next_place, anchor_status_place}
+use Rattle.ist_core.specs.TreeTerms.{pairs_between}
+use Rattle.ist_core.specs.WordTerms.{first_row, place_limit, next_place, anchor_status_place}
 use Rattle.ist_rest.specs.WordRows.{word_at}
 use Rattle.tele_audit.specs.WordLaws.{PairsAreOne, LawfulWordsBreakNowhere, BreaksAreOne}
 use Rattle.ist_rest.specs.RestingWords.{HasGoodBounds, AreLawful, AreListed, BreaksFirstAt}
@@ -21,16 +21,13 @@ use Rattle.tele_lines.proofs.NumberLemmas.{not_below}
 zeros_are : (xs : List ℕ) → ((i : ℕ) → i < length xs → get_or xs i 0 ≡ 0)
     → xs ≡ replicate (length xs) 0
 zeros_are [] h = refl
-zeros_are (x ∷ xs) h =
-    ap (λ (y : ℕ). y ∷ xs) (h 0 (omega arith))
+zeros_are (x ∷ xs) h = ap (λ (y : ℕ). y ∷ xs) (h 0 (omega arith))
     ∙ ap (λ (ys : List ℕ). 0 ∷ ys) (zeros_are xs (λ i less. h (suc i) (omega arith)))
 
 -- a test that a number within bounds passes
 not_out : (low high n : ℕ) → low ≤ n → n ≤ high → is_out low high n ≡ false
-not_out low high n a b =
-    let x : nat_lt n low ≡ false = grind (arith, nat_tests) in
-    let y : nat_lt high n ≡ false = grind (arith, nat_tests) in
-    ap (λ t. t || nat_lt high n) x ∙ y
+not_out low high n a b = let x : nat_lt n low ≡ false = grind (arith, nat_tests) in
+    let y : nat_lt high n ≡ false = grind (arith, nat_tests) in ap (λ t. t || nat_lt high n) x ∙ y
 
 -- ---- what a dump says
 
@@ -49,16 +46,13 @@ module _ (table : List ℕ) (bounds : HasGoodBounds table)
       drop_at magic (number_bytes (length table) ++ flat_map number_bytes (used_words table)) 8 refl
 
   after_count : drop 16 (dump_of table) ≡ flat_map number_bytes (used_words table)
-  after_count =
-      sym (drop-drop 8 8 (dump_of table)) ∙ ap (drop 8) after_magic
+  after_count = sym (drop-drop 8 8 (dump_of table)) ∙ ap (drop 8) after_magic
       ∙ drop_at (number_bytes (length table)) (flat_map number_bytes (used_words table)) 8
       (length-number_bytes (length table))
 
   -- the dump of a table gives the table's number of words
   pub count_back : count_told (dump_of table) ≡ length table
-  count_back =
-      let most = bounds.most in
-      ap number_encoded after_magic
+  count_back = let most = bounds.most in ap number_encoded after_magic
       ∙ number_encoded-number_bytes (length table) (flat_map number_bytes (used_words table)) (omega arith)
 
   fit_used : (i : ℕ) → get_or (used_words table) i 0 < 2 ^ 64
@@ -66,17 +60,13 @@ module _ (table : List ℕ) (bounds : HasGoodBounds table)
 
   numbers_back : numbers_in (length (used_words table)) (flat_map number_bytes (used_words table))
       ≡ used_words table
-  numbers_back =
-      ap (numbers_in (length (used_words table)))
+  numbers_back = ap (numbers_in (length (used_words table)))
       (sym (append-nil (flat_map number_bytes (used_words table))))
       ∙ numbers_of_bytes (used_words table) [] fit_used
 
   -- the dump of a table gives the number of the table's used words
   pub used_back : used_told (dump_of table) ≡ word_at table next_place
-  used_back =
-      let low = bounds.low in
-      let l = length_ws in
-      ap number_encoded after_count
+  used_back = let low = bounds.low in let l = length_ws in ap number_encoded after_count
       ∙ sym (get_or_numbers_in (length (used_words table)) (flat_map number_bytes (used_words table))
       0 (omega arith))
       ∙ ap (λ xs. get_or xs 0 0) numbers_back
@@ -84,16 +74,12 @@ module _ (table : List ℕ) (bounds : HasGoodBounds table)
 
   -- the dump of a table gives the table's used words
   pub words_back : words_told (dump_of table) ≡ used_words table
-  words_back =
-      ap (λ n. numbers_in n (drop 16 (dump_of table))) (used_back ∙ sym length_ws)
-      ∙ ap (numbers_in (length (used_words table))) after_count
-      ∙ numbers_back
+  words_back = ap (λ n. numbers_in n (drop 16 (dump_of table))) (used_back ∙ sym length_ws)
+      ∙ ap (numbers_in (length (used_words table))) after_count ∙ numbers_back
 
   rest_back : drop (word_at table next_place) table
       ≡ replicate (length table - word_at table next_place) 0
-  rest_back =
-      let n = word_at table next_place in
-      let l = length-drop n table in
+  rest_back = let n = word_at table next_place in let l = length-drop n table in
       zeros_are (drop n table)
       (λ i less. get_or-drop n table i 0 ∙ bounds.free (n + i) (omega arith) (omega arith))
       ∙ ap (λ m. replicate m 0) l
@@ -110,25 +96,16 @@ module _ (table : List ℕ) (bounds : HasGoodBounds table)
   length_back : length (dump_of table) ≡ dump_length (used_told (dump_of table))
   length_back =
       let a = length-append (number_bytes (length table)) (flat_map number_bytes (used_words table)) in
-      let b = length-number_bytes (length table) in
-      let c = length-flat_bytes (used_words table) in
-      let d = length_ws in
-      let e = used_back in
+      let b = length-number_bytes (length table) in let c = length-flat_bytes (used_words table) in
+      let d = length_ws in let e = used_back in
       let f = length-append magic (number_bytes (length table) ++ flat_map number_bytes
       (used_words table)) in
-      let g : length magic ≡ 8 = refl in
-      omega arith
+      let g : length magic ≡ 8 = refl in omega arith
 
   head_back : head_flaw (dump_of table) ≡ None
-  head_back =
-      let low = bounds.low in
-      let l = length_back in
-      let e = used_back in
-      let c = count_back in
-      let least = bounds.least in
-      let most = bounds.most in
-      let high = bounds.high in
-      let s = not_below (length (dump_of table)) 16 (omega arith) in
+  head_back = let low = bounds.low in let l = length_back in let e = used_back in
+      let c = count_back in let least = bounds.least in let most = bounds.most in
+      let high = bounds.high in let s = not_below (length (dump_of table)) 16 (omega arith) in
       let z = not_out first_row place_limit (count_told (dump_of table)) (omega arith) (omega arith) in
       let t = not_below (length (dump_of table)) 24 (omega arith) in
       let o = not_out first_row (count_told (dump_of table)) (used_told (dump_of table)) (omega arith)
@@ -146,9 +123,7 @@ module _ (table : List ℕ) (bounds : HasGoodBounds table)
 
   -- nothing is wrong in the dump of a table before its rows
   pub none_back : flaw_before_rows (dump_of table) ≡ None
-  none_back =
-      let l = length_back in
-      let n = dump_length (used_told (dump_of table)) in
+  none_back = let l = length_back in let n = dump_length (used_told (dump_of table)) in
       let a = not_below (length (dump_of table)) n (omega arith) in
       let b = not_below n (length (dump_of table)) (omega arith) in
       let whole : length_flaw (dump_of table) ≡ None =
@@ -194,8 +169,7 @@ named_before bytes flaw Anchor some h = cc
 -- bytes have one first flaw
 pub one_flaw : BreaksAreOne → (bytes : List ℕ) (flaw other : Flaw) → IsFirstFlaw bytes flaw
     → IsFirstFlaw bytes other → flaw ≡ other
-one_flaw one bytes (Row place) other h k =
-    let row = named_row bytes other h.before k in
+one_flaw one bytes (Row place) other h k = let row = named_row bytes other h.before k in
     ap Row (one (table_told bytes) place row.0 h.breaks row.2.breaks) ∙ sym row.1
 one_flaw one bytes Magic other h k = named_before bytes Magic other h k
 one_flaw one bytes Short other h k = named_before bytes Short other h k
@@ -214,14 +188,12 @@ module _ (bytes : List ℕ) (told : DumpContent) (h : IsLawfulDump bytes told) w
   no_flaw nowhere flaw f =
       let none : flaw_before_rows bytes ≡ None =
       ap flaw_before_rows h.dumped ∙ none_back h.table h.lawful.holds.bounds h.fit in
-      let row = named_row bytes flaw none f in
-      nowhere h.table told.pairs h.lawful row.0
+      let row = named_row bytes flaw none f in nowhere h.table told.pairs h.lawful row.0
       (subst (λ xs. BreaksFirstAt xs [] (first_visit xs ∷ []) row.0) table_is row.2.breaks)
 
 -- a report is determined by its parts
 same_told : (a b : DumpContent) → a.words ≡ b.words → a.used ≡ b.used → a.pairs ≡ b.pairs → a ≡ b
-same_told a b e f g =
-    ap (λ n. record { words = n; used = a.used; pairs = a.pairs }) e
+same_told a b e f g = ap (λ n. record { words = n; used = a.used; pairs = a.pairs }) e
     ∙ ap (λ n. record { words = b.words; used = n; pairs = a.pairs }) f
     ∙ ap (λ ps. record { words = b.words; used = b.used; pairs = ps }) g
 
@@ -230,8 +202,7 @@ pub one_told : PairsAreOne → (bytes : List ℕ) (told other : DumpContent) →
     → IsLawfulDump bytes other → told ≡ other
 one_told one bytes told other h k =
     let same : h.table ≡ k.table = sym (table_is bytes told h) ∙ table_is bytes other k in
-    same_told told other
-    (h.words ∙ ap (λ (xs : List ℕ). length xs) same ∙ sym k.words)
+    same_told told other (h.words ∙ ap (λ (xs : List ℕ). length xs) same ∙ sym k.words)
     (h.used ∙ ap (λ xs. word_at xs next_place) same ∙ sym k.used)
     (one k.table told.pairs other.pairs
     (subst (λ xs. AreLawful xs told.pairs) same h.lawful).holds k.lawful.holds)

@@ -1,9 +1,7 @@
 pub mod MarkLemmas
 pub mod TaskLemmas
 pub mod ClaimLemmas
-pub mod ExamineLemmas
 pub mod AuditLemmas
-pub mod ZeroLemmas
 pub mod AlikeLemmas
 pub mod NumberLemmas
 pub mod PairLemmas

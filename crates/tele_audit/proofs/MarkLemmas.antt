@@ -1,8 +1,8 @@
 -- Marks of the words of rows. Serves `marks.claim`.
 use Rattle.std.proofs.Common.{◌≡◌, ℕ, ◌+◌, ◌<◌, ◌≤◌, ◌⊎◌, ◌↔◌, nat_le, Bool, true, false, List, [], ◌∷◌, length, get_or, sym, ◌∙◌, inl, inr, ⊎_elim, arith}
 use Rattle.std.proofs.lemmas.Bool.Decides.{leb_tells}
-use Rattle.ist_core.specs.Elements.{Each}
-use Rattle.ist_core.specs.Rows.{Apart}
+use Rattle.ist_core.specs.LogTerms.{Each}
+use Rattle.ist_core.specs.TreeTerms.{Apart}
 use Rattle.ist_rest.specs.WordRows.{Span}
 use Rattle.ist_rest.specs.Walks.{IsApartFrom}
 use Rattle.tele_audit.specs.Auditing.{IsIn, Covered, AreMarked}
@@ -65,8 +65,7 @@ module _ (base size : ℕ) (some : 0 < size) where
         where
           out : (k < base) ⊎ (base + size ≤ k) → (get_or new k false ≡ true) ↔
               (IsIn record { base = base; size = size } k ⊎ Covered seen k)
-          out away =
-              let same = outside k away in
+          out away = let same = outside k away in
               let old_one = h.each k (omega arith) in (
                 (λ e. inr (old_one.0 (sym same ∙ e))),
                 (λ c. ⊎_elim (λ i. let low = i.0 in let high = i.1 in

@@ -17,8 +17,7 @@ pub below-take : (bound n : ℕ) (xs : List ℕ) → 0 < bound → ((i : ℕ) �
 below-take bound zero xs some h i = some
 below-take bound (suc n) [] some h i = some
 below-take bound (suc n) (x ∷ xs) some h zero = h 0
-below-take bound (suc n) (x ∷ xs) some h (suc i) =
-    below-take bound n xs some (λ j. h (suc j)) i
+below-take bound (suc n) (x ∷ xs) some h (suc i) = below-take bound n xs some (λ j. h (suc j)) i
 
 -- bytes after the first n are still bytes
 pub bytes-drop : (n : ℕ) (bytes : List ℕ) → AreBytes bytes → AreBytes (drop n bytes)
@@ -34,8 +33,7 @@ number_encoded_front xs ys long = ap (from_le_bytes w64) (take-append-le 8 xs ys
 -- a number that lies within the first bytes is determined by them
 pub number_encoded_inside : (n : ℕ) (xs ys : List ℕ) → n + 8 ≤ length xs
     → number_encoded (drop n (xs ++ ys)) ≡ number_encoded (drop n xs)
-number_encoded_inside n xs ys long =
-    let l = length-drop n xs in
+number_encoded_inside n xs ys long = let l = length-drop n xs in
     ap number_encoded (drop-append-le n xs ys (omega arith))
     ∙ number_encoded_front (drop n xs) ys (omega arith)
 
@@ -74,8 +72,7 @@ pub get_or_numbers_in : (count : ℕ) (bytes : List ℕ) (i : ℕ) → i < count
 unfolding numbers_in
 get_or_numbers_in zero bytes i less = absurd (omega arith)
 get_or_numbers_in (suc count) bytes zero less = refl
-get_or_numbers_in (suc count) bytes (suc i) less =
-    let e : 8 + 8 * i ≡ 8 * suc i = omega arith in
+get_or_numbers_in (suc count) bytes (suc i) less = let e : 8 + 8 * i ≡ 8 * suc i = omega arith in
     get_or_numbers_in count (drop 8 bytes) i (omega arith)
     ∙ ap number_encoded (drop-drop (8 * i) 8 bytes ∙ ap (λ n. drop n bytes) e)
 
@@ -85,8 +82,7 @@ pub bytes_of_numbers : (count : ℕ) (bytes : List ℕ) → AreBytes bytes → l
 unfolding numbers_in
 bytes_of_numbers zero [] h e = refl
 bytes_of_numbers zero (x ∷ xs) h e = absurd (omega arith)
-bytes_of_numbers (suc count) bytes h e =
-    let l = length-drop 8 bytes in
+bytes_of_numbers (suc count) bytes h e = let l = length-drop 8 bytes in
     let rest = numbers_in count (drop 8 bytes) in
     ap (λ (xs : List ℕ). xs ++ flat_map number_bytes rest)
     (number_bytes-number_encoded bytes h (omega arith))
@@ -99,8 +95,7 @@ pub numbers_of_bytes : (numbers rest : List ℕ) → ((i : ℕ) → get_or numbe
     → numbers_in (length numbers) (flat_map number_bytes numbers ++ rest) ≡ numbers
 unfolding numbers_in
 numbers_of_bytes [] rest fit = refl
-numbers_of_bytes (n ∷ numbers) rest fit =
-    let more = flat_map number_bytes numbers in
+numbers_of_bytes (n ∷ numbers) rest fit = let more = flat_map number_bytes numbers in
     let e = append_assoc (number_bytes n) more rest in
     let first : number_encoded ((number_bytes n ++ more) ++ rest) ≡ n =
     ap number_encoded e ∙ number_encoded-number_bytes n (more ++ rest) (fit 0) in
@@ -116,9 +111,7 @@ pub length-flat_bytes : (numbers : List ℕ)
 length-flat_bytes [] = refl
 length-flat_bytes (n ∷ numbers) =
     let a = length-append (number_bytes n) (flat_map number_bytes numbers) in
-    let b = length-number_bytes n in
-    let c = length-flat_bytes numbers in
-    omega arith
+    let b = length-number_bytes n in let c = length-flat_bytes numbers in omega arith
 
 -- ---- the words of a dump
 
@@ -126,14 +119,11 @@ module _ (used : ℕ) (bytes words : List ℕ) (place : ℕ) (is : numbers_in us
     (within : place < length words) where
   -- a place within the words is the place of a used word
   pub place_told : place < used
-  place_told =
-      let n = length_numbers_in used (drop 16 bytes) in
-      let e = ap (λ (xs : List ℕ). length xs) is in
-      omega arith
+  place_told = let n = length_numbers_in used (drop 16 bytes) in
+      let e = ap (λ (xs : List ℕ). length xs) is in omega arith
 
   -- it follows the first 16 bytes
   pub word_told : get_or words place 0 ≡ number_encoded (drop (16 + 8 * place) bytes)
-  word_told =
-      ap (λ xs. get_or xs place 0) (sym is)
+  word_told = ap (λ xs. get_or xs place 0) (sym is)
       ∙ get_or_numbers_in used (drop 16 bytes) place place_told
       ∙ ap number_encoded (drop-drop (8 * place) 16 bytes)

@@ -4,22 +4,17 @@ use Rattle.std.specs.FinMap as fin
 use Rattle.std.specs.Ordering.{nat_cmp}
 use Rattle.ist_core.specs.declared.pairs.Pair.{Pair}
 use Rattle.ist_core.specs.declared.commands.Command.{Command}
-use Rattle.ist_core.specs.Images.{IsImage}
-use Rattle.ist_core.specs.Lawful.{CanOpen}
-use Rattle.ist_core.specs.Map.{Map, no_pairs, map_of, step, pairs_of, pairs_between, listed}
-use Rattle.ist_core.specs.Pieces.{Change}
-use Rattle.ist_core.specs.Resting.{StandsFor}
-use Rattle.ist_core.specs.RowLayout.{next_place, first_row}
-use Rattle.ist_core.specs.Shapes.{ideal_words}
-use Rattle.ist_core.specs.StartLayout.{start}
-use Rattle.ist_core.proofs.MapLemmas.{adds_one_key, length-pairs_of}
-use Rattle.laws_links.proofs.QuietLemmas.{start_quiet}
+use Rattle.ist_core.specs.WordTerms.{IsImage, Change, next_place, first_row, ideal_words, start}
+use Rattle.ist_core.specs.LogTerms.{CanOpen}
+use Rattle.ist_core.specs.TreeTerms.{Map, no_pairs, map_of, step, pairs_of, pairs_between, listed, StandsFor}
+use Rattle.ist_core.proofs.AllPlaceLemmas.{adds_one_key, length-pairs_of}
+use Rattle.laws_links.proofs.ComesLemmas.{start_quiet}
 use Rattle.ist_rest.specs.Laws.{StandingWordsAreLawful}
 use Rattle.tele_audit.specs.WordLaws.{PairsAreOne, LawfulWordsBreakNowhere}
 use Rattle.ist_rest.specs.RestingWords.{AreLawful}
 use Rattle.ist_rest.specs.WordRows.{word_at}
 use Rattle.plain_map.specs.Rising.{IsRising}
-use Rattle.plain_map.proofs.EntriesLemmas.{pairs_of-map_of}
+use Rattle.plain_map.proofs.PlaceLemmas.{pairs_of-map_of}
 use Rattle.tele_lines.specs.declared.items.Cause.{Cause}
 use Rattle.tele_lines.specs.declared.items.Item.{Item}
 use Rattle.tele_lines.specs.declared.items.Version.{Version}
@@ -43,8 +38,7 @@ module _ (m then_m : Map) (command : Command) (reply : Option ℕ)
     (done : (then_m, reply) ≡ step m command) where
   -- a command adds at most one pair
   pub point_few : fin.len then_m ≤ fin.len m + 1
-  point_few =
-      subst (λ n. fin.len n ≤ fin.len m + 1) (ap (λ (p : Map × Option ℕ). p.0) (sym done))
+  point_few = subst (λ n. fin.len n ≤ fin.len m + 1) (ap (λ (p : Map × Option ℕ). p.0) (sym done))
       (adds_one_key m command)
 
 -- some lines were taken into a map: what it and the lines that are unread leave is what all bytes do
@@ -74,14 +68,12 @@ pub record HasGathered (left : Option (List ℕ)) (m : Map) (place : Place)
 -- before the first line nothing was gathered
 nothing_gathered : (left : Option (List ℕ))
     → HasGathered left no_pairs first_place (unread_of [] false left)
-nothing_gathered left =
-    let e : fin.len no_pairs ≡ 0 = fin.len-empty nat_cmp ℕ in
-    record {
-      way = all_unread left;
-      few = omega (arith, e);
-      limit = refl;
-      allowed = omega arith;
-    }
+nothing_gathered left = let e : fin.len no_pairs ≡ 0 = fin.len-empty nat_cmp ℕ in record {
+  way = all_unread left;
+  few = omega (arith, e);
+  limit = refl;
+  allowed = omega arith;
+}
 
 -- if all is unread, the empty map was gathered
 pub none_gathered : (left : Option (List ℕ)) (kept : List ℕ) (ended : Bool) (place : Place)
@@ -99,8 +91,7 @@ module _ (m : Map) (old : Place) (unread : Option (List ℕ)) where
   -- one more line
   way_on : (left later : Option (List ℕ)) (then_m : Map) (new : Place) (ended : Bool)
       (number : ℕ) (version : Version) (item : Item)
-      → IfSome left (λ bytes. IsPackedSoFar bytes m old unread)
-      → IfSome unread
+      → IfSome left (λ bytes. IsPackedSoFar bytes m old unread) → IfSome unread
       (λ bytes. GoesTo old new ended (Good number version item ∷ []) bytes later)
       → ((number : ℕ) (version : Version) (lines : List Read)
       → after_lines m (Good number version item ∷ lines) ≡ after_lines then_m lines)
@@ -120,11 +111,9 @@ module _ (m : Map) (old : Place) (unread : Option (List ℕ)) where
 
   -- a line was taken into the map
   pub line_gathered : (left later : Option (List ℕ)) (then_m : Map) (new : Place) (ended : Bool)
-      (number : ℕ) (version : Version) (item : Item) → HasGathered left m old unread
-      → IfSome unread
+      (number : ℕ) (version : Version) (item : Item) → HasGathered left m old unread → IfSome unread
       (λ bytes. GoesTo old new ended (Good number version item ∷ []) bytes later)
-      → (old.count < number) × (new.count ≡ number)
-      → new.count ≤ new.limit → new.limit ≡ old.limit
+      → (old.count < number) × (new.count ≡ number) → new.count ≤ new.limit → new.limit ≡ old.limit
       → ((number : ℕ) (version : Version) (lines : List Read)
       → after_lines m (Good number version item ∷ lines) ≡ after_lines then_m lines)
       → fin.len then_m ≤ fin.len m + 1 → HasGathered left then_m new later
@@ -169,11 +158,9 @@ stands_new m words table = record {
 pub can_open : (pairs plain : List Pair) (m : Map) (first ideal : ℕ) → pairs ≡ plain
     → plain ≡ pairs_of m → IsRising plain → fin.len m ≤ 2 ^ 24 → first ≡ first_row
     → ideal ≡ ideal_words (length pairs) → ideal ≤ 9 * length pairs → CanOpen pairs (first + ideal)
-can_open pairs plain m first ideal same is rising few e f most =
-    let long = length-pairs_of m in
+can_open pairs plain m first ideal same is rising few e f most = let long = length-pairs_of m in
     let a = ap (λ (ps : List Pair). length ps) same in
-    let b = ap (λ (ps : List Pair). length ps) is in
-    record {
+    let b = ap (λ (ps : List Pair). length ps) is in record {
       rising = subst IsRising (sym same) rising;
       room = omega (arith, e, f);
       within = omega (arith, a, b, long, few, e, most);
@@ -216,8 +203,7 @@ same_left m n left e f = cc (e, f)
 pub packed_told : StandingWordsAreLawful → (bytes dump : List ℕ) (m : Map) → left_by bytes ≡ Holds m
     → IsOwed Pack bytes dump DONE
     → (told : DumpContent) × IsLawfulDump dump told × (told.pairs ≡ pairs_of m)
-packed_told law bytes dump m is due =
-    let packed = due_packed bytes dump due in
+packed_told law bytes dump m is due = let packed = due_packed bytes dump due in
     let words = packed.words in (
       record {
         words = length words;

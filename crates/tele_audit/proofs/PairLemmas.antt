@@ -1,13 +1,10 @@
 -- The pairs that words hold have strictly increasing keys. Serves `audits.audit_bytes`.
 use Rattle.std.proofs.Common.{ℕ, ◌+◌, ◌<◌, List, [], ◌∷◌, ◌++◌, refl, inl, inr, arith}
 use Rattle.ist_core.specs.declared.pairs.Pair.{Pair}
-use Rattle.ist_core.specs.Arithmetic.{child_count}
-use Rattle.ist_core.specs.References.{Ref, Empty, Unset, LeafAt, InnerAt, ChangeAt, RebuildAt}
-use Rattle.ist_core.specs.Elements.{Among, Each}
-use Rattle.ist_core.proofs.ElementLemmas.{each_append, each-among}
-use Rattle.ist_core.proofs.RisingLemmas.{child_count_tells, AreRisingKeys}
-use Rattle.ist_core.proofs.LeafOrderLemmas.{next_from_rises}
-use Rattle.ist_core.proofs.UnderLemmas.{each_mapped}
+use Rattle.ist_core.specs.WordTerms.{child_count, Ref, Empty, Unset, LeafAt, InnerAt, ChangeAt, RebuildAt}
+use Rattle.ist_core.specs.LogTerms.{Among, Each}
+use Rattle.ist_core.proofs.AllWordLemmas.{each_append, each-among}
+use Rattle.ist_core.proofs.AllPlaceLemmas.{child_count_tells, AreRisingKeys, next_from_rises, each_mapped}
 use Rattle.ist_rest.specs.WordRows.{Span, row_keys, row_slots, row_degree, leaf_key}
 use Rattle.ist_rest.specs.Walks.{Way, Visit, LeadsBy, IsGoodAs, pairs_read, first_visit, visits_from, visits_below, Walks, ends, goes_on}
 use Rattle.ist_rest.specs.RestingWords.{HoldPairs}
@@ -121,8 +118,7 @@ above_here : (words : List ℕ) (visit : Visit) (key : ℕ) (ref : Ref) → IsGo
     → IsAbove key visit → Each (λ (pair : Pair). key < pair.key) (pairs_read words ref)
 above_here words visit key (LeafAt base) good h =
     let leads = each-among (LeadsBy (leaf_key words base)) h.way visit.ways good.lies h.among in
-    let less = h.less in
-    (child_count_tells h.way.keys key (leaf_key words base) (omega arith), tt)
+    let less = h.less in (child_count_tells h.way.keys key (leaf_key words base) (omega arith), tt)
 above_here words visit key Empty good h = tt
 above_here words visit key Unset good h = tt
 above_here words visit key (InnerAt base) good h = tt
@@ -152,11 +148,9 @@ here_rises : (words : List ℕ) (visit : Visit) (visits : List Visit) (rows : Li
 here_rises words visit visits rows pairs (LeafAt base) good w before rises = (
   all_above words (leaf_key words base) visits rows pairs w
       (each_mapped (IsBefore visit) (IsAbove (leaf_key words base)) visits
-      (λ v b.
-      let way : Way = record { keys = b.keys; index = b.low } in
+      (λ v b. let way : Way = record { keys = b.keys; index = b.low } in
       let leads = each-among (LeadsBy (leaf_key words base)) way visit.ways good.lies b.one in
-      let less = b.less in
-      record {
+      let less = b.less in record {
         way = record { keys = b.keys; index = b.high };
         among = b.other;
         less = omega arith;
@@ -192,6 +186,5 @@ walk_rises words _ _ _ (goes_on {visit = visit} {visits = visits} {rows = rows} 
 
 -- the pairs that words hold have strictly increasing keys
 pub held_pairs_rise : (words : List ℕ) (pairs : List Pair) → HoldPairs words pairs → IsRising pairs
-held_pairs_rise words pairs h =
-    next_from_rises (λ (p : Pair). p.key) pairs
+held_pairs_rise words pairs h = next_from_rises (λ (p : Pair). p.key) pairs
     (walk_rises words (first_visit words ∷ []) h.rows pairs h.walk (tt, tt))

@@ -3,7 +3,7 @@ use Rattle.std.proofs.Common.{◌≡◌, ℕ, ◌+◌, ◌<◌, ◌≤◌, List,
 use Rattle.std.specs.List.{flat_map}
 use Rattle.std.proofs.lemmas.List.{append_assoc, append-nil, take_more, take-append-drop, take-take}
 use Rattle.std.proofs.lemmas.List.Concat.{flat_map-append}
-use Rattle.ist_core.specs.RowLayout.{next_place}
+use Rattle.ist_core.specs.WordTerms.{next_place}
 use Rattle.ist_rest.specs.WordRows.{word_at}
 use Rattle.tele_io.specs.Bytes.{AppendsPart}
 use Rattle.tele_io.proofs.AppendsLemmas.{Appends-append, AppendsPart-append, AppendsPart-longer}
@@ -15,13 +15,11 @@ module _ (before : Option (List ℕ)) (words : List ℕ) where
   pub dumped_out : (now later : Option (List ℕ)) (piece new : List ℕ) (place : ℕ)
       → HasDumped before now words piece place → MovesOut now later piece new
       → HasDumped before later words new place
-  dumped_out now later piece new place h m =
-      record {
-        written = h.written ++ m.moved;
-        writes = Appends-append before now later h.written m.moved h.writes m.writes;
-        so_far = append_assoc h.written m.moved new ∙ ap (λ xs. h.written ++ xs) m.whole
-            ∙ h.so_far;
-      }
+  dumped_out now later piece new place h m = record {
+    written = h.written ++ m.moved;
+    writes = Appends-append before now later h.written m.moved h.writes m.writes;
+    so_far = append_assoc h.written m.moved new ∙ ap (λ xs. h.written ++ xs) m.whole ∙ h.so_far;
+  }
 
   -- one more word
   pub dumped_word : (now : Option (List ℕ)) (piece new : List ℕ) (place word : ℕ)
@@ -51,8 +49,7 @@ module _ (before : Option (List ℕ)) (words : List ℕ) where
   pub rest_of : (place : ℕ) → place ≤ word_at words next_place
       → (rest : List ℕ) × (dump_of words
       ≡ (magic ++ number_bytes (length words) ++ flat_map number_bytes (take place words)) ++ rest)
-  rest_of place le =
-      let used = used_words words in
+  rest_of place le = let used = used_words words in
       let first = flat_map number_bytes (take place words) in
       let more = flat_map number_bytes (drop place used) in
       let split : flat_map number_bytes used ≡ first ++ more =
@@ -70,8 +67,7 @@ module _ (before : Option (List ℕ)) (words : List ℕ) where
   pub dumped_part : (now later : Option (List ℕ)) (piece : List ℕ) (place : ℕ)
       → HasDumped before now words piece place → place ≤ word_at words next_place
       → AppendsPart now later piece → AppendsPart before later (dump_of words)
-  dumped_part now later piece place h le part =
-      let rest = rest_of place le in
+  dumped_part now later piece place h le part = let rest = rest_of place le in
       subst (AppendsPart before later) (sym rest.1)
       (AppendsPart-longer before later
       (magic ++ number_bytes (length words) ++ flat_map number_bytes (take place words)) rest.0

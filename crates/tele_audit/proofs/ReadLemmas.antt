@@ -1,7 +1,7 @@
 -- What an audit learns of bytes from the words that it reads in them. Serves `audits.audit_bytes`.
 use Rattle.std.proofs.Common.{◌≡◌, ℕ, ◌<◌, ◌^◌, List, [], ◌∷◌, length, drop, None, ap, ◌∙◌, subst, sym, arith}
 use Rattle.ist_core.specs.declared.pairs.Pair.{Pair}
-use Rattle.ist_core.specs.RowLayout.{anchor_status_place}
+use Rattle.ist_core.specs.WordTerms.{anchor_status_place}
 use Rattle.ist_rest.specs.WordRows.{word_at}
 use Rattle.tele_audit.specs.WordLaws.{ZerosChangeNothing}
 use Rattle.ist_rest.specs.RestingWords.{HasGoodBounds, AreLawful, BreaksFirstAt}
@@ -27,8 +27,7 @@ pub words_read : (bytes words now : List ℕ) (used : ℕ) → head_flaw bytes �
     → length_flaw bytes ≡ None → now ≡ bytes → used ≡ number_encoded (drop 16 now)
     → words ≡ numbers_in used (drop 16 bytes) → AreRead bytes used words
 words_read bytes words now used head whole e f g =
-    let u : used ≡ used_told bytes = f ∙ ap (λ xs. number_encoded (drop 16 xs)) e in
-    record {
+    let u : used ≡ used_told bytes = f ∙ ap (λ xs. number_encoded (drop 16 xs)) e in record {
       head = head;
       whole = whole;
       count = u;
@@ -44,16 +43,12 @@ module _ {bytes : List ℕ} {used : ℕ} {words : List ℕ} (read : AreRead byte
 
   -- there are more than two words
   pub read_long : 2 < length words
-  read_long =
-      let l = length_told bytes good exact in
-      let e = ap (λ (xs : List ℕ). length xs) read.are in
-      let u = good.used.0 in
-      omega arith
+  read_long = let l = length_told bytes good exact in
+      let e = ap (λ (xs : List ℕ). length xs) read.are in let u = good.used.0 in omega arith
 
   -- if the anchor is open, the words are in bounds
   pub read_bounds : word_at words anchor_status_place ≡ 0 → HasGoodBounds words
-  read_bounds open_anchor =
-      subst HasGoodBounds (sym read.are)
+  read_bounds open_anchor = subst HasGoodBounds (sym read.are)
       (bounds_told bytes good exact
       (subst (λ xs. word_at xs anchor_status_place ≡ 0) read.are open_anchor))
 
@@ -62,8 +57,7 @@ module _ {bytes : List ℕ} {used : ℕ} {words : List ℕ} (read : AreRead byte
       → ((place : ℕ) → word_at words place < 2 ^ 64) → (count : ℕ) (pairs : List Pair)
       → count ≡ count_told bytes → AreLawful words pairs
       → IsLawfulDump bytes record { words = count; used = used; pairs = pairs }
-  read_lawfully zeros are fit count pairs same lawful =
-      told_lawfully bytes good exact zeros are
+  read_lawfully zeros are fit count pairs same lawful = told_lawfully bytes good exact zeros are
       (subst (λ xs. (place : ℕ) → word_at xs place < 2 ^ 64) read.are fit)
       record { words = count; used = used; pairs = pairs } same read.count
       (subst (λ xs. AreLawful xs pairs) read.are lawful)
@@ -72,8 +66,7 @@ module _ {bytes : List ℕ} {used : ℕ} {words : List ℕ} (read : AreRead byte
   pub read_broken : ZerosChangeNothing → word_at words anchor_status_place ≡ 0 → (place : ℕ)
       → BreaksFirstAt words [] (first_visit words ∷ []) place
       → (flaw : Flaw) → Row place ≡ flaw → IsFirstFlaw bytes flaw
-  read_broken zeros open_anchor place first flaw same =
-      subst (IsFirstFlaw bytes) same
+  read_broken zeros open_anchor place first flaw same = subst (IsFirstFlaw bytes) same
       (told_broken bytes good exact zeros
       (subst (λ xs. word_at xs anchor_status_place ≡ 0) read.are open_anchor) read.head read.whole
       place (subst (λ xs. BreaksFirstAt xs [] (first_visit xs ∷ []) place) read.are first))

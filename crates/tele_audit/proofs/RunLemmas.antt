@@ -1,6 +1,6 @@
 -- What a command has written of what is due. Serves `packing` and `runs`.
 use Rattle.std.proofs.Common.{◌≡◌, ℕ, List, Option, Some, None, refl, sym, subst, IfSome, inl, inr, Result, Ok, Err, IfOk, OnOk, OnErr}
-use Rattle.ist_core.specs.Map.{Map}
+use Rattle.ist_core.specs.TreeTerms.{Map}
 use Rattle.tele_io.specs.Bytes.{Appends, AppendsPart}
 use Rattle.tele_lines.specs.declared.items.Cause.{Cause}
 use Rattle.tele_lines.specs.Answer.{bad_text, usage_text}
@@ -62,26 +62,18 @@ pub bad_due : (left : Option (List ℕ)) (number : ℕ) (cause : Cause)
     → IfSome left (λ bytes. IsOwed Pack bytes (bad_text number cause) BAD_LINE)
 bad_due None number cause is = tt
 bad_due (Some bytes) number cause is =
-    inr (record {
-      number = number;
-      cause = cause;
-      left = is;
-      text_is = refl;
-      status_is = refl;
-    })
+    inr (record { number = number; cause = cause; left = is; text_is = refl; status_is = refl })
 
 -- the same line
 module _ (before now : Option (List ℕ)) (n m : ℕ) (c d : Cause) (line : n ≡ m) (cause : c ≡ d) where
   -- the line that names a bad line is the same for equal numbers and causes
   pub same_bad : Appends before now (bad_text n c) → Appends before now (bad_text m d)
-  same_bad writes =
-      subst (λ x. Appends before now (bad_text m x)) cause
+  same_bad writes = subst (λ x. Appends before now (bad_text m x)) cause
       (subst (λ x. Appends before now (bad_text x c)) line writes)
 
   -- a part of that line is the same for equal numbers and causes
   pub same_bad_part : AppendsPart before now (bad_text n c) → AppendsPart before now (bad_text m d)
-  same_bad_part part =
-      subst (λ x. AppendsPart before now (bad_text m x)) cause
+  same_bad_part part = subst (λ x. AppendsPart before now (bad_text m x)) cause
       (subst (λ x. AppendsPart before now (bad_text x c)) line part)
 
 -- for a lawful dump, the text for the question is due

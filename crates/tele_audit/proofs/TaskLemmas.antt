@@ -2,8 +2,7 @@
 use Rattle.std.proofs.Common.{◌≡◌, ℕ, ◌+◌, ◌-◌, ◌<◌, ◌≤◌, ◌⊎◌, ◌↔◌, ◌==◌, if◌then◌else◌, nat_lt, nat_le, max, Bool, true, false, List, [], ◌∷◌, ◌++◌, length, get_or, Option, Some, None, refl, sym, subst, inl, inr, ⊎_elim, arith}
 use Rattle.std.proofs.lemmas.Bool.Decides.{leb_tells, eqb_tells, nat_tests}
 use Rattle.std.specs.List.Sorted.{IsStrictlyIncreasing}
-use Rattle.ist_core.specs.RowLayout.{next_place}
-use Rattle.ist_core.specs.References.{Ref, Empty, Unset, LeafAt, InnerAt, ChangeAt, RebuildAt}
+use Rattle.ist_core.specs.WordTerms.{next_place, Ref, Empty, Unset, LeafAt, InnerAt, ChangeAt, RebuildAt}
 use Rattle.ist_math.proofs.ChildLemmas.{child_count_is, key_before_child, key_after_child}
 use Rattle.tele_audit.specs.declared.tasks.AuditTask.{AuditTask}
 use Rattle.ist_rest.specs.WordRows.{word_at, row_degree, row_keys, row_slots}
@@ -29,8 +28,7 @@ low_told low keys i x = at (eqb_tells i 0)
   where
     at : (((i == 0) ≡ true) × (i ≡ 0)) ⊎ (((i == 0) ≡ false) × (i ≡ 0 → ⊥))
         → (low_of low keys i ≤ x) ↔ ((low ≤ x) × (0 < i → get_or keys (i - 1) 0 ≤ x))
-    at (inl a) =
-        let z = a.1 in
+    at (inl a) = let z = a.1 in
         subst (λ b. ((if b then low else max low (get_or keys (i - 1) 0)) ≤ x) ↔
         ((low ≤ x) × (0 < i → get_or keys (i - 1) 0 ≤ x))) (sym a.0)
         ((λ h. (h, λ some. absurd (omega arith))), (λ h. h.0))
@@ -60,8 +58,7 @@ high_told high keys i x = at (ltb_tells i (length keys))
         × (length keys ≤ i))
         → IsUnderBound (high_of high keys i) x ↔ (IsUnderBound high x
         × (i < length keys → x < get_or keys i 0))
-    at (inl a) =
-        let it = lower_told high (get_or keys i 0) x in
+    at (inl a) = let it = lower_told high (get_or keys i 0) x in
         subst (λ b. IsUnderBound (if b then Some (lower_of high (get_or keys i 0)) else high) x ↔
         (IsUnderBound high x × (i < length keys → x < get_or keys i 0))) (sym a.0)
         ((λ h. let y = it.0 h in (y.0, λ less. y.1)), (λ h. it.1 (h.0, h.1 a.1)))
@@ -79,26 +76,23 @@ child_is_task : (visit : Visit) (task : AuditTask) (base : ℕ) (keys : List ℕ
       place = place;
       word = word;
       node = base;
-      ways =
-          record { keys = keys; index = i } ∷ visit.ways;
+      ways = record { keys = keys; index = i } ∷ visit.ways;
     } (child_task base task keys i place word)
-child_is_task visit task base keys i place word h rises within =
-    record {
-      place = refl;
-      word = refl;
-      node = refl;
-      leads = λ key.
-          let low = low_told task.low keys i key in
-          let high = high_told task.high keys i key in
-          let up = h.leads key in (
-            (λ in_it. let a = low.0 in_it.0 in let b = high.0 in_it.1 in
-                (child_count_is keys key i rises within b.1 a.1, up.0 (a.0, b.0))),
-            (λ led. let is = sym led.0 in let y = up.1 led.1 in (
-              low.1 (y.0, key_before_child keys rises key i is),
-              high.1 (y.1, key_after_child keys rises key i is),
-            )),
-          );
-    }
+child_is_task visit task base keys i place word h rises within = record {
+  place = refl;
+  word = refl;
+  node = refl;
+  leads = λ key. let low = low_told task.low keys i key in
+      let high = high_told task.high keys i key in
+      let up = h.leads key in (
+        (λ in_it. let a = low.0 in_it.0 in let b = high.0 in_it.1 in
+            (child_count_is keys key i rises within b.1 a.1, up.0 (a.0, b.0))),
+        (λ led. let is = sym led.0 in let y = up.1 led.1 in (
+          low.1 (y.0, key_before_child keys rises key i is),
+          high.1 (y.1, key_after_child keys rises key i is),
+        )),
+      );
+}
 
 tasks_from_are : (visit : Visit) (task : AuditTask) (base : ℕ) (keys : List ℕ)
     → IsTaskOf visit task → IsStrictlyIncreasing keys
@@ -125,14 +119,10 @@ pub below_tasks : (words : List ℕ) (visit : Visit) (task : AuditTask) (ref : R
 below_tasks words visit task Empty used h good = no_task
 below_tasks words visit task Unset used h good = absurd good
 below_tasks words visit task (LeafAt base) used h good = no_task
-below_tasks words visit task (InnerAt base) used h good =
-    let within = good.within in
-    let room = within.below_next in
-    let two = good.degree in
-    let long = row_lengths words base (omega arith) (omega arith) in
-    let a = long.0 in
-    let b = long.1 in
-    tasks_from_are visit task base (row_keys words base) h good.keys 0
+below_tasks words visit task (InnerAt base) used h good = let within = good.within in
+    let room = within.below_next in let two = good.degree in
+    let long = row_lengths words base (omega arith) (omega arith) in let a = long.0 in
+    let b = long.1 in tasks_from_are visit task base (row_keys words base) h good.keys 0
     (base + 3 + row_degree words base) (row_slots words base) (omega arith)
 below_tasks words visit task (ChangeAt base) used h good = absurd good
 below_tasks words visit task (RebuildAt base) used h good = absurd good

@@ -4,12 +4,8 @@ use Rattle.std.proofs.Common.{◌≡◌, ℕ, ◌+◌, ◌-◌, ◌≤◌, ◌%�
 use Rattle.std.proofs.lemmas.Bool.Decides.{eqb_tells}
 use Rattle.std.proofs.lemmas.List.{length-map}
 use Rattle.ist_core.specs.declared.calls.Call.{Call}
-use Rattle.ist_core.specs.Map.{Map, key_of, map_after, reply_to}
-use Rattle.ist_core.specs.Elements.{Among, Each}
-use Rattle.ist_core.specs.Changes.{Entry, map_after_entries}
-use Rattle.ist_core.specs.Standing.{is_change, entry_by, entries_by}
-use Rattle.ist_core.specs.Histories.{IsLegal}
-use Rattle.ist_core.specs.Resting.{told_by_call}
+use Rattle.ist_core.specs.TreeTerms.{Map, key_of, map_after, reply_to, Entry, map_after_entries, is_change, entry_by, entries_by, told_by_call}
+use Rattle.ist_core.specs.LogTerms.{Among, Each, IsLegal}
 use Rattle.laws_histories.specs.Telling.{AreLegal}
 use Rattle.laws_histories.proofs.MapLemmas.{same_head, same_tail, same_cons, map_told, no_entry_leaves}
 use Rattle.tele_lanes.specs.Lanes.{lane_of}
@@ -37,8 +33,7 @@ pub record IsAlone (workers number : ℕ) (m n : Map) (es : List Entry)
   pub agree : Agree workers number (map_after_entries m es) (map_told n (map told_by_call calls))
 
 -- a reading before calls that are answered as if alone
-reading_alone : (workers number : ℕ) (m n : Map) (es : List Entry) (call : Call)
-    (calls : List Call)
+reading_alone : (workers number : ℕ) (m n : Map) (es : List Entry) (call : Call) (calls : List Call)
     → call.reply ≡ reply_to n call.command → is_change call ≡ false
     → IsAlone workers number m n es calls → IsAlone workers number m n es (call ∷ calls)
 reading_alone workers number m n es call calls reply plain a =
@@ -58,8 +53,7 @@ rest_on : (workers number : ℕ) (m n : Map) (es : List Entry) (from : ℕ) (cal
     → is_change call ≡ false → OnItsLane workers number m n es from (call ∷ calls)
     → OnItsLane workers number m n es from calls
 rest_on workers number m n es from call calls plain x =
-    let same : filter is_change (call ∷ calls) ≡ filter is_change calls = rw plain refl in
-    record {
+    let same : filter is_change (call ∷ calls) ≡ filter is_change calls = rw plain refl in record {
       stand = stand_rest m es number from call calls x.stand;
       exactly = x.exactly ∙ ap (map (entry_by number)) same;
       legal = x.legal;
@@ -81,20 +75,16 @@ alone_none : (workers number : ℕ) (m n : Map) (from : ℕ) (calls : List Call)
     → OnItsLane workers number m n [] from calls → OfLane workers number calls
     → IsAlone workers number m n [] calls
 alone_none workers number m n from [] x kept = record { legal = refl; agree = x.agree }
-alone_none workers number m n from (call ∷ calls) x kept =
-    at (is_change call) refl
+alone_none workers number m n from (call ∷ calls) x kept = at (is_change call) refl
     (λ y. alone_none workers number m n from calls y kept.1)
   where
     at : (v : Bool) → is_change call ≡ v
         → (OnItsLane workers number m n [] from calls → IsAlone workers number m n [] calls)
         → IsAlone workers number m n [] (call ∷ calls)
-    at true e rest =
-        let few = few_none number m from (call ∷ calls) x.stand in
+    at true e rest = let few = few_none number m from (call ∷ calls) x.stand in
         let same : filter is_change (call ∷ calls) ≡ call ∷ filter is_change calls = rw e refl in
-        let long = ap length same in
-        absurd (omega arith)
-    at false e rest =
-        let low = x.stand.low call (inl refl) in
+        let long = ap length same in absurd (omega arith)
+    at false e rest = let low = x.stand.low call (inl refl) in
         let within = (x.stand.read call (call.position - from) (inl refl) e (omega arith)).0 in
         reading_alone workers number m n [] call calls
         (reading_first workers number m n [] from call calls x kept.0 e (omega arith)) e
@@ -121,10 +111,8 @@ module _ (workers number : ℕ) (m : Map) (from : ℕ) where
       at : TestsAs e.owner number → IsAlone workers number m n (e ∷ es) calls
       at (inl own) =
           let few = changing_few number es (map_after m e.command) (from + 1) calls following in
-          let long = ap length (own_entry number e es own.1) in
-          let all = ap length x.exactly in
-          let same = length-map (filter is_change calls) (entry_by number) in
-          absurd (omega arith)
+          let long = ap length (own_entry number e es own.1) in let all = ap length x.exactly in
+          let same = length-map (filter is_change calls) (entry_by number) in absurd (omega arith)
       at (inr other) =
           let a = later n calls record {
             stand = following;
@@ -145,8 +133,7 @@ module _ (workers number : ℕ) (m : Map) (from : ℕ) where
       → is_change call ≡ true → IsAlone workers number m n (entry_by number call ∷ es)
       (call ∷ calls)
   unfolding Later
-  alone_change call es later n calls x kept changes =
-      let e = entry_by number call in
+  alone_change call es later n calls x kept changes = let e = entry_by number call in
       let rest = stand_rest m (e ∷ es) number from call calls x.stand in
       let same : filter is_change (call ∷ calls)
       ≡ call ∷ filter is_change calls = rw changes refl in
@@ -181,11 +168,9 @@ module _ (workers number : ℕ) (m : Map) (from : ℕ) where
           → (OnItsLane workers number m n (e ∷ es) from calls → IsAlone workers number m n
           (e ∷ es) calls)
           → IsAlone workers number m n (e ∷ es) (call ∷ calls)
-      at (inr differ) v c rest =
-          alone_skip e es later n (call ∷ calls) x kept
+      at (inr differ) v c rest = alone_skip e es later n (call ∷ calls) x kept
           (all_after m (e ∷ es) number from call calls x.stand differ.1)
-      at (inl same) false c rest =
-          reading_alone workers number m n (e ∷ es) call calls
+      at (inl same) false c rest = reading_alone workers number m n (e ∷ es) call calls
           (reading_first workers number m n (e ∷ es) from call calls x kept.0 c same.1) c
           (rest (rest_on workers number m n (e ∷ es) from call calls c x))
       at (inl same) true c rest =
@@ -200,7 +185,6 @@ pub alone : (workers number : ℕ) (es : List Entry) (m n : Map) (from : ℕ) (c
     → IsAlone workers number m n es calls
 unfolding Later
 alone workers number [] m n from calls x kept = alone_none workers number m n from calls x kept
-alone workers number (e ∷ es) m n from calls x kept =
-    alone_step workers number m from e es
+alone workers number (e ∷ es) m n from calls x kept = alone_step workers number m from e es
     (λ k cs y kp. alone workers number es (map_after m e.command) k (from + 1) cs y kp)
     n calls x kept

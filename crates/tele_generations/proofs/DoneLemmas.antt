@@ -6,25 +6,22 @@ use Rattle.std.proofs.lemmas.List.Elements.{All-head, All-tail}
 use Rattle.tele_lanes.specs.declared.task_lists.Task.{Task}
 use Rattle.tele_lanes.specs.Lines.{task_lines}
 use Rattle.tele_lanes.specs.Lanes.{unanswered}
-use Rattle.tele_lanes.proofs.ClimbLemmas.{Contains-cons_cases}
+use Rattle.tele_lanes.proofs.SplitLemmas.{Contains-cons_cases}
 use Rattle.tele_generations.specs.Runs.{LaneRun, HasRun, answers_of_runs, done_of_runs, left_of_runs}
 use Rattle.tele_generations.specs.Generations.{all_done}
 
 -- a lane has no more answers than tasks
 answered_within : (run : LaneRun) → HasRun run → length run.answers ≤ length run.tasks
-answered_within run h =
-    let one = length-map run.answers (λ a. a.line) in
+answered_within run h = let one = length-map run.answers (λ a. a.line) in
     let same = ap length h.answers in
     let two = length-take (length run.answers) (task_lines run.tasks) in
-    let three = length-map run.tasks (λ t. t.line) in
-    omega arith
+    let three = length-map run.tasks (λ t. t.line) in omega arith
 
 -- as many tasks were answered as there are answers
 pub length-all_done : (runs : List LaneRun) → All HasRun runs
     → length (all_done runs) ≡ length (flat_map (λ answers. answers) (answers_of_runs runs))
 length-all_done [] h = refl
-length-all_done (run ∷ runs) h =
-    let rest = length-all_done runs (All-tail HasRun run runs h) in
+length-all_done (run ∷ runs) h = let rest = length-all_done runs (All-tail HasRun run runs h) in
     let one = length-take (length run.answers) run.tasks in
     let within = answered_within run (All-head HasRun run runs h) in
     let left = length-append (take (length run.answers) run.tasks)

@@ -4,13 +4,12 @@ use Rattle.std.specs.List.Sorted.{IsStrictlyIncreasing}
 use Rattle.std.proofs.lemmas.List.Sorted.{IsPermutation-refl}
 use Rattle.ist_core.specs.declared.calls.Call.{Call}
 use Rattle.ist_core.specs.declared.commands.Command.TheVariants.{Put}
-use Rattle.ist_core.specs.Map.{map_of}
-use Rattle.ist_core.specs.Elements.{Among}
-use Rattle.ist_core.specs.Standing.{is_change, entry_by, StandAmong, StandsIn}
+use Rattle.ist_core.specs.TreeTerms.{map_of, is_change, entry_by, StandAmong, StandsIn}
+use Rattle.ist_core.specs.LogTerms.{Among}
 use Rattle.ist_core.specs.ExampleLogs.{put_resolved}
 use Rattle.ist_core.proofs.PutExampleLemmas.{put_is_lawful}
 use Rattle.laws_histories.specs.Telling.{map_now}
-use Rattle.laws_histories.proofs.SearchExampleLemmas.{put_changes}
+use Rattle.laws_histories.proofs.PositionLemmas.{put_changes}
 use Rattle.tele_lanes.specs.Lines.{task_lines}
 use Rattle.tele_generations.specs.Runs.{HasRun, RanOn}
 use Rattle.tele_generations.specs.Turns.{IsUnderWay}
@@ -23,8 +22,7 @@ the_call = record { command = Put 1 1; reply = None; position = 0; stamp = 1 }
 
 -- the call is in the log, as its one change
 call_stands : StandsIn [] 15 put_resolved 0 (the_call ∷ [])
-call_stands =
-    subst (λ es. StandAmong (map_of []) es 0 (the_call ∷ [])) (sym put_changes)
+call_stands = subst (λ es. StandAmong (map_of []) es 0 (the_call ∷ [])) (sym put_changes)
     record {
       made = λ call i changes. at call i;
       exactly = refl;
@@ -45,20 +43,18 @@ call_stands =
 
 -- the lane ran on the table
 pub put_ran : RanOn [] 15 put_resolved 1 (line_one ∷ line_two ∷ []) (one_run ∷ [])
-put_ran =
-    record {
-      some = omega arith;
-      rising = rise;
-      lanes = record { lanes = refl; ran = ran };
-      rests = record {
-        lawful = put_is_lawful;
-        calls =
-            (the_call ∷ []) ∷ [];
-        told_are = refl;
-        at_rest = refl;
-        stand = (call_stands, tt);
-      };
-    }
+put_ran = record {
+  some = omega arith;
+  rising = rise;
+  lanes = record { lanes = refl; ran = ran };
+  rests = record {
+    lawful = put_is_lawful;
+    calls = (the_call ∷ []) ∷ [];
+    told_are = refl;
+    at_rest = refl;
+    stand = (call_stands, tt);
+  };
+}
   where
     rise : IsStrictlyIncreasing (task_lines (line_one ∷ line_two ∷ []))
     rise zero h = omega arith
@@ -71,8 +67,7 @@ put_ran =
 -- the round is under way, with the second line left
 pub put_under_way : IsUnderWay (map_of []) (line_one ∷ line_two ∷ []) (answer_one ∷ [])
     (line_two ∷ []) (map_now [] 15 put_resolved)
-put_under_way =
-    lanes_turn [] 15 put_resolved 1 (line_one ∷ line_two ∷ []) (one_run ∷ []) put_ran
+put_under_way = lanes_turn [] 15 put_resolved 1 (line_one ∷ line_two ∷ []) (one_run ∷ []) put_ran
     (answer_one ∷ [])
     record { same = IsPermutation-refl (answer_one ∷ []); rising = λ k h. absurd (omega arith) }
     (line_two ∷ [])

@@ -4,10 +4,8 @@ use Rattle.std.specs.List.Sorted.{IsStrictlyIncreasing}
 use Rattle.std.proofs.lemmas.Bool.{eqb-true}
 use Rattle.std.proofs.lemmas.List.{length-map, take-map, get_or-drop, length-drop}
 use Rattle.std.proofs.lemmas.List.Elements.{filter_passes}
-use Rattle.ist_core.specs.Map.{Map, replies}
-use Rattle.ist_core.specs.Replies.{Answered}
-use Rattle.ist_core.specs.Elements.{Each}
-use Rattle.ist_core.specs.Histories.{IsLegal}
+use Rattle.ist_core.specs.TreeTerms.{Map, replies}
+use Rattle.ist_core.specs.LogTerms.{Answered, Each, IsLegal}
 use Rattle.tele_lanes.specs.declared.task_lists.Task.{Task}
 use Rattle.tele_lanes.specs.Lines.{commands_of}
 use Rattle.tele_lanes.specs.Lanes.{lane_of, lane_tasks, ArePlainAnswers}
@@ -21,8 +19,7 @@ module _ {A : Type 0} where
   -- what holds at each place holds of each element
   pub each_all : (P : A → Type 0) (xs : List A) → All P xs → Each P xs
   each_all P [] h = tt
-  each_all P (x ∷ xs) h =
-      (h 0 x (omega arith), each_all P xs (λ k d lt. h (suc k) d (omega arith)))
+  each_all P (x ∷ xs) h = (h 0 x (omega arith), each_all P xs (λ k d lt. h (suc k) d (omega arith)))
 
   -- what holds of each element holds at each place
   pub all_each : (P : A → Type 0) (xs : List A) → Each P xs → All P xs
@@ -33,8 +30,7 @@ module _ {A : Type 0} where
 -- the last numbers of a strictly increasing list
 pub IsStrictlyIncreasing-drop : (n : ℕ) (xs : List ℕ) → IsStrictlyIncreasing xs
     → IsStrictlyIncreasing (drop n xs)
-IsStrictlyIncreasing-drop n xs up k h =
-    let long = length-drop n xs in
+IsStrictlyIncreasing-drop n xs up k h = let long = length-drop n xs in
     let next : n + (k + 1) ≡ (n + k) + 1 = omega arith in
     rw (get_or-drop n xs k 0, get_or-drop n xs (k + 1) 0, next) (up (n + k) (omega arith))
 
@@ -71,8 +67,7 @@ run_asked run h =
 -- a lane whose calls are legal by themselves answers as one thread does
 pub run_plain : (m : Map) (run : LaneRun) → HasRun run → IsLegal m run.told
     → ArePlainAnswers m (take (length run.answers) run.tasks) run.answers
-run_plain m run h legal =
-    record {
-      lines = h.answers ∙ take-map (λ t. t.line) (length run.answers) run.tasks;
-      replies = h.replies ∙ sym legal ∙ ap (replies m) (run_asked run h);
-    }
+run_plain m run h legal = record {
+  lines = h.answers ∙ take-map (λ t. t.line) (length run.answers) run.tasks;
+  replies = h.replies ∙ sym legal ∙ ap (replies m) (run_asked run h);
+}

@@ -94,8 +94,7 @@ module _ (workers first : ℕ) (pairs : List Pair) (tasks : List Task)
   -- the tables so far, with one more that ran full
   pub tables_more : (middle after : Option (List (List ℕ))) (fulls : List Full) (full : Full)
       (now later : List Pair) (left rest : List Task) (words next : ℕ) (table : List ℕ)
-      (runs : List LaneRun)
-      → HasTables workers first pairs tasks before middle fulls now left words
+      (runs : List LaneRun) → HasTables workers first pairs tasks before middle fulls now left words
       → length table ≡ words → LanesRanOn workers now left table runs
       → RanFull now table runs full → HandsOn now runs later rest
       → IsShelved middle (table ∷ []) after → next ≡ next_words words (length later)
@@ -118,12 +117,10 @@ module _ (workers first : ℕ) (pairs : List Pair) (tasks : List Task)
       → HasTables workers first pairs tasks before after fulls now left words
       → length table ≡ words → LanesRanOn workers now left table runs → AreWhole runs
       → RanInGenerations workers first pairs tasks before after table fulls
-  tables_end after fulls now left words table runs t sized g all =
-      record {
-        given = t.given;
-        shelved = t.shelved;
-        are = subst (λ fs. IsGenerations workers pairs tasks (t.given ++ table ∷ []) fs)
-            (append-nil fulls)
-            (t.lead table [] [] (t.may_follow table sized) (whole runs g all));
-        first_is = begins_last first words t.given table t.begins sized;
-      }
+  tables_end after fulls now left words table runs t sized g all = record {
+    given = t.given;
+    shelved = t.shelved;
+    are = subst (λ fs. IsGenerations workers pairs tasks (t.given ++ table ∷ []) fs)
+        (append-nil fulls) (t.lead table [] [] (t.may_follow table sized) (whole runs g all));
+    first_is = begins_last first words t.given table t.begins sized;
+  }

@@ -2,17 +2,13 @@ pub mod StandLemmas
 pub mod AloneLemmas
 pub mod RestingListLemmas
 pub mod PlainLemmas
-pub mod PartLemmas
 pub mod LaneLemmas
 pub mod RunLemmas
 pub mod TurnLemmas
 pub mod WholeLemmas
-pub mod SuffixLemmas
 pub mod ExampleLemmas
-pub mod RestLemmas
 pub mod DoneLemmas
 pub mod LeadLemmas
-pub mod TableLemmas
 pub mod NextTableLemmas
 pub mod RoundLemmas
 pub mod KeptLemmas

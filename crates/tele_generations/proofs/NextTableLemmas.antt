@@ -1,12 +1,12 @@
 -- How a round goes on after a table that ran full. Serves `run_round`.
-use Rattle.std.proofs.Common.{◌≡◌, ℕ, suc, ◌+◌, ◌<◌, ◌≤◌, List, [], ◌∷◌, ◌++◌, length, Option, refl, sym, ap, subst, ◌∙◌, arith, slice_index}
+use Rattle.std.proofs.Common.{◌≡◌, ℕ, suc, ◌+◌, ◌<◌, ◌≤◌, List, [], ◌∷◌, ◌++◌, length, Option, refl, sym, ap, subst, ◌∙◌, arith, slice_index, drop, get_or}
 use Rattle.std.specs.List.Sorted.{IsStrictlyIncreasing}
 use Rattle.std.proofs.lemmas.List.{length-append, nil_from_length}
 use Rattle.std.proofs.lemmas.List.Elements.{All-push}
 use Rattle.ist_core.specs.declared.pairs.Pair.{Pair}
 use Rattle.ist_core.specs.declared.ports.Full.{Full}
-use Rattle.ist_core.specs.RowLayout.{place_limit}
-use Rattle.ist_core.specs.Map.{map_of, pairs_of, map_after, replay}
+use Rattle.ist_core.specs.WordTerms.{place_limit}
+use Rattle.ist_core.specs.TreeTerms.{map_of, pairs_of, map_after, replay}
 use Rattle.tele_lanes.specs.declared.task_lists.Task.{Task}
 use Rattle.tele_lanes.specs.declared.answer_lists.Answer.{Answer}
 use Rattle.tele_lanes.specs.Lines.{commands_of, task_lines}
@@ -15,16 +15,15 @@ use Rattle.tele_generations.specs.Runs.{left_of_runs}
 use Rattle.tele_generations.specs.Turns.{IsUnderWay, plain_answer}
 use Rattle.tele_generations.specs.Suffixes.{LeavesSuffixes}
 use Rattle.tele_generations.proofs.TurnLemmas.{round_begins, round_goes_on, one_line, tasks_counted}
-use Rattle.tele_generations.proofs.SuffixLemmas.{suffixes_begin, suffixes_go_on, line_leaves}
+use Rattle.tele_generations.proofs.WholeLemmas.{suffixes_begin, suffixes_go_on, line_leaves, table_map, turn, leaves, leads, answered_long, after_is, after_map, after_rises}
 use Rattle.plain_map.specs.Rising.{IsRising}
-use Rattle.plain_map.proofs.EntriesLemmas.{pairs_of-map_of}
+use Rattle.plain_map.proofs.PlaceLemmas.{pairs_of-map_of, adds_few_pairs}
 use Rattle.tele_generations.specs.Sizes.{least_words}
 use Rattle.tele_generations.specs.Generations.{HandsOn, MayAsk, all_done}
 use Rattle.tele_generations.specs.Generations.HandsOn.{some_done, none_done}
 use Rattle.tele_generations.specs.Tables.{RanOnTable, HasPairs}
 use Rattle.tele_generations.specs.Ways.{Rests, IsOnItsWay}
 use Rattle.tele_generations.specs.Ways.Rests.{stays, rests_one}
-use Rattle.tele_generations.proofs.TableLemmas.{table_map, turn, leaves, leads, answered_long, after_is, after_map, after_rises}
 
 -- before the first table
 pub way_begins : (workers : ℕ) (pairs : List Pair) (tasks : List Task) (words : ℕ) → 1 ≤ workers
@@ -45,17 +44,13 @@ way_begins workers pairs tasks words some rise up holds fits = record {
 -- a strictly increasing list without its head
 tail_rises : (task : Task) (rest : List Task) → IsStrictlyIncreasing (task_lines (task ∷ rest))
     → IsStrictlyIncreasing (task_lines rest)
-tail_rises task rest up k h =
-    let next : suc k + 1 ≡ suc (k + 1) = omega arith in
+tail_rises task rest up k h = let next : suc k + 1 ≡ suc (k + 1) = omega arith in
     subst (λ i. slice_index (task_lines rest) k < slice_index (task_lines (task ∷ rest)) i) next
     (up (suc k) (omega arith))
 
 -- a list with one more element at its end isn't empty
 not_none : {X : Type 0} (xs : List X) (x : X) → xs ++ x ∷ [] ≡ [] → ⊥
-not_none xs x e =
-    let long = length-append xs (x ∷ []) in
-    let none = ap length e in
-    omega arith
+not_none xs x e = let long = length-append xs (x ∷ []) in let none = ap length e in omega arith
 
 module _ (workers words : ℕ) (now : List Pair) (left : List Task) (table : List ℕ)
     (more : List Answer) (rest : List Task) (full : Option Full)
@@ -81,8 +76,7 @@ module _ (workers words : ℕ) (now : List Pair) (left : List Task) (table : Lis
     pairs_rise = after_rises workers words now left table more rest full r some up following h;
     suffixes = leaves workers words now left table more rest full r some up;
     hands = some_done
-        (λ none.
-        let long = answered_long workers words now left table more rest full r some up in
+        (λ none. let long = answered_long workers words now left table more rest full r some up in
         let zero = ap length none in
         omega arith)
         (after_is workers words now left table more rest full r some up following h
@@ -141,8 +135,7 @@ module _ (workers words : ℕ) (now : List Pair) (left : List Task) (table : Lis
 -- the round goes on
 pub way_more : (workers : ℕ) (pairs : List Pair) (tasks : List Task) (fulls : List Full)
     (full : Full) (answers given : List Answer) (now later : List Pair) (left after : List Task)
-    (words next : ℕ)
-    → IsOnItsWay workers pairs tasks fulls answers now left words
+    (words next : ℕ) → IsOnItsWay workers pairs tasks fulls answers now left words
     → IsUnderWay (map_of now) left given after (map_of later)
     → IsStrictlyIncreasing (task_lines after) → IsRising later
     → LeavesSuffixes workers left after → 0 < length given
@@ -152,13 +145,9 @@ pub way_more : (workers : ℕ) (pairs : List Pair) (tasks : List Task) (fulls : 
 way_more workers pairs tasks fulls full answers given now later left after words next o way up rise
     suffixes some asks holds fits =
     let counted = tasks_counted (map_of now) (map_of later) left after given way in
-    let long = length-append fulls (full ∷ []) in
-    let count = o.count in
-    let keys = way.few in
+    let long = length-append fulls (full ∷ []) in let count = o.count in let keys = way.few in
     let old = ap length (pairs_of-map_of now o.opens.rising) in
-    let new = ap length (pairs_of-map_of later rise) in
-    let few = o.few in
-    record {
+    let new = ap length (pairs_of-map_of later rise) in let few = o.few in record {
       some = o.some;
       way = round_goes_on (map_of pairs) (map_of now) (map_of later) tasks left after answers given
           o.way way;
@@ -170,3 +159,36 @@ way_more workers pairs tasks fulls full answers given now later left after words
       count = omega arith;
       asked = All-push (λ f. MayAsk (length pairs + length tasks) f.asked) fulls full o.asked asks;
     }
+
+-- ---- a turn at rest. Serves `rest` and `go_on`.
+
+-- a list from which the first was taken
+first_of : (xs : List Task) (x : Task) (rest : List Task) → 0 < length xs → x ≡ get_or xs 0 x
+    → rest ≡ drop 1 xs → xs ≡ x ∷ rest
+first_of [] x rest h e f = absurd (omega arith)
+first_of (y ∷ ys) x rest h e f = ap (λ z. z ∷ ys) (sym e) ∙ ap (λ zs. x ∷ zs) (sym f)
+
+-- the first task was answered by one thread
+pub rests_first : (answers given : List Answer) (left rest : List Task) (pairs after : List Pair)
+    (task : Task) (answer : Answer)
+    → length answers ≡ 0 → 0 < length left → task ≡ get_or left 0 task → rest ≡ drop 1 left
+    → given ≡ answers ++ answer ∷ [] → answer ≡ plain_answer (map_of pairs) task
+    → map_of after ≡ map_after (map_of pairs) task.command → IsRising after
+    → Rests answers left pairs given rest after
+rests_first [] given left rest pairs after task answer none some first others are is following rise =
+    subst (λ xs. Rests [] left pairs xs rest after) (sym (are ∙ ap (λ a. a ∷ []) is))
+    (rests_one task rest after none (first_of left task rest some first others) rise following)
+rests_first (x ∷ xs) given left rest pairs after task answer none some first others are is following
+    rise = absurd (omega arith)
+
+-- no more keys come than tasks go
+pub rests_few : (answers : List Answer) (left : List Task) (pairs : List Pair)
+    (given : List Answer) (rest : List Task) (after : List Pair)
+    → Rests answers left pairs given rest after → IsRising pairs
+    → length after + length rest ≤ length pairs + length left
+rests_few answers left pairs given rest after (stays some) rise = omega arith
+rests_few answers left pairs given rest after (rests_one task others later none first up is) rise =
+    let few = adds_few_pairs (map_of pairs) (task.command ∷ []) in
+    let old = ap length (pairs_of-map_of pairs rise) in
+    let new = ap length (pairs_of-map_of after up) in let same = ap (λ m. length (pairs_of m)) is in
+    let long = ap length first in omega arith

@@ -5,15 +5,9 @@ use Rattle.std.proofs.lemmas.Bool.{eq-eqb}
 use Rattle.std.specs.FinMap as fin
 use Rattle.ist_core.specs.declared.calls.Call.{Call}
 use Rattle.ist_core.specs.declared.pairs.Pair.{Pair}
-use Rattle.ist_core.specs.Map.{map_of, replay}
-use Rattle.ist_core.specs.Replies.{Answered}
-use Rattle.ist_core.specs.Elements.{Among, Each}
-use Rattle.ist_core.specs.Logs.{Log}
-use Rattle.ist_core.specs.Changes.{Entry, changes_of}
-use Rattle.ist_core.specs.Standing.{is_change, entry_by, StandsIn}
-use Rattle.ist_core.specs.Histories.{IsLegal}
-use Rattle.ist_core.specs.Resting.{AllStandIn, told_by_call}
-use Rattle.ist_core.proofs.ElementLemmas.{each-among, among-filter, among_filter, get_among}
+use Rattle.ist_core.specs.TreeTerms.{map_of, replay, Entry, changes_of, is_change, entry_by, StandsIn, AllStandIn, told_by_call}
+use Rattle.ist_core.specs.LogTerms.{Answered, Among, Each, Log, IsLegal}
+use Rattle.ist_core.proofs.AllWordLemmas.{each-among, among-filter, among_filter, get_among}
 use Rattle.laws_histories.specs.Telling.{map_now}
 use Rattle.laws_histories.proofs.ContentLemmas.{told_at}
 use Rattle.laws_histories.proofs.EntryLemmas.{entry_update}
@@ -21,7 +15,7 @@ use Rattle.tele_lanes.specs.Lanes.{lane_of}
 use Rattle.tele_generations.specs.Alone.{RestsWith, KeepToLanes, commands_told}
 use Rattle.tele_generations.proofs.StandLemmas.{stand_from}
 use Rattle.tele_generations.proofs.AloneLemmas.{OfLane, IsAlone, alone}
-use Rattle.laws_links.proofs.OwnerLemmas.{owner_known}
+use Rattle.laws_links.proofs.StartingLemmas.{owner_known}
 
 -- ---- lists
 
@@ -95,8 +89,7 @@ module _ (pairs : List Pair) (words : ℕ) (log : Log) (told : List (List Answer
       (stand_at pairs words log 0 r.calls r.stand k d lt)
 
   -- the list at a place has only keys of its lane
-  kept : (k : ℕ) (d : List Call) → k < length r.calls
-      → OfLane (length told) k (get_or r.calls k d)
+  kept : (k : ℕ) (d : List Call) → k < length r.calls → OfLane (length told) k (get_or r.calls k d)
   kept k d lt = subst (λ n. OfLane (length told) n (get_or r.calls k d)) (omega arith)
       (kept_at (length told) 0 r.calls
       (subst (λ ts. KeepToLanes (length told) 0 ts) (sym r.told_are) keeps) k d lt)
@@ -111,18 +104,13 @@ module _ (pairs : List Pair) (words : ℕ) (log : Log) (told : List (List Answer
       es = changes_of pairs words log
 
       known : (i : ℕ) (e : Entry) → slice_get es i ≡ Some e → e.owner < length r.calls
-      known i e is =
-          let u = entry_update pairs words r.lawful.opens log r.lawful.enabled i e is in
+      known i e is = let u = entry_update pairs words r.lawful.opens log r.lawful.enabled i e is in
           let low = owner_known pairs words log r.lawful.enabled u.0 u.1.change u.1.published in
-          let own = same_owner _ e _ is u.1.entry in
-          let rest = r.at_rest in
-          omega arith
+          let own = same_owner _ e _ is u.1.entry in let rest = r.at_rest in omega arith
 
       at : (e : Entry) → Among e es → e.owner < length r.calls
           → lane_of (length told) e.command ≡ e.owner
-      at e i low =
-          let s = stands e.owner [] low in
-          let kept_here = kept e.owner [] low in
+      at e i low = let s = stands e.owner [] low in let kept_here = kept e.owner [] low in
           let own = among_filter (λ x. x.owner == e.owner) e es i (eq-eqb e.owner e.owner refl) in
           let it = from_map (entry_by e.owner) e (filter is_change (get_or r.calls e.owner []))
           (subst (Among e) s.exactly own) in
@@ -135,11 +123,8 @@ module _ (pairs : List Pair) (words : ℕ) (log : Log) (told : List (List Answer
   pub list_alone : (k : ℕ) (d : List Call) → k < length r.calls
       → IsAlone (length told) k (map_of pairs) (map_of pairs) (changes_of pairs words log)
       (get_or r.calls k d)
-  list_alone k d lt =
-      let s = stands k d lt in
-      let m = map_of pairs in
-      let es = changes_of pairs words log in
-      alone (length told) k es m m 0 (get_or r.calls k d)
+  list_alone k d lt = let s = stands k d lt in let m = map_of pairs in
+      let es = changes_of pairs words log in alone (length told) k es m m 0 (get_or r.calls k d)
       record {
         stand = stand_from m es k (get_or r.calls k d) s;
         exactly = s.exactly;
@@ -158,11 +143,8 @@ module _ (pairs : List Pair) (words : ℕ) (log : Log) (told : List (List Answer
   pub keys_alone : 0 < length told → (key : ℕ) (d : List Answered)
       → fin.get (map_now pairs words log) key
       ≡ fin.get (replay (map_of pairs) (commands_told (get_or told (key % length told) d))) key
-  keys_alone some key d =
-      let k = key % length told in
-      let lt : k < length r.calls = omega (arith, told_long) in
-      let a = list_alone k [] lt in
+  keys_alone some key d = let k = key % length told in
+      let lt : k < length r.calls = omega (arith, told_long) in let a = list_alone k [] lt in
       let list : map told_by_call (get_or r.calls k []) ≡ get_or told k d =
-      sym (get_or-map (map told_by_call) r.calls k [] d lt) ∙ ap
-      (λ ts. get_or ts k d) r.told_are in
+      sym (get_or-map (map told_by_call) r.calls k [] d lt) ∙ ap (λ ts. get_or ts k d) r.told_are in
       a.agree key refl ∙ ap (λ t. fin.get (replay (map_of pairs) (commands_told t)) key) list

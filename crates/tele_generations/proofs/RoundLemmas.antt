@@ -3,8 +3,8 @@ use Rattle.std.proofs.Common.{◌≡◌, ℕ, ◌+◌, ◌<◌, ◌≤◌, List,
 use Rattle.std.specs.List.Sorted.{IsStrictlyIncreasing, IsPermutation, IsNonDecreasingBy}
 use Rattle.ist_core.specs.declared.pairs.Pair.{Pair}
 use Rattle.ist_core.specs.declared.ports.Full.{Full}
-use Rattle.ist_core.specs.RowLayout.{place_limit}
-use Rattle.ist_core.specs.Map.{map_of}
+use Rattle.ist_core.specs.WordTerms.{place_limit}
+use Rattle.ist_core.specs.TreeTerms.{map_of}
 use Rattle.tele_lanes.specs.declared.task_lists.Task.{Task}
 use Rattle.tele_lanes.specs.declared.answer_lists.Answer.{Answer}
 use Rattle.tele_lanes.specs.Lines.{task_lines}
@@ -21,7 +21,7 @@ use Rattle.tele_generations.specs.declared.rests.Turn.{Turn}
 use Rattle.tele_generations.specs.declared.ways.RoundState.{RoundState}
 use Rattle.tele_generations.specs.Ways.{Rests, HasTables, IsOnItsWay, GoesOnAfter}
 use Rattle.tele_generations.proofs.LeadLemmas.{tables_more, tables_end}
-use Rattle.tele_generations.proofs.TableLemmas.{asks_more, table_map, turn, puts_few, rest_some, rest_none, after_rises, few_following}
+use Rattle.tele_generations.proofs.WholeLemmas.{asks_more, table_map, turn, puts_few, rest_some, rest_none, after_rises, few_following}
 use Rattle.tele_generations.proofs.NextTableLemmas.{turn_ends, way_more}
 
 module _ {workers words : ℕ} {pairs now : List Pair} {tasks left : List Task}
@@ -50,12 +50,10 @@ module _ {workers words : ℕ} {pairs now : List Pair} {tasks left : List Task}
 
     -- the round goes on after the turn
     pub goes_on : (full : Full) (given : List Answer) (after : List Task) (later : List Pair)
-        (next : ℕ)
-        → ended ≡ Some full → Rests more rest following given after later
+        (next : ℕ) → ended ≡ Some full → Rests more rest following given after later
         → least_words (length later) ≤ next → next ≤ place_limit
         → IsOnItsWay workers pairs tasks (fulls ++ full ∷ []) (answers ++ given) later after next
-    goes_on full given after later next is rests holds fits =
-        let f = ran_full full is in
+    goes_on full given after later next is rests holds fits = let f = ran_full full is in
         let ends = turn_ends workers words now left table more rest ended r o.some o.rising following h
         given after later rests in
         let few = o.few in
@@ -71,15 +69,12 @@ module _ {workers words : ℕ} {pairs now : List Pair} {tasks left : List Task}
         let ends = turn_ends workers words now left table more rest ended r o.some o.rising following h
         given after later rests in
         let counted = tasks_counted (map_of now) (map_of later) left after given ends.way in
-        let given_some = ends.some_given in
-        omega arith
+        let given_some = ends.some_given in omega arith
 
   -- if the table answered all, the round is under way with nothing left
-  ends_way : ended ≡ None
-      → IsUnderWay (map_of pairs) tasks (answers ++ more) []
+  ends_way : ended ≡ None → IsUnderWay (map_of pairs) tasks (answers ++ more) []
       (table_map workers words now left table more rest ended r o.some o.rising)
-  ends_way is =
-      let m = table_map workers words now left table more rest ended r o.some o.rising in
+  ends_way is = let m = table_map workers words now left table more rest ended r o.some o.rising in
       let none : rest ≡ []
       = rest_none workers words now left table more rest ended r o.some o.rising
       (subst (λ e. EndedWith now table r.runs e) is r.ended) in
@@ -166,8 +161,7 @@ way_goes_on {workers = workers} {pairs = pairs} {tasks = tasks} {way = way} {nex
 -- the shelf has one more table
 pub tables_go_on : {workers first : ℕ} {pairs : List Pair} {tasks : List Task}
     {before middle after : Option (List (List ℕ))} {way next : RoundState} {made : Turn} {full : Full}
-    (table : List ℕ) {ended : Option Full}
-    → GoesOnAfter way made full next
+    (table : List ℕ) {ended : Option Full} → GoesOnAfter way made full next
     → HasTables workers first pairs tasks before middle way.fulls.items way.pairs.items
     way.left.items way.words
     → IsOnItsWay workers pairs tasks way.fulls.items way.answers.items way.pairs.items
@@ -189,8 +183,7 @@ tables_go_on {workers = workers} {first = first} {pairs = pairs} {tasks = tasks}
 pub ends_with : {workers first : ℕ} {pairs : List Pair} {tasks : List Task}
     {before after : Option (List (List ℕ))} {table last : List ℕ} {fulls all : List Full}
     → RanInGenerations workers first pairs tasks before after table fulls
-    → last ≡ table → all ≡ fulls
-    → RanInGenerations workers first pairs tasks before after last all
+    → last ≡ table → all ≡ fulls → RanInGenerations workers first pairs tasks before after last all
 ends_with {workers = workers} {first = first} {pairs = pairs} {tasks = tasks} {before = before}
     {after = after} {last = last} {fulls = fulls} g same_table same_fulls =
     subst (λ fs. RanInGenerations workers first pairs tasks before after last fs) (sym same_fulls)

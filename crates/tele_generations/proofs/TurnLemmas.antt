@@ -10,43 +10,39 @@ use Rattle.std.specs.List.{flat_map, range_with_len}
 use Rattle.std.specs.List.Sorted.{IsPermutation, IsStrictlyIncreasing, IsNonDecreasingBy}
 use Rattle.std.proofs.lemmas.List.Sorted.{length_permutation, IsPermutation-refl, IsPermutation-sym, IsPermutation-trans, IsPermutation-append_right, IsPermutation-append_left}
 use Rattle.ist_core.specs.declared.pairs.Pair.{Pair}
-use Rattle.ist_core.specs.Map.{Map, map_of, pairs_of, map_after, replay}
-use Rattle.ist_core.specs.Logs.{Log}
+use Rattle.ist_core.specs.TreeTerms.{Map, map_of, pairs_of, map_after, replay}
+use Rattle.ist_core.specs.LogTerms.{Log}
 use Rattle.laws_histories.specs.Telling.{map_now}
 use Rattle.laws_histories.proofs.MapLemmas.{replay-append}
 use Rattle.tele_lanes.specs.declared.task_lists.Task.{Task}
 use Rattle.tele_lanes.specs.declared.answer_lists.Answer.{Answer}
 use Rattle.tele_lanes.specs.Lines.{commands_of, task_lines, answer_lines}
 use Rattle.tele_lanes.specs.Lanes.{lane_tasks, ArePlainAnswers, InLineOrder, TasksInLineOrder}
-use Rattle.tele_lanes.proofs.AloneLemmas.{answered, ArePlainAnswers-answered, answered-from_ArePlainAnswers, picked, picked_is, IsPermutation-picked}
-use Rattle.tele_lanes.proofs.LawLemmas.{InLineOrder-one, get-replay_lane}
+use Rattle.tele_lanes.proofs.AloneLemmas.{answered, ArePlainAnswers-answered, answered-from_ArePlainAnswers, picked, picked_is, IsPermutation-picked, InLineOrder-one, get-replay_lane}
 use Rattle.tele_lanes.proofs.DistinctLemmas.{IsDistinct-from_increasing, sorted_rises}
 use Rattle.tele_lanes.proofs.LineLemmas.{flat_map-map, line_of}
 use Rattle.tele_generations.specs.Runs.{LaneRun, RanOn, answers_of_runs, left_of_runs, ArePlainly}
 use Rattle.tele_generations.specs.Turns.{IsUnderWay, plain_answer}
-use Rattle.plain_map.proofs.PairCountLemmas.{adds_few_pairs}
+use Rattle.plain_map.proofs.PlaceLemmas.{adds_few_pairs}
 use Rattle.tele_generations.proofs.PlainLemmas.{answered-append, lane_commands-tasks, flat_map-within, flat_map-both}
 use Rattle.tele_generations.proofs.RunLemmas.{runs_long, keys_few, run_tasks, lane_plain, lane_sees, left_lane}
 
 -- ---- any turn
 
 -- a round is under way by what one thread answers
-pub under_way : (m : Map) (tasks : List Task) (answers : List Answer) (left : List Task)
-    (now : Map)
+pub under_way : (m : Map) (tasks : List Task) (answers : List Answer) (left : List Task) (now : Map)
     → IsPermutation (answers ++ answered now left) (answered m tasks)
     → replay now (commands_of left) ≡ replay m (commands_of tasks)
     → length (pairs_of now) + length left ≤ length (pairs_of m) + length tasks
     → IsUnderWay m tasks answers left now
-under_way m tasks answers left now same leaves few =
-    record {
-      completes = λ rest all one_rest one_all.
-          subst (λ xs. IsPermutation (answers ++ xs) all)
-          (sym (answered-from_ArePlainAnswers now left rest one_rest))
-          (subst (IsPermutation (answers ++ answered now left))
-          (sym (answered-from_ArePlainAnswers m tasks all one_all)) same);
-      leaves = leaves;
-      few = few;
-    }
+under_way m tasks answers left now same leaves few = record {
+  completes = λ rest all one_rest one_all. subst (λ xs. IsPermutation (answers ++ xs) all)
+      (sym (answered-from_ArePlainAnswers now left rest one_rest))
+      (subst (IsPermutation (answers ++ answered now left))
+      (sym (answered-from_ArePlainAnswers m tasks all one_all)) same);
+  leaves = leaves;
+  few = few;
+}
 
 -- before the first turn all tasks are left
 pub round_begins : (m : Map) (tasks : List Task) → IsUnderWay m tasks [] tasks m
@@ -57,18 +53,16 @@ round_begins m tasks = under_way m tasks [] tasks m (IsPermutation-refl (answere
 pub round_goes_on : (m now later : Map) (tasks left after : List Task) (answers more : List Answer)
     → IsUnderWay m tasks answers left now → IsUnderWay now left more after later
     → IsUnderWay m tasks (answers ++ more) after later
-round_goes_on m now later tasks left after answers more one two =
-    record {
-      completes = λ rest all plain_rest plain_all.
-          let middle = ArePlainAnswers-answered now left in
-          subst (λ xs. IsPermutation xs all) (sym (append_assoc answers more rest))
-          (IsPermutation-trans _ _ _
-          (IsPermutation-append_right answers (more ++ rest) (answered now left)
-          (two.completes rest (answered now left) plain_rest middle))
-          (one.completes (answered now left) all middle plain_all));
-      leaves = two.leaves ∙ one.leaves;
-      few = (let first = one.few in let second = two.few in omega arith);
-    }
+round_goes_on m now later tasks left after answers more one two = record {
+  completes = λ rest all plain_rest plain_all. let middle = ArePlainAnswers-answered now left in
+      subst (λ xs. IsPermutation xs all) (sym (append_assoc answers more rest))
+      (IsPermutation-trans _ _ _
+      (IsPermutation-append_right answers (more ++ rest) (answered now left)
+      (two.completes rest (answered now left) plain_rest middle))
+      (one.completes (answered now left) all middle plain_all));
+  leaves = two.leaves ∙ one.leaves;
+  few = (let first = one.few in let second = two.few in omega arith);
+}
 
 -- a turn of one thread that answers only the first line
 pub one_line : (m : Map) (task : Task) (tasks : List Task)
@@ -80,27 +74,21 @@ one_line m task tasks =
 
 -- there is an answer of one thread for each task
 length-answered : (m : Map) (tasks : List Task) → length (answered m tasks) ≡ length tasks
-length-answered m tasks =
-    sym (length-map (answered m tasks) (λ a. a.line)) ∙ ap length
-    (ArePlainAnswers-answered m tasks).lines
-    ∙ length-map tasks (λ t. t.line)
+length-answered m tasks = sym (length-map (answered m tasks) (λ a. a.line)) ∙ ap length
+    (ArePlainAnswers-answered m tasks).lines ∙ length-map tasks (λ t. t.line)
 
 -- each task is answered or left
 counted : (m : Map) (tasks : List Task) (answers : List Answer) (left : List Task) (now : Map)
     → IsPermutation (answers ++ answered now left) (answered m tasks)
     → length answers + length left ≡ length tasks
-counted m tasks answers left now same =
-    let both = length-append answers (answered now left) in
+counted m tasks answers left now same = let both = length-append answers (answered now left) in
     let all = length_permutation (answers ++ answered now left) (answered m tasks) same in
-    let one = length-answered now left in
-    let two = length-answered m tasks in
-    omega arith
+    let one = length-answered now left in let two = length-answered m tasks in omega arith
 
 -- each task is answered or left
 pub tasks_counted : (m now : Map) (tasks left : List Task) (answers : List Answer)
     → IsUnderWay m tasks answers left now → length answers + length left ≡ length tasks
-tasks_counted m now tasks left answers way =
-    counted m tasks answers left now
+tasks_counted m now tasks left answers way = counted m tasks answers left now
     (way.completes (answered now left) (answered m tasks) (ArePlainAnswers-answered now left)
     (ArePlainAnswers-answered m tasks))
 
@@ -111,8 +99,7 @@ pub sorted_plain : (m : Map) (tasks : List Task) (all : List Answer)
     → IsStrictlyIncreasing (task_lines tasks)
     → IsPermutation (answered m tasks) all → IsNonDecreasingBy (λ a. a.line) all
     → ArePlainAnswers m tasks all
-sorted_plain m tasks all up same rise =
-    let own = ArePlainAnswers-answered m tasks in
+sorted_plain m tasks all up same rise = let own = ArePlainAnswers-answered m tasks in
     let lists : List (List Answer) = answered m tasks ∷ [] in
     let rising : IsStrictlyIncreasing (answer_lines (answered m tasks)) =
     subst IsStrictlyIncreasing (sym own.lines) up in
@@ -136,8 +123,7 @@ sorted_plain m tasks all up same rise =
 -- if nothing is left, the answers sorted by line are one thread's
 pub round_ends : (m now : Map) (tasks : List Task) (answers all : List Answer)
     → IsStrictlyIncreasing (task_lines tasks) → IsUnderWay m tasks answers [] now
-    → IsPermutation answers all → IsNonDecreasingBy (λ a. a.line) all
-    → ArePlainly m tasks all now
+    → IsPermutation answers all → IsNonDecreasingBy (λ a. a.line) all → ArePlainly m tasks all now
 round_ends m now tasks answers all up way same rise =
     let whole : IsPermutation (answers ++ []) (answered m tasks) =
     way.completes [] (answered m tasks) record { lines = refl; replies = refl }
@@ -185,8 +171,7 @@ module _ (pairs : List Pair) (words : ℕ) (log : Log) (workers : ℕ) (tasks : 
     lane_splits : (k : ℕ) → k < workers → picked workers k m tasks ≡ mine k
         ++ picked workers k now left
     unfolding mine done rest none m now
-    lane_splits k lt =
-        let p : Map = replay m (commands_of (done k)) in
+    lane_splits k lt = let p : Map = replay m (commands_of (done k)) in
         let own : mine k ≡ answered m (done k) =
         answered-from_ArePlainAnswers m (done k) (mine k)
         (lane_plain pairs words log workers tasks runs r k none lt) in
@@ -204,16 +189,14 @@ module _ (pairs : List Pair) (words : ℕ) (log : Log) (workers : ℕ) (tasks : 
         (flat_map (λ answers. answers) (answers_of_runs runs) ++ answered now left)
         (answered m tasks)
     unfolding mine done rest none m now
-    answers_complete =
-        let range = range_with_len 0 workers in
+    answers_complete = let range = range_with_len 0 workers in
         let coming : ℕ → List Answer = λ k. picked workers k now left in
         let long = runs_long pairs words log workers tasks runs r in
         let lists : answers_of_runs runs ≡ map mine range =
         same_lists (answers_of_runs runs) (map mine range)
         (length-map runs (λ run. run.answers) ∙ long ∙ sym
         (length-map-range_with_len mine 0 workers))
-        (λ k d h.
-        let lt : k < workers = omega (arith, length-map runs (λ run. run.answers)) in
+        (λ k d h. let lt : k < workers = omega (arith, length-map runs (λ run. run.answers)) in
         get_or-map (λ run. run.answers) runs k none d (omega arith)
         ∙ sym (get_or-map-range_with_len mine 0 workers k k d lt (omega arith))) in
         let flat : flat_map (λ answers. answers) (answers_of_runs runs) ≡ flat_map mine range =
@@ -238,10 +221,7 @@ module _ (pairs : List Pair) (words : ℕ) (log : Log) (workers : ℕ) (tasks : 
       where
         same : (q : ℕ) → fin.get (replay now (commands_of left)) q ≡ fin.get
             (replay m (commands_of tasks)) q
-        same q =
-            let k = q % workers in
-            let some = r.some in
-            let lt : k < workers = omega arith in
+        same q = let k = q % workers in let some = r.some in let lt : k < workers = omega arith in
             let p : Map = replay m (commands_of (done k)) in
             get-replay_lane workers q now p (commands_of left)
             (lane_sees pairs words log workers tasks runs r k none lt q refl)
@@ -257,12 +237,10 @@ module _ (pairs : List Pair) (words : ℕ) (log : Log) (workers : ℕ) (tasks : 
 
   -- a turn of lanes
   pub lanes_turn : (answers : List Answer) → InLineOrder (answers_of_runs runs) answers →
-      (left : List Task)
-      → TasksInLineOrder (left_of_runs runs) left
+      (left : List Task) → TasksInLineOrder (left_of_runs runs) left
       → IsUnderWay (map_of pairs) tasks answers left (map_now pairs words log)
   unfolding m now
-  lanes_turn answers in_order left order =
-      under_way m tasks answers left now
+  lanes_turn answers in_order left order = under_way m tasks answers left now
       (IsPermutation-trans _ _ _
       (IsPermutation-append_left (answered now left) answers
       (flat_map (λ xs. xs) (answers_of_runs runs)) (IsPermutation-sym _ _ in_order.same))

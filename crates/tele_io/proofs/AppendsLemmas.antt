@@ -12,8 +12,7 @@ pub Appends-take-add : (before middle now : Option (List ℕ)) (bytes : List ℕ
     → Appends before now (take (t + n) bytes)
 Appends-take-add None middle now bytes t n first next = tt
 Appends-take-add (Some xs) None now bytes t n first next = absurd (cc first)
-Appends-take-add (Some xs) (Some ys) now bytes t n first next =
-    let here = rw take_rest at next in
+Appends-take-add (Some xs) (Some ys) now bytes t n first next = let here = rw take_rest at next in
     rw (take-add t n bytes, ← append_assoc) (cc (first, here))
 
 -- how many bytes follow the first t
@@ -46,8 +45,7 @@ AppendsPart-nothing before bytes = (0, omega arith, Appends-nothing before)
 pub AppendsPart-append : (before middle now : Option (List ℕ)) (first second : List ℕ)
     → Appends before middle first → AppendsPart middle now second
     → AppendsPart before now (first ++ second)
-AppendsPart-append before middle now first second a part =
-    let n = part.0 in
+AppendsPart-append before middle now first second a part = let n = part.0 in
     let fits : length first + n ≤ length (first ++ second) =
     omega (arith, length-append first second, part.1) in (
       length first + n,
@@ -63,8 +61,7 @@ AppendsPart-longer before now first second part =
     let n = part.0 in (
       n,
       omega (arith, length-append first second, part.1),
-      subst (Appends before now)
-          (sym (take-append-le n first second part.1)) part.2,
+      subst (Appends before now) (sym (take-append-le n first second part.1)) part.2,
     )
 
 -- all bytes of a piece were taken

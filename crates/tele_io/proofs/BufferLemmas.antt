@@ -20,8 +20,7 @@ keeps_passed (Some xs) (Some ys) held left n passed is =
 pub passed_part : (now : Option (List ℕ)) (held text : List ℕ)
     → AppendsPart (Some []) (with_held now held) text → AppendsPart (Some []) now text
 passed_part None held text part = absurd (cc part.2)
-passed_part (Some xs) held text part =
-    let n = part.0 in
+passed_part (Some xs) held text part = let n = part.0 in
     let whole : xs ++ held ≡ take n text = cc part.2 in
     let text_is : text ≡ xs ++ (held ++ drop n text) =
     sym (take-append-drop n text) ∙ ap (λ l. l ++ drop n text) (sym whole)

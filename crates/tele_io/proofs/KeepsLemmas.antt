@@ -21,8 +21,7 @@ keeps_gives (Some bytes) middle now n buffer kept given =
 pub keeps_appends : (before middle now : Option (List ℕ)) (bytes : List ℕ)
     → Keeps before middle → Appends middle now bytes → Appends before now bytes
 keeps_appends None middle now bytes kept taken = tt
-keeps_appends (Some start) middle now bytes kept taken =
-    subst (λ m. Appends m now bytes) kept taken
+keeps_appends (Some start) middle now bytes kept taken = subst (λ m. Appends m now bytes) kept taken
 
 -- what was appended before was kept
 pub appends_keeps : (before middle now : Option (List ℕ)) (bytes : List ℕ)

@@ -1,6 +1,6 @@
 -- The text of tasks that were answered. Serves the rounds.
 use Rattle.std.proofs.Common.{◌≡◌, ℕ, ◌<◌, length, arith, List, [], ◌∷◌, ◌++◌, refl, sym, ◌∙◌, ap, append_assoc}
-use Rattle.ist_core.specs.Map.{Map, map_after, reply_to, replay, listed}
+use Rattle.ist_core.specs.TreeTerms.{Map, map_after, reply_to, replay, listed}
 use Rattle.tele_lanes.specs.declared.task_lists.Task.{Task}
 use Rattle.tele_lanes.specs.declared.answer_lists.Answer.{Answer}
 use Rattle.tele_lanes.specs.Lines.{commands_of}
@@ -12,15 +12,12 @@ use Rattle.tele_jobs.specs.Open.{asked, answers_text}
 
 -- the text of some tasks is the text of their answers
 pub text-answered : (version : Version) (m : Map) (tasks : List Task) (answers : List Answer) →
-    ArePlainAnswers m tasks answers
-    → answers_text version answers ≡ text_of m (asked version tasks)
+    ArePlainAnswers m tasks answers → answers_text version answers ≡ text_of m (asked version tasks)
 text-answered version m [] [] h = refl
 text-answered version m [] (answer ∷ answers) h = let e = h.lines in absurd (cc e)
 text-answered version m (task ∷ tasks) [] h = let e = h.lines in absurd (cc e)
-text-answered version m (task ∷ tasks) (answer ∷ answers) h =
-    let lines_is = h.lines in
-    let replies_is = h.replies in
-    let line : answer.line ≡ task.line = cc (lines_is, replies_is) in
+text-answered version m (task ∷ tasks) (answer ∷ answers) h = let lines_is = h.lines in
+    let replies_is = h.replies in let line : answer.line ≡ task.line = cc (lines_is, replies_is) in
     let reply : answer.reply ≡ reply_to m task.command = cc (lines_is, replies_is) in
     let rest : ArePlainAnswers (map_after m task.command) tasks answers = record
     { lines = cc lines_is; replies = cc replies_is } in
@@ -51,16 +48,14 @@ pub text-good : (m : Map) (lines more : List Read) → exit_status lines ≡ 0 �
 text-good m [] more good = record { others = text_of m more; same = refl }
 text-good m (Good number version (Point command) ∷ lines) more good =
     let first = answer_text version number (reply_to m command) in
-    let rest = text-good (map_after m command) lines more good in
-    record {
+    let rest = text-good (map_after m command) lines more good in record {
       others = rest.others;
       same = ap (λ xs. first ++ xs) rest.same
           ∙ sym (append_assoc {A = ℕ} first (text_of (map_after m command) lines) rest.others);
     }
 text-good m (Good number version (Interval low high) ∷ lines) more good =
     let first = interval_text version number (listed low high m) in
-    let rest = text-good m lines more good in
-    record {
+    let rest = text-good m lines more good in record {
       others = rest.others;
       same = ap (λ xs. first ++ xs) rest.same ∙ sym
           (append_assoc {A = ℕ} first (text_of m lines) rest.others);

@@ -48,8 +48,7 @@ went_on was now lines given bytes ended before written unread is goes takes =
 pub part_of_due : (was : Moment) (lines given : List Read) (bytes : List ℕ) (others : List Read)
     (before written : Option (List ℕ))
     → was.lines ≡ lines → read_at was.place (lines_of bytes) ≡ given ++ others → exit_status
-    (lines ++ given) ≡ 0
-    → AppendsPart before written (text_of was.m (lines ++ given))
+    (lines ++ given) ≡ 0 → AppendsPart before written (text_of was.m (lines ++ given))
     → AppendsPart before written (due was bytes).text
 part_of_due was lines given bytes others before written is reads good part =
     let follows = text-good was.m (lines ++ given) others good in
@@ -69,12 +68,10 @@ due-last was lines last bytes is reads = ap (λ ls. was.lines ++ ls) reads ∙ a
 pub ended_so : (was : Moment) (lines last : List Read) (bytes : List ℕ) (ending : ℕ)
     (before written : Option (List ℕ))
     → was.lines ≡ lines → read_at was.place (lines_of bytes) ≡ last → ending ≡ exit_status
-    (lines ++ last)
-    → Appends before written (text_of was.m (lines ++ last))
+    (lines ++ last) → Appends before written (text_of was.m (lines ++ last))
     → Ends (due was bytes) before written ending
 ended_so was lines last bytes ending before written is reads status writes =
-    let all = due-last was lines last bytes is reads in
-    record {
+    let all = due-last was lines last bytes is reads in record {
       writes = subst (Appends before written) (sym (ap (text_of was.m) all)) writes;
       status = status ∙ sym (ap exit_status all);
     }
@@ -85,8 +82,7 @@ pub ended_part : (was : Moment) (lines last : List Read) (bytes : List ℕ)
     → was.lines ≡ lines → read_at was.place (lines_of bytes) ≡ last
     → AppendsPart before written (text_of was.m (lines ++ last))
     → AppendsPart before written (due was bytes).text
-ended_part was lines last bytes before written is reads part =
-    subst (AppendsPart before written)
+ended_part was lines last bytes before written is reads part = subst (AppendsPart before written)
     (sym (ap (text_of was.m) (due-last was lines last bytes is reads))) part
 
 -- one step after another
@@ -99,8 +95,7 @@ on_and_on first mid last bytes before written later ended now_ended unread now l
     let next : RunsTo mid one.bytes written later now_ended now last =
     subst (λ u. IfSome u (λ bytes. RunsTo mid bytes written later now_ended now last)) one.leaves
     two in
-    let was : now_ended ≡ false → ended ≡ false = still_going ended now_ended lasts in
-    record {
+    let was : now_ended ≡ false → ended ≡ false = still_going ended now_ended lasts in record {
       bytes = next.bytes;
       taken = one.taken ++ next.taken;
       printed = one.printed ++ next.printed;
@@ -124,8 +119,7 @@ on_and_on first mid last bytes before written later ended now_ended unread now l
 
 -- one step, and then the end of the run
 pub on_and_end : (first mid : Moment) (ending : ℕ) (bytes : List ℕ)
-    (before written later : Option (List ℕ))
-    (ended : Bool) (unread : Option (List ℕ))
+    (before written later : Option (List ℕ)) (ended : Bool) (unread : Option (List ℕ))
     → RunsTo first bytes before written ended unread mid
     → IfSome unread (λ bytes. Ends (due mid bytes) written later ending)
     → Ends (due first bytes) before later ending
@@ -141,8 +135,7 @@ on_and_end first mid ending bytes before written later ended unread one two =
 
 -- one step, and then a part of what is due
 pub on_and_part : (first mid : Moment) (bytes : List ℕ) (before written later : Option (List ℕ))
-    (ended : Bool) (unread : Option (List ℕ))
-    → RunsTo first bytes before written ended unread mid
+    (ended : Bool) (unread : Option (List ℕ)) → RunsTo first bytes before written ended unread mid
     → IfSome unread (λ bytes. AppendsPart written later (due mid bytes).text)
     → AppendsPart before later (due first bytes).text
 on_and_part first mid bytes before written later ended unread one two =

@@ -70,12 +70,7 @@ module _ (team : Team) (most : ℕ) (before : Option (List (List ℕ))) where
   all_rounds_due None = tt
   all_rounds_due (Some bytes) = record {
     ran = [];
-    has = record {
-      ran = none_ran team most before;
-      begins = refl;
-      team_is = refl;
-      most_is = refl;
-    };
+    has = record { ran = none_ran team most before; begins = refl; team_is = refl; most_is = refl };
     rest = bytes;
     leaves = refl;
     due = refl;
@@ -83,8 +78,7 @@ module _ (team : Team) (most : ℕ) (before : Option (List (List ℕ))) where
 
   -- before the first line all are due
   pub rounds_first : (left : Option (List ℕ)) (unended : List ℕ) (ended : Bool) (now : Moment)
-      (o : Open) → unended ≡ [] → ended ≡ false → now ≡ first_moment
-      → o ≡ fresh_round team most
+      (o : Open) → unended ≡ [] → ended ≡ false → now ≡ first_moment → o ≡ fresh_round team most
       → IfSome left (λ bytes. HasRounds team most before before o bytes
       (unread_of unended ended left) now)
   rounds_first left unended ended now o no_bytes going first fresh =
@@ -131,8 +125,7 @@ module _ (team : Team) (most : ℕ) (before : Option (List (List ℕ))) where
         (unread : Option (List ℕ)) (last : Option (List ℕ)) (fulls : ℕ) → last ≡ new.last
         → fulls ≡ new.fulls → HasRounds team most before kept mid bytes unread was
         → IfSome unread (λ rest. RunsOn mid kept new later (rounds_due was rest))
-        → RanRounds team most (input_rounds bytes) before
-        later last fulls
+        → RanRounds team most (input_rounds bytes) before later last fulls
     rounds_end bytes new later was unread last fulls last_is fulls_is h step =
         let next : RunsOn mid kept new later (rounds_due was h.rest) =
         subst (λ u. IfSome u (λ rest. RunsOn mid kept new later (rounds_due was rest)))

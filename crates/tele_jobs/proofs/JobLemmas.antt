@@ -17,8 +17,7 @@ job_by refused options = if refused then Refuse else job_for options.generate op
 
 -- the job of a command line that is accepted
 taken : (words : List (List ℕ)) (options : Options) → are_refused words ≡ false → options ≡
-    options_in words
-    → job_for options.generate options.seed ≡ job_of words
+    options_in words → job_for options.generate options.seed ≡ job_of words
 unfolding job_of
 taken words options is same = ap (job_by false) same ∙ ap (λ b. job_by b (options_in words))
     (sym is)
@@ -32,8 +31,7 @@ makes words options count is same some = sym (ap (λ g. job_for g options.seed) 
 
 -- to read lines
 pub reads : (words : List (List ℕ)) (options : Options) → are_refused words ≡ false → options ≡
-    options_in words
-    → options.generate ≡ None → Read ≡ job_of words
+    options_in words → options.generate ≡ None → Read ≡ job_of words
 reads words options is same none = sym (ap (λ g. job_for g options.seed) none) ∙ taken words options
     is same
 
@@ -45,8 +43,7 @@ refuses words is = ap (λ b. job_by b (options_in words)) (sym is)
 -- what holds of the lines of a job holds whichever numbers the job is known by
 pub of_same_lines : (P : ℕ → ℕ → Type 0) (job : Job) (count seed many from : ℕ)
     → job ≡ Make count seed → job ≡ Make many from → P count seed → P many from
-of_same_lines P job count seed many from is same h =
-    let counts : count ≡ many = cc (is, same) in
+of_same_lines P job count seed many from is same h = let counts : count ≡ many = cc (is, same) in
     let seeds : seed ≡ from = cc (is, same) in
     subst (λ n. P n from) counts (subst (P count) seeds h)
 

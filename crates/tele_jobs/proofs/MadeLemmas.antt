@@ -2,10 +2,12 @@
 use Rattle.std.proofs.Common.{◌≡◌, ℕ, suc, ◌+◌, ◌-◌, ◌<◌, ◌≤◌, List, [], ◌∷◌, ◌++◌, refl, sym, ◌∙◌, ap, subst, append_assoc, zero-add, length, arith}
 use Rattle.std.specs.Prelude.{is_some, if◌then◌else◌}
 use Rattle.std.specs.List.{count_by}
-use Rattle.std.proofs.lemmas.List.{map-append, length-append}
+use Rattle.std.proofs.lemmas.List.{map-append, length-append, length-map}
 use Rattle.std.proofs.lemmas.List.Sums.{sum_by-append}
 use Rattle.ist_core.specs.declared.commands.Command.{Command}
-use Rattle.ist_core.specs.Map.{Map, no_pairs, map_after, reply_to, replay, replies, pairs_of}
+use Rattle.ist_core.specs.declared.pairs.Pair.{Pair}
+use Rattle.ist_core.specs.declared.ports.Full.{Full}
+use Rattle.ist_core.specs.TreeTerms.{Map, no_pairs, map_after, reply_to, replay, replies, pairs_of, map_of}
 use Rattle.tele_lanes.specs.declared.task_lists.Task.{Task}
 use Rattle.tele_lanes.specs.Lines.{commands_of}
 use Rattle.tele_jobs.specs.Rounds.{Team}
@@ -14,6 +16,13 @@ use Rattle.tele_jobs.specs.declared.summaries.Summary.{Summary}
 use Rattle.tele_jobs.specs.Summaries.{summary_of, value_sum}
 use Rattle.tele_jobs.specs.Made.{next_number, made_command, made_commands}
 use Rattle.laws_histories.proofs.MapLemmas.{replay-append}
+use Rattle.ist_core.proofs.AllPlaceLemmas.{map_of-pairs_of}
+use Rattle.laws_histories.proofs.ContentLemmas.{pairs_rise_at}
+use Rattle.plain_map.specs.Rising.{IsRising}
+use Rattle.plain_map.proofs.PlaceLemmas.{adds_few_pairs}
+use Rattle.tele_generations.specs.Runs.{told_of_runs}
+use Rattle.tele_generations.specs.Tables.{HasPairs}
+use Rattle.tele_generations.specs.Rounds.{EndsTheRound}
 
 -- how many of the replies to some commands are values
 abbrev pub values_in : Map → List Command → ℕ
@@ -27,8 +36,7 @@ replies-append m (x ∷ xs) ys = ap (λ rs. reply_to m x ∷ rs) (replies-append
 
 values-append : (m : Map) (xs ys : List Command) → values_in m (xs ++ ys) ≡ values_in m xs +
     values_in (replay m xs) ys
-values-append m xs ys =
-    ap (count_by is_some) (replies-append m xs ys)
+values-append m xs ys = ap (count_by is_some) (replies-append m xs ys)
     ∙ sum_by-append (λ r. if is_some r then 1 else 0) (replies m xs) (replies (replay m xs) ys)
 
 -- with the open lines and the lines left to be made, the values found and the map are the values
@@ -69,14 +77,12 @@ one_made all m tasks now task rest others found is more h =
 pub round_made : (all : List Command) (m n : Map) (tasks left : List Task) (rest : List Command)
     (found more later : ℕ)
     → more ≡ values_in m (commands_of tasks) → n ≡ replay m (commands_of tasks) → left ≡ [] → later
-    ≡ found + more
-    → HasMadeLines all m tasks rest found → HasMadeLines all n left rest later
+    ≡ found + more → HasMadeLines all m tasks rest found → HasMadeLines all n left rest later
 round_made all m n tasks left rest found more later counts is none sum h =
     let after = values_in (replay m (commands_of tasks)) rest in
     let here : values_in n (commands_of left ++ rest) ≡ after =
     ap (λ ts. values_in n (commands_of ts ++ rest)) none ∙ ap (λ k. values_in k rest) is in
-    let split = values-append m (commands_of tasks) rest in
-    record {
+    let split = values-append m (commands_of tasks) rest in record {
       values = omega (arith, here, split, counts, sum, h.values);
       following = ap (λ ts. replay n (commands_of ts ++ rest)) none ∙ ap (λ k. replay k rest) is
           ∙ sym (replay-append m (commands_of tasks) rest) ∙ h.following;
@@ -84,8 +90,7 @@ round_made all m n tasks left rest found more later counts is none sum h =
 
 -- all lines were made and answered
 pub all_found : (all : List Command) (m : Map) (tasks : List Task) (rest : List Command) (found : ℕ)
-    → tasks ≡ [] → rest ≡ []
-    → HasMadeLines all m tasks rest found → found ≡ values_in no_pairs all
+    → tasks ≡ [] → rest ≡ [] → HasMadeLines all m tasks rest found → found ≡ values_in no_pairs all
 all_found all m tasks rest found none last h =
     let nothing : values_in m (commands_of tasks ++ rest) ≡ 0 =
     ap (λ ts. values_in m (commands_of ts ++ rest)) none ∙ ap (values_in m) last in
@@ -99,11 +104,9 @@ all_after all m tasks rest found none last h =
     sym (ap (λ ts. replay m (commands_of ts ++ rest)) none ∙ ap (replay m) last) ∙ h.following
 
 -- the lines that are left begin with the next
-pub next_made : (count line number : ℕ) → line < count
-    → made_commands (count - line) number
+pub next_made : (count line number : ℕ) → line < count → made_commands (count - line) number
     ≡ made_command (next_number number) ∷ made_commands (count - (line + 1)) (next_number number)
-next_made count line number lt =
-    let e : count - line ≡ suc (count - (line + 1)) = omega arith in
+next_made count line number lt = let e : count - line ≡ suc (count - (line + 1)) = omega arith in
     ap (λ n. made_commands n number) e
 
 -- at a moment between two made lines: what was found and what is left are what all lines find, and
@@ -115,8 +118,7 @@ pub record Sums (count seed line number found : ℕ) (now : Open) : Type 0 where
 
 -- before the first line
 pub sums_first : (count seed number : ℕ) (team : Team) (words : ℕ) (now : Open)
-    → number ≡ seed → now ≡ fresh_round team words
-    → Sums count seed 0 number 0 now
+    → number ≡ seed → now ≡ fresh_round team words → Sums count seed 0 number 0 now
 sums_first count seed number team words now is empty =
     subst (λ n. Sums count seed 0 n 0 now) (sym is)
     (subst (λ (o : Open). Sums count seed 0 seed 0 o) (sym empty)
@@ -129,8 +131,7 @@ sums_first count seed number team words now is empty =
 
 -- one more line is open
 pub sums_asked : (count seed line number next found : ℕ) (before now : Open) (task : Task) → line <
-    count
-    → task.command ≡ made_command (next_number number) → next ≡ next_number number
+    count → task.command ≡ made_command (next_number number) → next ≡ next_number number
     → now ≡ with_task before task
     → Sums count seed line number found before → Sums count seed (line + 1) next found now
 sums_asked count seed line number next found before now task lt command is asks h =
@@ -138,8 +139,7 @@ sums_asked count seed line number next found before now task lt command is asks 
     let rest = made_commands (count - (line + 1)) (next_number number) in
     let left : made_commands (count - line) number ≡ task.command ∷ rest =
     next_made count line number lt ∙ ap (λ c. c ∷ rest) (sym command) in
-    let m : map_in before ≡ map_in now = ap map_in (sym asks) in
-    record {
+    let m : map_in before ≡ map_in now = ap map_in (sym asks) in record {
       made = subst (λ n. HasMadeLines (made_commands count seed) (map_in now) now.tasks
           (made_commands (count - (line + 1)) n) found) (sym is)
           (subst (λ m. HasMadeLines (made_commands count seed) m now.tasks rest found) m
@@ -153,8 +153,7 @@ sums_asked count seed line number next found before now task lt command is asks 
 pub sums_closed : (count seed line number found more later : ℕ) (before now : Open)
     → more ≡ values_in (map_in before) (commands_of before.tasks) → more ≤ length before.tasks
     → map_in now ≡ replay (map_in before) (commands_of before.tasks) → now.tasks ≡ [] → later ≡
-    found + more
-    → Sums count seed line number found before → Sums count seed line number later now
+    found + more → Sums count seed line number found before → Sums count seed line number later now
 sums_closed count seed line number found more later before now counts few is none sum h = record {
   made = round_made (made_commands count seed) (map_in before) (map_in now) before.tasks now.tasks
       (made_commands (count - line) number) found more later counts is none sum h.made;
@@ -187,8 +186,7 @@ summary_is count seed keys found sum m is keys_is found_is sum_is =
     (keys_is ∙ ap (λ n. length (pairs_of n)) is)
     ∙ ap (λ n. record {
       made = count;
-      keys = length
-          (pairs_of (replay no_pairs (made_commands count seed)));
+      keys = length (pairs_of (replay no_pairs (made_commands count seed)));
       found = n;
       sum = sum;
     })
@@ -199,3 +197,31 @@ summary_is count seed keys found sum m is keys_is found_is sum_is =
       found = values_in no_pairs (made_commands count seed);
       sum = n;
     }) (sum_is ∙ ap (λ n. value_sum (pairs_of n)) is)
+
+-- ---- the pairs after a round, as the last table has them. Serves the closing of rounds.
+
+module _ {workers : ℕ} {pairs : List Pair} {tasks : List Task} {table : List ℕ} {fulls : List Full}
+    (ends : EndsTheRound workers pairs tasks table fulls) (following : List Pair)
+    (has : HasPairs table following) where
+  -- they are the pairs of the map after the tasks
+  pub after_is : following ≡ pairs_of (replay (map_of pairs) (commands_of tasks))
+  after_is = has ends.opening (told_of_runs ends.runs) ends.is.stands ∙ ap pairs_of ends.leaves
+
+  -- the pairs make the map after the tasks
+  pub after_map : map_of following ≡ replay (map_of pairs) (commands_of tasks)
+  after_map = ap map_of after_is ∙ map_of-pairs_of (replay (map_of pairs) (commands_of tasks))
+
+  -- the pairs are strictly increasing
+  pub after_rises : IsRising following
+  after_rises = let stands = ends.is.stands in
+      subst (λ ps. IsRising ps) (sym (has ends.opening (told_of_runs ends.runs) stands))
+      (pairs_rise_at ends.opening (length table) stands.lawful.opens stands.log
+      stands.lawful.enabled)
+
+  -- at most one pair came per task
+  pub after_few : (first : List Pair) → pairs ≡ first → first ≡ pairs_of (map_of first)
+      → length following ≤ length first + length tasks
+  after_few first same of_map = let few = adds_few_pairs (map_of pairs) (commands_of tasks) in
+      let long = length-map tasks (λ t. t.command) in let now = ap length after_is in
+      let same_pairs = ap (λ ps. length (pairs_of (map_of ps))) same in let back = ap length of_map in
+      omega arith

@@ -10,11 +10,11 @@ use Rattle.tele_lines.specs.Rounds.{round_limit}
 use Rattle.tele_jobs.specs.Made.{next_number, made_command, made_commands}
 use Rattle.tele_jobs.specs.Rounds.{Team, task_rounds, numbered_lines, made_rounds}
 use Rattle.tele_jobs.specs.Open.{Open, FollowsRounds, RunsOn, IsOpenBefore, with_task, asked, fresh_round, round_for}
-use Rattle.tele_jobs.proofs.CutLemmas.{task_rounds-full, task_rounds-open}
+use Rattle.tele_jobs.proofs.RoundLemmas.{task_rounds-full, task_rounds-open}
 use Rattle.tele_jobs.proofs.MadeLemmas.{next_made}
 use Rattle.tele_jobs.proofs.OpenLemmas.{open_first, open_more, open_closed}
 use Rattle.tele_jobs.proofs.RanLemmas.{none_ran, runs_none, runs_then}
-use Rattle.tele_jobs.proofs.TakeLemmas.{asked-more}
+use Rattle.tele_jobs.proofs.StepLemmas.{asked-more}
 
 -- the lines that are still to be made, numbered on
 abbrev pub rest_lines : ℕ → ℕ → ℕ → List Read
@@ -34,8 +34,7 @@ pub record RunsMade (team : Team)
 -- one more line is the first of those that are left
 asked_next : (count line number : ℕ) (old new : List Task) (task : Task) → line < count
     → task.line ≡ line + 1 → task.command ≡ made_command (next_number number)
-    → new ≡ old ++ task ∷ []
-    → asked One old ++ rest_lines count line number
+    → new ≡ old ++ task ∷ [] → asked One old ++ rest_lines count line number
     ≡ asked One new ++ rest_lines count (line + 1) (next_number number)
 asked_next count line number old new task lt at command more =
     let rest = made_commands (count - (line + 1)) (next_number number) in
@@ -50,27 +49,22 @@ asked_next count line number old new task lt at command more =
 -- a round that isn't full with one more line may have another
 pub still_few : (old mid : Open) (task : Task) (full : Bool)
     → mid ≡ with_task old task → length old.tasks < round_limit
-    → (length mid.tasks ≡ round_limit → full ≡ true) → full ≡ false
-    → length mid.tasks < round_limit
-still_few old mid task full asks few fills isnt =
-    let more = ap (λ (o : Open). o.tasks) asks in
+    → (length mid.tasks ≡ round_limit → full ≡ true) → full ≡ false → length mid.tasks < round_limit
+still_few old mid task full asks few fills isnt = let more = ap (λ (o : Open). o.tasks) asks in
     ⊎_elim (λ less. less)
     (λ at. let here : length mid.tasks ≡ round_limit =
     omega (arith, few, at, ap length more, length-append old.tasks (task ∷ [])) in
     let yes = fills here in absurd (cc (yes, isnt))) (cases_lt (length mid.tasks) round_limit)
 
-module _ (team : Team) (most count seed : ℕ)
-    (before : Option (List (List ℕ))) where
+module _ (team : Team) (most count seed : ℕ) (before : Option (List (List ℕ))) where
   -- the rounds of a run over made lines, at a line
   abbrev pub Runs : ℕ → ℕ → Option (List (List ℕ)) → Open → Type 0
-  Runs line number kept now =
-      RunsMade team most count seed line number before kept now
+  Runs line number kept now = RunsMade team most count seed line number before kept now
 
   -- before the first line
   pub made_first : (number : ℕ) (now : Open) → number ≡ seed → now ≡ fresh_round team most
       → Runs 0 number before now
-  made_first number now is fresh =
-      subst (λ n. Runs 0 n before now) (sym is)
+  made_first number now is fresh = subst (λ n. Runs 0 n before now) (sym is)
       (subst (λ o. Runs 0 seed before o) (sym fresh)
       (record {
         ran = [];
@@ -89,8 +83,7 @@ module _ (team : Team) (most count seed : ℕ)
   module _ (line number next : ℕ) (kept : Option (List (List ℕ))) (old mid : Open) (task : Task)
       (lt : line < count) (at : task.line ≡ line + 1)
       (command : task.command ≡ made_command (next_number number)) (is : next ≡ next_number number)
-      (asks : mid ≡ with_task old task)
-      (h : Runs line number kept old) where
+      (asks : mid ≡ with_task old task) (h : Runs line number kept old) where
     -- the round may take one more line
     pub lines_more : IsOpenBefore (line + 1 + 1) mid
     lines_more = open_more (line + 1) old mid task at asks h.lines

@@ -20,7 +20,7 @@ use Rattle.clap.specs.declared.parser.matches.ArgMatches.{ArgMatches}
 use Rattle.tele_jobs.specs.CommandLine.{tele, number_option}
 use Rattle.tele_jobs.specs.Numbers.{AreNumbers}
 use Rattle.tele_jobs.proofs.OptionLemmas.{IsAlone, first_passes, passes_range}
-use Rattle.ist_core.proofs.IntervalLemmas.{both_true}
+use Rattle.ist_core.proofs.AllPlaceLemmas.{both_true}
 
 -- each number below five is one of these
 below_five : (P : ℕ → Type 0) → P 0 → P 1 → P 2 → P 3 → P 4 → (j : ℕ) → j < 5 → P j
@@ -83,20 +83,19 @@ has_options old (a ∷ []) are is = absurd (cc is)
 has_options old (a ∷ b ∷ []) are is = absurd (cc is)
 has_options old (a ∷ b ∷ c ∷ []) are is = absurd (cc is)
 has_options old (a ∷ b ∷ c ∷ d ∷ []) are is = absurd (cc is)
-has_options old (a ∷ b ∷ c ∷ d ∷ e ∷ []) are is =
-    record {
-      a = a;
-      b = b;
-      c = c;
-      d = d;
-      e = e;
-      args = are;
-      workers = cc is;
-      words = cc is;
-      generate = cc is;
-      seed = cc is;
-      steal = cc is;
-    }
+has_options old (a ∷ b ∷ c ∷ d ∷ e ∷ []) are is = record {
+  a = a;
+  b = b;
+  c = c;
+  d = d;
+  e = e;
+  args = are;
+  workers = cc is;
+  words = cc is;
+  generate = cc is;
+  seed = cc is;
+  steal = cc is;
+}
 has_options old (a ∷ b ∷ c ∷ d ∷ e ∷ f ∷ more) are is = absurd (cc is)
 
 module _ (old : Command) (is : app_of old ≡ tele) (m : ArgMatches) (p : IsParsedFrom old m) where
@@ -106,10 +105,8 @@ module _ (old : Command) (is : app_of old ≡ tele) (m : ArgMatches) (p : IsPars
   plain_fields : (groups_of old ≡ []) × ((out-Command old).has_globals ≡ false)
   plain_fields =
       let all : has_plain_fields (out-Command old) ≡ true = ap (λ (a : App). a.top.is_plain) is in
-      let first = both_true _ _ all in
-      let second = both_true _ _ first.1 in
-      let third = both_true _ _ second.1 in
-      (none_of (groups_of old) first.0, not-true _ third.0)
+      let first = both_true _ _ all in let second = both_true _ _ first.1 in
+      let third = both_true _ _ second.1 in (none_of (groups_of old) first.0, not-true _ third.0)
 
   plain : IsPlain old
   plain = (
@@ -135,8 +132,7 @@ module _ (old : Command) (is : app_of old ≡ tele) (m : ArgMatches) (p : IsPars
       let values = (p.parsed (p.from.globals ∙ plain_fields.1)).values in
       subst (λ n. IfSome (first_value (found_of m) n) (IsUnsignedIn low high)) id
       (first_passes p.built (slice_index_or (args_of old) k d).id.now (p.from.plain plain).1
-      (λ e. named (sym id ∙ e)) (found_of m)
-      (IsUnsignedIn low high) values
+      (λ e. named (sym id ∙ e)) (found_of m) (IsUnsignedIn low high) values
       (λ v pass. passes_range old m p k d low high v.now lt alone own
       (ap (λ (r : Rule). r.parser) rule) pass))
 

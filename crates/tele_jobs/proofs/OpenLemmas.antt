@@ -3,10 +3,9 @@
 use Rattle.std.proofs.Common.{◌≡◌, ℕ, ◌+◌, ◌<◌, ◌≤◌, List, [], ◌∷◌, ◌++◌, sym, ap, subst, length, arith}
 use Rattle.std.proofs.lemmas.List.{length-append}
 use Rattle.std.specs.List.Sorted.{IsStrictlyIncreasing}
-use Rattle.ist_core.specs.Elements.{Each}
-use Rattle.ist_core.proofs.ElementLemmas.{each_append}
-use Rattle.ist_core.proofs.RisingLemmas.{rises_append}
-use Rattle.ist_core.proofs.LeafOrderLemmas.{rises_from_next, next_from_rises}
+use Rattle.ist_core.specs.LogTerms.{Each}
+use Rattle.ist_core.proofs.AllWordLemmas.{each_append}
+use Rattle.ist_core.proofs.AllPlaceLemmas.{rises_append, rises_from_next, next_from_rises}
 use Rattle.tele_lanes.specs.declared.task_lists.Task.{Task}
 use Rattle.tele_lanes.specs.Lines.{task_lines}
 use Rattle.tele_jobs.specs.Rounds.{Team}
@@ -28,8 +27,7 @@ all_below task (first ∷ tasks) h = ((h.0, tt), all_below task tasks h.1)
 -- a round with one more task, of this number
 pub open_more : (number : ℕ) (old new : Open) (task : Task) → task.line ≡ number
     → new ≡ with_task old task → IsOpenBefore number old → IsOpenBefore (number + 1) new
-open_more number old new task is asks h =
-    let more = ap (λ (o : Open). o.tasks) asks in
+open_more number old new task is asks h = let more = ap (λ (o : Open). o.tasks) asks in
     let same = ap (λ (o : Open). o.pairs) asks in
     let below = subst (λ n. Each (λ t. t.line < n) old.tasks) (sym is) h.below in
     let rises = next_from_rises (λ (t : Task). t.line) (old.tasks ++ task ∷ [])

@@ -40,9 +40,7 @@ module _ (c : Command) (id : List ℕ) (no_groups : groups_of c ≡ []) (named :
   entry_values e x is key pass =
       let no_group : e.1.is_group ≡ true → ⊥ = λ g. elim (pass.3 g) [
         | inl empty ↦ named (sym key ∙ empty)
-        | inr some ↦
-            let bad : 0 < 0 = rw no_groups at some in
-            absurd (omega arith)
+        | inr some ↦ let bad : 0 < 0 = rw no_groups at some in absurd (omega arith)
       ] in
       elim pass.0 [
         | inl g ↦ absurd (no_group g)
@@ -52,15 +50,13 @@ module _ (c : Command) (id : List ℕ) (no_groups : groups_of c ≡ []) (named :
 
   -- so did the first value that was found for it
   pub first_passes : (f : Found) (Q : List ℕ → Type 0) → ValuesPass c f →
-      ((v : Bor (List ℕ)) → PassesArg c id v.now → Q v.now)
-      → IfSome (first_value f id) Q
+      ((v : Bor (List ℕ)) → PassesArg c id v.now → Q v.now) → IfSome (first_value f id) Q
   first_passes f Q values so = go (matched_of f id) refl
     where
       found : (x : MatchedArg) → ((e : Entry) × (e.1 ≡ x) × (bytes_eq e.0.now id ≡ true) ×
           EntryPasses c e)
           → IfSome (option_map (λ s. s.now) (slice_get x.vals.items 0)) Q
-      found x got =
-          first_holds Q (λ v. PassesArg c id v.now) x.vals.items so
+      found x got = first_holds Q (λ v. PassesArg c id v.now) x.vals.items so
           (entry_values got.0 x got.1 ((bytes_eq-Decides got.0.0.now id).0 got.2) got.3)
 
       go : (o : Option MatchedArg) → matched_of f id ≡ o
@@ -75,8 +71,7 @@ IsAlone xs k d = (j : ℕ) (e : Arg) → j < length xs → bytes_eq (slice_index
 
 -- a text that passed an argument of the built command passed the parser that the caller gave it
 pub passes_range : (old : Command) (m : ArgMatches) (p : IsParsedFrom old m) (k : ℕ) (d : Arg)
-    (low high : ℕ) (t : List ℕ)
-    → k < length (args_of old) → IsAlone (args_of old) k d →
+    (low high : ℕ) (t : List ℕ) → k < length (args_of old) → IsAlone (args_of old) k d →
     (IsAuto (slice_index_or (args_of old) k d) → ⊥)
     → (slice_index_or (args_of old) k d).value_parser ≡ Some (Unsigned low high)
     → PassesArg p.built (slice_index_or (args_of old) k d).id.now t → IsUnsignedIn low high t

@@ -5,7 +5,7 @@ use Rattle.std.specs.List.{flat_map}
 use Rattle.std.proofs.lemmas.Grind.{flat_map-append}
 use Rattle.ist_core.specs.declared.pairs.Pair.{Pair}
 use Rattle.ist_core.specs.declared.ports.Full.{Full}
-use Rattle.ist_core.specs.Map.{Map, no_pairs, map_of, replay, pairs_of}
+use Rattle.ist_core.specs.TreeTerms.{Map, no_pairs, map_of, replay, pairs_of}
 use Rattle.tele_lanes.specs.declared.task_lists.Task.{Task}
 use Rattle.tele_lanes.specs.declared.answer_lists.Answer.{Answer}
 use Rattle.tele_lanes.specs.Lines.{commands_of}
@@ -72,8 +72,7 @@ round_for-some [] some = absurd (omega arith)
 round_for-some (task ∷ tasks) some = refl
 
 -- a round was closed, whichever name it goes by
-pub closes_from : (old same new : Open) → old ≡ same → ClosesRound old new
-    → ClosesRound same new
+pub closes_from : (old same new : Open) → old ≡ same → ClosesRound old new → ClosesRound same new
 closes_from old same new is h = subst (λ (o : Open). ClosesRound o new) is h
 
 -- the tasks of the open round were answered
@@ -123,25 +122,21 @@ ran_more : (team : Team) (most : ℕ) (rounds : List (List Task))
     (before kept middle later : Option (List (List ℕ))) (last : Option (List ℕ)) (count : ℕ)
     (tasks : List Task) (closed : List ℕ) (fulls : List Full)
     → RanRounds team most rounds before kept last count → IsShelved kept (if_any last) middle
-    → (let pairs = pairs_of (map_after_rounds no_pairs rounds) in
-    RanInGenerations (lanes_of team)
+    → (let pairs = pairs_of (map_after_rounds no_pairs rounds) in RanInGenerations (lanes_of team)
     (first_words most team.workers (length pairs) (length tasks)) pairs tasks middle later closed
     fulls)
     → EndsTheRound (lanes_of team) (pairs_of (map_after_rounds no_pairs rounds)) tasks closed fulls
     → RanRounds team most (rounds ++ tasks ∷ []) before later (Some closed) (length fulls)
 ran_more team most rounds before kept middle later last count tasks closed fulls h keeps runs
     ends =
-    let tables = runs.given ++ closed ∷ [] in
-    let given = h.given ++ if_any last in
-    record {
+    let tables = runs.given ++ closed ∷ [] in let given = h.given ++ if_any last in record {
       lists = h.lists ++ tables ∷ [];
       given = given ++ runs.given;
       shelved = shelved_then before given middle runs.given later
           (shelved_then before h.given kept (if_any last) middle h.shelved keeps) runs.shelved;
       together = flat_map-append (λ (ts : List (List ℕ)). ts) h.lists (tables ∷ [])
           ∙ ap (λ ts. flat_map (λ (ts : List (List ℕ)). ts) h.lists ++ ts) (append-nil tables)
-          ∙ ap (λ ts. ts ++ tables) h.together
-          ∙ sym (append_assoc given runs.given (closed ∷ []));
+          ∙ ap (λ ts. ts ++ tables) h.together ∙ sym (append_assoc given runs.given (closed ∷ []));
       are = tables_more team most no_pairs rounds h.lists tasks tables h.are
           (record { fulls = fulls; are = runs.are; first_is = runs.first_is });
       ends = record {
@@ -221,8 +216,7 @@ module _ (old new : Open) (kept middle later : Option (List (List ℕ)))
 -- some rounds, and others after them
 pub runs_then : (first mid last : Open) (kept middle later : Option (List (List ℕ)))
     (more others : List (List Task)) → RunsOn first kept mid middle more
-    → RunsOn mid middle last later others
-    → RunsOn first kept last later (more ++ others)
+    → RunsOn mid middle last later others → RunsOn first kept last later (more ++ others)
 runs_then first mid last kept middle later more others one two team most rounds before h =
     subst (λ rs. FollowsRounds team most rs before later last)
     (append_assoc {A = List Task} rounds more others)

@@ -32,18 +32,15 @@ module _ (bytes : List ℕ) (before written : Option (List ℕ)) (round : Open)
   -- a read of a reader that has kept these bytes
   reads_more : (ended : Bool)
       → RunsTo first_moment bytes before written ended (unread_of lines.buffer ended (Some rest))
-      (moment_of lines round)
-      → ReadsSparingly bytes (Some rest) → ended ≡ false
+      (moment_of lines round) → ReadsSparingly bytes (Some rest) → ended ≡ false
       → TakesLast (place_of lines) lines.buffer rest now → ReadsSparingly bytes now
   reads_more true one a going last = absurd (cc going)
-  reads_more false one a going last =
-      let is : rest ≡ a.rest = let e = a.leaves in cc e in
+  reads_more false one a going last = let is : rest ≡ a.rest = let e = a.leaves in cc e in
       let taken = a.before ++ a.piece in
       let same : bytes ≡ taken ++ rest =
       a.same ∙ sym (append_assoc {A = ℕ} a.before a.piece a.rest) ∙ ap (λ xs. taken ++ xs) (sym is) in
       let twice = taken_twice [] bytes lines.buffer rest taken one.taken one.bytes same one.same one.leaves in
-      let more = lines.buffer ++ last.before in
-      record {
+      let more = lines.buffer ++ last.before in record {
         before = taken ++ last.before;
         piece = last.piece;
         rest = last.rest;
@@ -78,15 +75,13 @@ reads_on_if (Some bytes) before written round lines (Some rest) now one a (inr s
 reached_at : (bytes : List ℕ) (before written : Option (List ℕ)) (round : Open)
     (lines new : Lines) (here now : Option (List ℕ)) (ended : Bool)
     → RunsTo first_moment bytes before written lines.ended (unread lines here) (moment_of lines round)
-    → (lines.ended ≡ true → ended ≡ true)
-    → IfSome (unread lines here)
+    → (lines.ended ≡ true → ended ≡ true) → IfSome (unread lines here)
     (λ unread. GoesTo (place_of lines) (place_of new) ended [] unread (unread_of new.buffer ended now))
     → ShowsBad (place_of new) new.buffer ended → TellsEndOf ended now → ReachesBad bytes now
 reached_at bytes before written round lines new here None ended one lasts goes shown end =
     let told = end.told in absurd (cc told)
 reached_at bytes before written round lines new here (Some rest) true one lasts goes shown end =
-    let none : rest ≡ [] = let e = end.none refl in cc e in
-    record {
+    let none : rest ≡ [] = let e = end.none refl in cc e in record {
       taken = bytes;
       rest = rest;
       same = sym (append-nil bytes) ∙ ap (λ xs. bytes ++ xs) (sym none);
@@ -103,8 +98,7 @@ reached_at bytes before written round lines new here (Some rest) false one lasts
     let last = new.buffer ++ newline ∷ [] in
     let open_lines = asked (version_of lines) round.tasks in
     let going : lines.ended ≡ false = still_going lines.ended false lasts refl in
-    let taken = one.taken ++ (met.taken ++ new.buffer) in
-    record {
+    let taken = one.taken ++ (met.taken ++ new.buffer) in record {
       taken = taken;
       rest = rest;
       same = one.same ∙ ap (λ xs. one.taken ++ xs) (met.same ∙ ap (λ xs. met.taken ++ xs) (sym left)
@@ -125,8 +119,7 @@ pub reached_if : (all before written : Option (List ℕ)) (round : Open)
     (lines new : Lines) (here now : Option (List ℕ)) (ended : Bool)
     → IfSome all (λ bytes. RunsTo first_moment bytes before written lines.ended (unread lines here)
     (moment_of lines round))
-    → (lines.ended ≡ true → ended ≡ true)
-    → IfSome (unread lines here)
+    → (lines.ended ≡ true → ended ≡ true) → IfSome (unread lines here)
     (λ unread. GoesTo (place_of lines) (place_of new) ended [] unread (unread_of new.buffer ended now))
     → ShowsBad (place_of new) new.buffer ended → (IsSome all → TellsEndOf ended now)
     → IfSome all (λ bytes. ReachesBad bytes now)

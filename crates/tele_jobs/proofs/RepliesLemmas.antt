@@ -22,8 +22,7 @@ pub one_printed : (version : Version) (before now later : Option (List ℕ))
     → Appends now later (answer_text version answer.line answer.reply) → HasPrinted version before
     later all others
 one_printed version before now later all rest others answer is h writes =
-    let text = answer_text version answer.line answer.reply in
-    record {
+    let text = answer_text version answer.line answer.reply in record {
       printed = h.printed ++ text;
       writes = Appends-append before now later h.printed text h.writes writes;
       whole = append_assoc {A = ℕ} h.printed text (answers_text version others)
@@ -37,8 +36,7 @@ pub part_printed : (version : Version) (before now later : Option (List ℕ))
     → AppendsPart now later (answer_text version answer.line answer.reply)
     → AppendsPart before later (answers_text version all)
 part_printed version before now later all rest others answer is h part =
-    let text = answer_text version answer.line answer.reply in
-    subst (AppendsPart before later)
+    let text = answer_text version answer.line answer.reply in subst (AppendsPart before later)
     (ap (λ xs. h.printed ++ answers_text version xs) (sym is) ∙ h.whole)
     (AppendsPart-append before now later h.printed (text ++ answers_text version others) h.writes
     (AppendsPart-longer now later text (answers_text version others) part))

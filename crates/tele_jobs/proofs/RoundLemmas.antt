@@ -1,6 +1,6 @@
 -- Where lines are cut into rounds, and which rounds are whole. Serves the answering of rounds.
-use Rattle.std.proofs.Common.{◌≡◌, ℕ, ◌+◌, ◌<◌, List, [], ◌∷◌, ◌++◌, Bool, true, false, refl, ◌∙◌, ap, length, arith, eqb}
-use Rattle.std.specs.Prelude.{if◌then◌else◌, ◌||◌}
+use Rattle.std.proofs.Common.{◌≡◌, ℕ, ◌+◌, ◌<◌, List, [], ◌∷◌, ◌++◌, Bool, true, false, refl, ◌∙◌, ap, length, arith, eqb, sym, append_assoc, append-nil}
+use Rattle.std.specs.Prelude.{if◌then◌else◌, ◌||◌, map}
 use Rattle.std.specs.List.{filter, flat_map, onto_first, list_any, count_by}
 use Rattle.std.proofs.lemmas.Bool.{eq-eqb, ne_eqb}
 use Rattle.std.proofs.lemmas.List.Folds.{list_any-append}
@@ -12,7 +12,8 @@ use Rattle.tele_lines.specs.declared.items.Version.{Version}
 use Rattle.tele_lines.specs.declared.items.Cause.{Cause}
 use Rattle.tele_lines.specs.Answer.{Read, Good, Bad}
 use Rattle.tele_lines.specs.Rounds.{round_limit, rounds, rounds_from, is_whole, is_point, is_interval, in_whole_rounds}
-use Rattle.tele_jobs.specs.Open.{asked}
+use Rattle.tele_jobs.specs.Open.{asked, round_for}
+use Rattle.tele_jobs.specs.Rounds.{tasks_in, has_some, task_rounds}
 
 -- a task as a line
 abbrev line_of : Version → Task → Read
@@ -28,8 +29,7 @@ pub cut_full : (version : Version) (n : ℕ) (task : Task) (tasks : List Task) (
     → n + length (task ∷ tasks) ≡ round_limit
     → rounds_from n (asked version (task ∷ tasks) ++ more) ≡ asked version (task ∷ tasks) ∷ rounds
     more
-cut_full version n task [] more full =
-    ap (after_line (line_of version task) n more)
+cut_full version n task [] more full = ap (after_line (line_of version task) n more)
     (eq-eqb (n + 1) round_limit (omega (arith, full)))
 cut_full version n task (next ∷ tasks) more full =
     ap (after_line (line_of version task) n (asked version (next ∷ tasks) ++ more))
@@ -52,10 +52,8 @@ cut_interval version n number first last (task ∷ tasks) more few =
 
 -- fewer point lines are one round, if they are any
 pub cut_open : (version : Version) (n : ℕ) (task : Task) (tasks : List Task) → n + length (task ∷ tasks)
-    < round_limit
-    → rounds_from n (asked version (task ∷ tasks)) ≡ asked version (task ∷ tasks) ∷ []
-cut_open version n task [] few =
-    ap (after_line (line_of version task) n [])
+    < round_limit → rounds_from n (asked version (task ∷ tasks)) ≡ asked version (task ∷ tasks) ∷ []
+cut_open version n task [] few = ap (after_line (line_of version task) n [])
     (ne_eqb (n + 1) round_limit (λ e. omega (arith, few, e)))
 cut_open version n task (next ∷ tasks) few =
     ap (after_line (line_of version task) n (asked version (next ∷ tasks)))
@@ -65,8 +63,7 @@ cut_open version n task (next ∷ tasks) few =
 
 -- fewer point lines, and a bad line after them, are one round
 pub cut_bad : (version : Version) (n line : ℕ) (cause : Cause) (tasks : List Task)
-    → n + length tasks < round_limit
-    → rounds_from n (asked version tasks ++ Bad line cause ∷ [])
+    → n + length tasks < round_limit → rounds_from n (asked version tasks ++ Bad line cause ∷ [])
     ≡ (asked version tasks ++ Bad line cause ∷ []) ∷ []
 cut_bad version n line cause [] few = refl
 cut_bad version n line cause (task ∷ tasks) few =
@@ -94,8 +91,7 @@ whole_by_count : (version : Version) (tasks : List Task) → is_whole (asked ver
     (length tasks) round_limit
 whole_by_count version tasks =
     ap (λ b. b || eqb (count_by is_point (asked version tasks)) round_limit)
-    (no_interval version tasks)
-    ∙ ap (λ n. eqb n round_limit) (all_points version tasks)
+    (no_interval version tasks) ∙ ap (λ n. eqb n round_limit) (all_points version tasks)
 
 -- a round with an interval line is whole
 whole_by_interval : (version : Version) (number first last : ℕ) (tasks : List Task)
@@ -109,10 +105,8 @@ whole_by_interval version number first last tasks =
 
 -- the lines of a first whole round and of the rounds after it
 whole_first : (lines round more : List Read) → rounds lines ≡ round ∷ rounds more → is_whole round ≡
-    true
-    → in_whole_rounds lines ≡ round ++ in_whole_rounds more
-whole_first lines round more cut whole =
-    ap (λ rs. flat_map (λ r. r) (filter is_whole rs)) cut
+    true → in_whole_rounds lines ≡ round ++ in_whole_rounds more
+whole_first lines round more cut whole = ap (λ rs. flat_map (λ r. r) (filter is_whole rs)) cut
     ∙ ap (λ b. flat_map (λ r. r) (if b then round ∷ filter is_whole (rounds more) else filter
     is_whole (rounds more))) whole
 
@@ -128,8 +122,7 @@ in_whole-full version (task ∷ tasks) more full =
 
 -- a round that an interval line ends precedes the rounds of the lines after it
 pub in_whole-interval : (version : Version) (number first last : ℕ) (tasks : List Task)
-    (more : List Read)
-    → length tasks < round_limit
+    (more : List Read) → length tasks < round_limit
     → in_whole_rounds (asked version tasks ++ Good number version (Interval first last) ∷ more)
     ≡ (asked version tasks ++ Good number version (Interval first last) ∷ []) ++ in_whole_rounds
     more
@@ -143,9 +136,83 @@ in_whole-interval version number first last tasks more few =
 pub in_whole-open : (version : Version) (tasks : List Task) → length tasks < round_limit
     → in_whole_rounds (asked version tasks) ≡ []
 in_whole-open version [] few = refl
-in_whole-open version (task ∷ tasks) few =
-    let round = asked version (task ∷ tasks) in
+in_whole-open version (task ∷ tasks) few = let round = asked version (task ∷ tasks) in
     ap (λ rs. flat_map (λ r. r) (filter is_whole rs))
     (cut_open version 0 task tasks (omega (arith, few)))
     ∙ ap (λ b. flat_map (λ r. r) (if b then round ∷ [] else []))
     (whole_by_count version (task ∷ tasks) ∙ ne_eqb _ round_limit (λ e. omega (arith, few, e)))
+
+-- ---- the tasks of the rounds into which lines are cut. Serves the tables of the rounds.
+
+-- the tasks of point lines and of the lines after them
+tasks_in-asked : (version : Version) (tasks : List Task) (more : List Read)
+    → tasks_in (asked version tasks ++ more) ≡ tasks ++ tasks_in more
+tasks_in-asked version [] more = refl
+tasks_in-asked version (task ∷ tasks) more =
+    ap (λ ts. task ∷ ts) (tasks_in-asked version tasks more)
+
+-- the tasks of point lines, if no line after them asks for a task
+tasks_in-alone : (version : Version) (tasks : List Task) (more : List Read) → tasks_in more ≡ []
+    → tasks_in (asked version tasks ++ more) ≡ tasks
+tasks_in-alone version tasks more none =
+    tasks_in-asked version tasks more ∙ ap (λ ts. tasks ++ ts) none ∙ append-nil tasks
+
+-- a first round is left out if it has no task
+first_round : (tasks : List Task) (others : List (List Task))
+    → filter has_some (tasks ∷ others) ≡ round_for tasks ++ filter has_some others
+first_round [] others = refl
+first_round (task ∷ tasks) others = refl
+
+-- the tasks of a first round and of the rounds after it
+task_rounds-first : (tasks : List Task) (lines round more : List Read)
+    → rounds lines ≡ round ∷ rounds more → tasks_in round ≡ tasks
+    → task_rounds lines ≡ round_for tasks ++ task_rounds more
+task_rounds-first tasks lines round more cut is = ap (λ rs. filter has_some (map tasks_in rs)) cut
+    ∙ ap (λ ts. filter has_some (ts ∷ map tasks_in (rounds more))) is
+    ∙ first_round tasks (map tasks_in (rounds more))
+
+-- as many point lines as a round has at most are one round
+pub task_rounds-full : (version : Version) (tasks : List Task) (more : List Read)
+    → length tasks ≡ round_limit
+    → task_rounds (asked version tasks ++ more) ≡ round_for tasks ++ task_rounds more
+task_rounds-full version [] more full = absurd (omega (arith, full))
+task_rounds-full version (task ∷ tasks) more full =
+    task_rounds-first (task ∷ tasks) (asked version (task ∷ tasks) ++ more)
+    (asked version (task ∷ tasks)) more (cut_full version 0 task tasks more (omega (arith, full)))
+    (ap tasks_in (sym (append-nil (asked version (task ∷ tasks))))
+    ∙ tasks_in-alone version (task ∷ tasks) [] refl)
+
+-- fewer point lines, and an interval line after them, are one round
+pub task_rounds-interval : (version : Version) (number first last : ℕ) (tasks : List Task)
+    (more : List Read) → length tasks < round_limit
+    → task_rounds ((asked version tasks ++ Good number version (Interval first last) ∷ []) ++ more)
+    ≡ round_for tasks ++ task_rounds more
+task_rounds-interval version number first last tasks more few =
+    let line = Good number version (Interval first last) in
+    ap task_rounds (append_assoc {A = Read} (asked version tasks) (line ∷ []) more)
+    ∙ task_rounds-first tasks (asked version tasks ++ line ∷ more)
+    (asked version tasks ++ line ∷ []) more
+    (cut_interval version 0 number first last tasks more (omega (arith, few)))
+    (tasks_in-alone version tasks (line ∷ []) refl)
+
+-- fewer point lines at the end are one round
+pub task_rounds-open : (version : Version) (tasks : List Task) → length tasks < round_limit
+    → task_rounds (asked version tasks ++ []) ≡ round_for tasks
+task_rounds-open version [] few = refl
+task_rounds-open version (task ∷ tasks) few =
+    ap task_rounds (append-nil (asked version (task ∷ tasks)))
+    ∙ task_rounds-first (task ∷ tasks) (asked version (task ∷ tasks))
+    (asked version (task ∷ tasks)) [] (cut_open version 0 task tasks (omega (arith, few)))
+    (ap tasks_in (sym (append-nil (asked version (task ∷ tasks))))
+    ∙ tasks_in-alone version (task ∷ tasks) [] refl)
+    ∙ append-nil (round_for (task ∷ tasks))
+
+-- fewer point lines before a bad line are one round
+pub task_rounds-bad : (version : Version) (line : ℕ) (cause : Cause) (tasks : List Task)
+    → length tasks < round_limit
+    → task_rounds (asked version tasks ++ Bad line cause ∷ []) ≡ round_for tasks
+task_rounds-bad version line cause tasks few =
+    task_rounds-first tasks (asked version tasks ++ Bad line cause ∷ [])
+    (asked version tasks ++ Bad line cause ∷ []) []
+    (cut_bad version 0 line cause tasks (omega (arith, few)))
+    (tasks_in-alone version tasks (Bad line cause ∷ []) refl) ∙ append-nil (round_for tasks)

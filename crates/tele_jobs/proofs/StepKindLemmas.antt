@@ -1,27 +1,114 @@
 -- The ways that a step goes, by what the reader met: what it says of the line and what was done with
 -- it, joined. Serves the steps of a run.
-use Rattle.std.proofs.Common.{◌≡◌, ℕ, ◌+◌, ◌<◌, List, [], ◌∷◌, ◌++◌, true, refl, sym, ap, ◌∙◌, subst, append-nil, length}
+use Rattle.std.proofs.Common.{◌≡◌, ℕ, List, [], true, inl, inr, refl, arith, lit<, ◌+◌, ◌<◌, ◌∷◌, ◌++◌, sym, ap, ◌∙◌, subst, append-nil, length}
 use Rattle.std.specs.Prelude.{IfSome, IsSome, None}
-use Rattle.tele_io.specs.Bytes.{Appends, AppendsPart, Keeps}
+use Rattle.tele_io.specs.Bytes.{AppendsPart, Appends, Keeps}
+use Rattle.tele_lines.specs.Progress.{GoesTo, ShowsBad, Waits, place_of, kept_of, has_ended, count_of, stop_of, mode_of, version_of, read_at}
+use Rattle.tele_jobs.specs.declared.outcomes.TheConstants.{ANSWERED, BAD_LINE, READ_FAILED}
+use Rattle.tele_jobs.specs.Causes.{IsAnswer, IsCutShort}
+use Rattle.tele_jobs.specs.Open.{RunsOn, Open, IsOpenBefore, asked, map_in, round_for}
+use Rattle.tele_jobs.specs.Due.{due, rounds_due, Ends, Takes, TakesRounds}
+use Rattle.tele_jobs.specs.Steps.{Standing, Prints, EndsRun, moment_at, unread_at, StepsOn}
+use Rattle.tele_jobs.proofs.CauseLemmas.{uncut, cut_unanswered, cut_above}
 use Rattle.tele_lines.specs.declared.items.Cause.{Cause}
 use Rattle.tele_lines.specs.declared.items.Item.{Item}
 use Rattle.tele_lines.specs.declared.items.Version.{Version}
 use Rattle.tele_lines.specs.Lines.{lines_of}
 use Rattle.tele_lines.specs.Rounds.{round_limit}
 use Rattle.tele_lines.specs.Answer.{Read, Good, Bad, text_of}
-use Rattle.tele_lines.specs.Progress.{GoesTo, ShowsBad, Waits, place_of, count_of, stop_of, mode_of, kept_of, has_ended, version_of, read_at}
-use Rattle.tele_jobs.specs.declared.outcomes.TheConstants.{ANSWERED, BAD_LINE, READ_FAILED}
-use Rattle.tele_jobs.specs.Causes.{IsCutShort}
-use Rattle.tele_jobs.specs.Open.{Open, IsOpenBefore, RunsOn, asked, map_in, round_for}
-use Rattle.tele_jobs.specs.Due.{Takes, TakesRounds}
-use Rattle.tele_jobs.specs.Steps.{Standing, StepsOn, EndsRun, moment_at, unread_at}
 use Rattle.tele_jobs.proofs.AnswerLemmas.{status-asked}
-use Rattle.tele_jobs.proofs.TakeLemmas.{stay_kept, takes_same}
-use Rattle.tele_jobs.proofs.StepLemmas.{same_lines, status-taken, at_end}
-use Rattle.tele_jobs.proofs.EndLemmas.{cut_ends, input_ends, bad_ends, read_ends}
+use Rattle.tele_jobs.proofs.StepLemmas.{stay_kept, takes_same, same_lines, status-taken, at_end}
 use Rattle.tele_jobs.proofs.ToldLemmas.{went_on_if, part_if, none_if, ended_if, ended_part_if}
-use Rattle.tele_jobs.proofs.CutLemmas.{task_rounds-open, task_rounds-bad}
+use Rattle.tele_jobs.proofs.RoundLemmas.{task_rounds-open, task_rounds-bad}
 use Rattle.tele_jobs.proofs.DueRoundLemmas.{rounds_went_if, rounds_ended_if}
+
+-- ---- how a step ends a run, by its status. Serves the steps of a run.
+
+module _ (was now : Standing) (held : List ℕ) where
+  -- all that was due was printed, with this status
+  abbrev PrintsAll : ℕ → Type 0
+  PrintsAll status = IfSome (unread_at was) (λ bytes.
+      Ends (due (moment_at was) bytes) was.written now.written status)
+
+  -- all rounds that were due were run
+  abbrev RunsAll : Type 0
+  RunsAll = IfSome (unread_at was) (λ bytes.
+      RunsOn was.round was.kept now.round now.kept (rounds_due (moment_at was) bytes))
+
+  -- the sink failed, or memory ran out
+  pub cut_ends : (status : ℕ) → IsCutShort status → IfSome (unread_at was) (λ bytes.
+      AppendsPart was.written now.written (due (moment_at was) bytes).text)
+      → EndsRun was now held status
+  cut_ends status cut part = record {
+    text = λ is. cut_unanswered status cut is;
+    part = λ _. part;
+    rounds = λ is. cut_unanswered status cut is;
+    passed_on = λ whole. absurd (whole cut);
+    is_status = inr (inr cut);
+    passed = λ is. cut_above status READ_FAILED (lit< tt) cut is;
+    waits = λ is. cut_above status READ_FAILED (lit< tt) cut is;
+    kept = λ is. cut_above status READ_FAILED (lit< tt) cut is;
+    skipped = λ is. cut_above status BAD_LINE (lit< tt) cut is;
+    shown = λ is. cut_above status BAD_LINE (lit< tt) cut is;
+    whole = λ is. cut_above status ANSWERED (lit< tt) cut is;
+  }
+
+  -- the input has ended
+  pub input_ends : PrintsAll ANSWERED → RunsAll → held ≡ [] → has_ended now.lines ≡ true
+      → EndsRun was now held ANSWERED
+  input_ends text rounds none ended = record {
+    text = λ _. text;
+    part = λ cut. uncut ANSWERED (lit< tt) cut;
+    rounds = λ _. rounds;
+    passed_on = λ _. none;
+    is_status = inl (inl refl);
+    passed = λ is. absurd (omega (arith, is));
+    waits = λ is. absurd (omega (arith, is));
+    kept = λ is. absurd (omega (arith, is));
+    skipped = λ is. absurd (omega (arith, is));
+    shown = λ is. absurd (omega (arith, is));
+    whole = λ _. ended;
+  }
+
+  -- a bad line was reached
+  pub bad_ends : PrintsAll BAD_LINE → RunsAll → held ≡ [] → IfSome (unread_at was) (λ bytes. GoesTo
+      (place_of was.lines) (place_of now.lines) (has_ended now.lines) [] bytes (unread_at now))
+      → ShowsBad (place_of now.lines) (kept_of now.lines) (has_ended now.lines)
+      → EndsRun was now held BAD_LINE
+  bad_ends text rounds none skipped shown = record {
+    text = λ _. text;
+    part = λ cut. uncut BAD_LINE (lit< tt) cut;
+    rounds = λ _. rounds;
+    passed_on = λ _. none;
+    is_status = inl (inr refl);
+    passed = λ is. absurd (omega (arith, is));
+    waits = λ is. absurd (omega (arith, is));
+    kept = λ is. absurd (omega (arith, is));
+    skipped = λ _. skipped;
+    shown = λ _. shown;
+    whole = λ is. absurd (omega (arith, is));
+  }
+
+  -- the source failed
+  pub read_ends : Prints was now → Waits now.lines → now.round ≡ was.round → held ≡ []
+      → EndsRun was now held READ_FAILED
+  read_ends passed waits kept none = record {
+    text = λ is. cut_off is;
+    part = λ cut. uncut READ_FAILED (lit< tt) cut;
+    rounds = λ is. cut_off is;
+    passed_on = λ _. none;
+    is_status = inr (inl refl);
+    passed = λ _. passed;
+    waits = λ _. waits;
+    kept = λ _. kept;
+    skipped = λ is. absurd (omega (arith, is));
+    shown = λ is. absurd (omega (arith, is));
+    whole = λ is. absurd (omega (arith, is));
+  }
+    where
+      cut_off : {P : Type 0} → IsAnswer READ_FAILED → P
+      cut_off (inl whole) = absurd (omega (arith, whole))
+      cut_off (inr bad) = absurd (omega (arith, bad))
 
 module _ (was now : Standing) (held : List ℕ) (v : Version) (version : v ≡ version_of now.lines)
     (chosen : 0 < length was.round.tasks → IsSome (mode_of was.lines))
@@ -67,16 +154,14 @@ module _ (was now : Standing) (held : List ℕ) (v : Version) (version : v ≡ v
 
   -- a bad line was named after the replies of the round
   pub bad_done : (number : ℕ) (cause : Cause) → MeetsLines (Bad number cause ∷ [])
-      → length was.round.tasks < round_limit
-      → Appends was.written now.written
+      → length was.round.tasks < round_limit → Appends was.written now.written
       (text_of (map_in was.round) (lines ++ Bad number cause ∷ []))
       → RunsOn was.round was.kept now.round now.kept (round_for was.round.tasks)
       → held ≡ [] → GoesOverLines []
       → ShowsBad (place_of now.lines) (kept_of now.lines) (has_ended now.lines)
       → EndsRun was now held BAD_LINE
   bad_done number cause meets few writes ran none skipped shown =
-      let last = Bad number cause ∷ [] in
-      bad_ends was now held
+      let last = Bad number cause ∷ [] in bad_ends was now held
       (ended_if (moment_at was) lines last _ 3 _ _ same
       (sym (status-asked v was.round.tasks last)) meets writes)
       (rounds_ended_if was.round now.round was.kept now.kept (moment_at was) lines last
@@ -108,14 +193,12 @@ module _ (was now : Standing) (held : List ℕ) (v : Version) (version : v ≡ v
         → Takes (map_in was.round) (lines ++ given) was.written now.written (map_in now.round)
         (asked v now.round.tasks)
         → TakesRounds was.round was.kept now.round now.kept (lines ++ given)
-        (asked v now.round.tasks)
-        → (now.round.tasks ≡ [] → held ≡ []) → stop_of now.lines ≡ None
+        (asked v now.round.tasks) → (now.round.tasks ≡ [] → held ≡ []) → stop_of now.lines ≡ None
         → count_of was.lines < number → count_of now.lines ≡ number
         → length now.round.tasks < round_limit → IsSome (mode_of now.lines)
         → IsOpenBefore (number + 1) now.round → StepsOn was now held
     line_taken goes takes ran passed going count at few some before =
-        let then = ap (λ w. asked w now.round.tasks) version in
-        record {
+        let then = ap (λ w. asked w now.round.tasks) version in record {
           text = went_on_if (moment_at was) (moment_at now) lines given _ _ _ _ _ same goes
               (takes_same _ _ _ _ _ _ _ _ refl then takes);
           rounds = rounds_went_if was.round now.round was.kept now.kept (moment_at was)
@@ -140,5 +223,4 @@ module _ (was now : Standing) (held : List ℕ) (v : Version) (version : v ≡ v
   -- nothing was written
   pub none_cut : (status : ℕ) → IsCutShort status → Keeps was.written now.written
       → EndsRun was now held status
-  none_cut status cut kept =
-      cut_ends was now held status cut (none_if (moment_at was) _ _ _ kept)
+  none_cut status cut kept = cut_ends was now held status cut (none_if (moment_at was) _ _ _ kept)

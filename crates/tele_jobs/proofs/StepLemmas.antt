@@ -1,25 +1,108 @@
 -- What the parts of a step say of the open round, joined. Serves the steps of a run.
-use Rattle.std.proofs.Common.{◌≡◌, ℕ, ◌<◌, List, [], ◌∷◌, ◌++◌, sym, ◌∙◌, ap, subst, length, append-nil}
+use Rattle.std.proofs.Common.{◌≡◌, ℕ, ◌<◌, List, [], ◌∷◌, ◌++◌, refl, sym, ◌∙◌, ap, subst, append_assoc, length, append-nil}
 use Rattle.std.specs.Prelude.{Option, IsSome}
-use Rattle.ist_core.specs.declared.commands.Command.{Command}
-use Rattle.ist_core.specs.declared.pairs.Pair.{Pair}
-use Rattle.ist_core.specs.Map.{Map, replay, listed}
-use Rattle.tele_io.specs.Bytes.{Appends, AppendsPart}
-use Rattle.tele_io.proofs.AppendsLemmas.{Appends-append, AppendsPart-append, AppendsPart-longer}
+use Rattle.std.proofs.lemmas.List.{map-append}
+use Rattle.ist_core.specs.TreeTerms.{Map, replay, listed}
+use Rattle.tele_io.specs.Bytes.{Appends, Keeps, AppendsPart}
+use Rattle.tele_io.proofs.AppendsLemmas.{Appends-nothing, Appends-append, AppendsPart-append, AppendsPart-longer}
+use Rattle.tele_io.proofs.KeepsLemmas.{appends_none}
 use Rattle.tele_lanes.specs.declared.task_lists.Task.{Task}
 use Rattle.tele_lanes.specs.Lines.{commands_of}
-use Rattle.tele_lines.specs.declared.items.Item.{Item}
 use Rattle.tele_lines.specs.declared.items.Item.TheVariants.{Point, Interval}
 use Rattle.tele_lines.specs.declared.items.Version.{Version}
+use Rattle.tele_lines.specs.Answer.{Read, Good, text_of, exit_status, interval_text}
+use Rattle.tele_lines.specs.Rounds.{round_limit, in_whole_rounds}
+use Rattle.tele_jobs.specs.Open.{asked}
+use Rattle.tele_jobs.specs.Due.{Takes, whole_text}
+use Rattle.tele_jobs.proofs.RoundLemmas.{in_whole-full, in_whole-interval}
+use Rattle.tele_jobs.proofs.AnswerLemmas.{text-asked, status-asked, asked-version}
+use Rattle.ist_core.specs.declared.commands.Command.{Command}
+use Rattle.ist_core.specs.declared.pairs.Pair.{Pair}
+use Rattle.tele_lines.specs.declared.items.Item.{Item}
 use Rattle.tele_lines.specs.declared.reader.Lines.{Lines}
 use Rattle.tele_lines.specs.Readings.{version_in}
 use Rattle.tele_lines.specs.Progress.{mode_of, version_of}
-use Rattle.tele_lines.specs.Answer.{Read, Good, text_of, interval_text, exit_status}
-use Rattle.tele_lines.specs.Rounds.{round_limit}
-use Rattle.tele_jobs.specs.Open.{asked}
-use Rattle.tele_jobs.specs.Due.{Takes}
-use Rattle.tele_jobs.proofs.AnswerLemmas.{text-asked, status-asked, asked-version}
-use Rattle.tele_jobs.proofs.TakeLemmas.{stay_open, answered_full, answered_interval, asked-more}
+
+-- ---- what taking a line into the open round does to what is due. Serves the steps of a run.
+
+-- lines that stay open
+pub stay_open : (m : Map) (lines : List Read) (before : Option (List ℕ)) → Takes m lines before
+    before m lines
+stay_open m lines before = record {
+  printed = [];
+  writes = Appends-nothing before;
+  text = λ more. refl;
+  status = λ more. refl;
+  whole = λ more. refl;
+}
+
+-- lines that stay open, when what was written stays taken
+pub stay_kept : (m : Map) (lines : List Read) (before now : Option (List ℕ)) → Keeps before now
+    → Takes m lines before now m lines
+stay_kept m lines before now kept = record {
+  printed = [];
+  writes = appends_none before now kept;
+  text = λ more. refl;
+  status = λ more. refl;
+  whole = λ more. refl;
+}
+
+-- a full round was answered
+pub answered_full : (version : Version) (m : Map) (tasks : List Task)
+    (before written : Option (List ℕ))
+    → length tasks ≡ round_limit → Appends before written (text_of m (asked version tasks))
+    → Takes m (asked version tasks) before written (replay m (commands_of tasks)) []
+answered_full version m tasks before written full writes = record {
+  printed = text_of m (asked version tasks);
+  writes = writes;
+  text = text-asked version m tasks;
+  status = status-asked version tasks;
+  whole = λ more. ap (text_of m) (in_whole-full version tasks more full) ∙ text-asked version m
+      tasks (in_whole_rounds more);
+}
+
+-- a round was answered, and the interval line that ends it
+pub answered_interval : (version : Version) (number first last : ℕ) (m : Map) (tasks : List Task)
+    (before mid written : Option (List ℕ))
+    → length tasks < round_limit → Appends before mid (text_of m (asked version tasks))
+    → Appends mid written (interval_text version number
+    (listed first last (replay m (commands_of tasks))))
+    → Takes m (asked version tasks ++ Good number version (Interval first last) ∷ []) before written
+    (replay m (commands_of tasks)) []
+answered_interval version number first last m tasks before mid written few writes more_writes =
+    let line = Good number version (Interval first last) in
+    let next = replay m (commands_of tasks) in let points = text_of m (asked version tasks) in
+    let list = interval_text version number (listed first last next) in
+    let text : (more : List Read) → text_of m ((asked version tasks ++ line ∷ []) ++ more) ≡
+    (points ++ list) ++ text_of next more =
+    λ more. ap (text_of m) (append_assoc {A = Read} (asked version tasks) (line ∷ []) more)
+    ∙ text-asked version m tasks (line ∷ more)
+    ∙ sym (append_assoc {A = ℕ} points list (text_of next more)) in
+    record {
+      printed = points ++ list;
+      writes = Appends-append before mid written points list writes more_writes;
+      text = text;
+      status = λ more. ap exit_status (append_assoc {A = Read} (asked version tasks) (line ∷ []) more)
+          ∙ status-asked version tasks (line ∷ more);
+      whole = λ more. ap (whole_text m)
+          (append_assoc {A = Read} (asked version tasks) (line ∷ []) more)
+          ∙ ap (text_of m) (in_whole-interval version number first last tasks more few)
+          ∙ text (in_whole_rounds more);
+    }
+
+-- one more task is one more line
+pub asked-more : (version : Version) (old new : List Task) (task : Task) → new ≡ old ++ task ∷ []
+    → asked version new ≡ asked version old ++ Good task.line version (Point task.command) ∷ []
+asked-more version old new task is =
+    ap (asked version) is ∙ map-append (λ t. Good t.line version (Point t.command)) old (task ∷ [])
+
+-- what was taken in, as other lines that are the same
+pub takes_same : (m n : Map) (lines same : List Read) (before written : Option (List ℕ))
+    (next others : List Read) → lines ≡ same → next ≡ others
+    → Takes m lines before written n next → Takes m same before written n others
+takes_same m n lines same before written next others is is_too h =
+    subst (λ ls. Takes m ls before written n others) is
+    (subst (λ ls. Takes m lines before written n ls) is_too h)
 
 module _ (version : Version) (m : Map) (tasks : List Task) where
   -- a part of the text of a round is a part of its text and more
@@ -56,8 +139,7 @@ module _ (version : Version) (m : Map) (tasks : List Task) where
       (more : now ≡ tasks ++ record { line = number; command = command } ∷ []) where
     -- a point line is one more task
     pub taken_lines : asked version now ≡ asked version tasks ++ Good number version item ∷ []
-    taken_lines =
-        asked-more version tasks now (record { line = number; command = command }) more
+    taken_lines = asked-more version tasks now (record { line = number; command = command }) more
         ∙ ap (λ i. asked version tasks ++ Good number version i ∷ []) (sym is)
 
     -- the line stays open, and nothing is written

@@ -2,7 +2,7 @@
 use Rattle.std.proofs.Common.{◌≡◌, ℕ, ◌<◌, List, [], ◌∷◌, ◌++◌, sym, ◌∙◌, ap, length}
 use Rattle.std.specs.Prelude.{Option}
 use Rattle.ist_core.specs.declared.commands.Command.{Command}
-use Rattle.ist_core.specs.Map.{no_pairs}
+use Rattle.ist_core.specs.TreeTerms.{no_pairs}
 use Rattle.tele_lines.specs.declared.items.Item.{Item}
 use Rattle.tele_lines.specs.declared.items.Item.TheVariants.{Point, Interval}
 use Rattle.tele_lines.specs.declared.items.Version.{Version}
@@ -11,7 +11,7 @@ use Rattle.tele_lines.specs.Rounds.{round_limit}
 use Rattle.tele_jobs.specs.Rounds.{task_rounds}
 use Rattle.tele_jobs.specs.Open.{Open, RunsOn, with_task, asked, round_for}
 use Rattle.tele_jobs.specs.Due.{TakesRounds}
-use Rattle.tele_jobs.proofs.CutLemmas.{task_rounds-full, task_rounds-interval}
+use Rattle.tele_jobs.proofs.RoundLemmas.{task_rounds-full, task_rounds-interval}
 use Rattle.tele_jobs.proofs.RanLemmas.{runs_none, runs_then}
 use Rattle.tele_jobs.proofs.StepLemmas.{taken_lines}
 
@@ -44,8 +44,7 @@ module _ (version : Version) (number : ℕ) (item : Item)
 
     -- a point line stays open
     pub rounds_open : TakesRounds old kept mid kept lines (asked version mid.tasks)
-    rounds_open =
-        rounds_stay old mid kept lines (asked version mid.tasks) stays same_lines
+    rounds_open = rounds_stay old mid kept lines (asked version mid.tasks) stays same_lines
 
     -- if the line fills the round, the round is run
     pub rounds_full : (new : Open) (later : Option (List (List ℕ))) → length mid.tasks ≡ round_limit

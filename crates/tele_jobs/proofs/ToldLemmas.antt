@@ -2,7 +2,7 @@
 -- them.
 use Rattle.std.proofs.Common.{◌≡◌, ℕ, ◌<◌, List, [], ◌++◌, Bool, true, false, refl, sym, ◌∙◌, ap, subst, append_assoc, append-nil, length}
 use Rattle.std.specs.Prelude.{Option, Some, None, IfSome, option_map, if◌then◌else◌}
-use Rattle.ist_core.specs.Map.{no_pairs}
+use Rattle.ist_core.specs.TreeTerms.{no_pairs}
 use Rattle.tele_io.specs.Bytes.{Appends, AppendsPart, Keeps}
 use Rattle.tele_io.proofs.AppendsLemmas.{Appends-nothing}
 use Rattle.tele_io.proofs.KeepsLemmas.{part_none}
@@ -32,13 +32,11 @@ first_moment = first_at (record { limit = line_limit; count = 0; mode = None })
 pub at_first : (team : Team) (words : ℕ) (lines : Lines) (round : Open)
     → place_of lines ≡ first_moment.place → round ≡ fresh_round team words
     → moment_of lines round ≡ first_moment
-at_first team words lines round place empty =
-    ap (moment_of lines) empty ∙ ap first_at place
+at_first team words lines round place empty = ap (moment_of lines) empty ∙ ap first_at place
 
 -- lines were read and taken into the round
 pub went_on_if : (was now : Moment) (lines given : List Read) (unread : Option (List ℕ))
-    (ended : Bool)
-    (before written left : Option (List ℕ)) → was.lines ≡ lines
+    (ended : Bool) (before written left : Option (List ℕ)) → was.lines ≡ lines
     → IfSome unread (λ bytes. GoesTo was.place now.place ended given bytes left)
     → Takes was.m (lines ++ given) before written now.m now.lines
     → IfSome unread (λ bytes. RunsTo was bytes before written ended left now)
@@ -66,8 +64,7 @@ none_if was (Some bytes) before written kept = part_none before written (due was
 
 -- the last lines were answered
 pub ended_if : (was : Moment) (lines last : List Read) (unread : Option (List ℕ)) (ending : ℕ)
-    (before written : Option (List ℕ))
-    → was.lines ≡ lines → ending ≡ exit_status (lines ++ last)
+    (before written : Option (List ℕ)) → was.lines ≡ lines → ending ≡ exit_status (lines ++ last)
     → IfSome unread (λ bytes. read_at was.place (lines_of bytes) ≡ last)
     → Appends before written (text_of was.m (lines ++ last))
     → IfSome unread (λ bytes. Ends (due was bytes) before written ending)
@@ -129,8 +126,7 @@ on_and_on_if (Some bytes) mid last before written later ended now_ended unread n
 
 -- one step, and then the end of the run
 pub on_and_end_if : (left : Option (List ℕ)) (mid : Moment) (ending : ℕ)
-    (before written later : Option (List ℕ))
-    (ended : Bool) (unread : Option (List ℕ))
+    (before written later : Option (List ℕ)) (ended : Bool) (unread : Option (List ℕ))
     → IfSome left (λ bytes. RunsTo first_moment bytes before written ended unread mid)
     → IfSome unread (λ bytes. Ends (due mid bytes) written later ending)
     → IfSome left (λ bytes. Ends (due first_moment bytes) before later ending)
@@ -140,8 +136,7 @@ on_and_end_if (Some bytes) mid ending before written later ended unread one two 
 
 -- one step, and then a part of what is due
 pub on_and_part_if : (left : Option (List ℕ)) (mid : Moment)
-    (before written later : Option (List ℕ))
-    (ended : Bool) (unread : Option (List ℕ))
+    (before written later : Option (List ℕ)) (ended : Bool) (unread : Option (List ℕ))
     → IfSome left (λ bytes. RunsTo first_moment bytes before written ended unread mid)
     → IfSome unread (λ bytes. AppendsPart written later (due mid bytes).text)
     → IfSome left (λ bytes. AppendsPart before later (due first_moment bytes).text)
@@ -163,8 +158,7 @@ splits kept bytes false (Some rest) going is = record { rest = rest; leaves = re
 splits kept bytes false None going is = absurd (cc is)
 
 -- a failed read, when the reader has kept bytes without a whole line and the round is open
-stops_at : (bytes : List ℕ) (before written : Option (List ℕ)) (round : Open)
-    (lines : Lines)
+stops_at : (bytes : List ℕ) (before written : Option (List ℕ)) (round : Open) (lines : Lines)
     (left : Option (List ℕ))
     → RunsTo first_moment bytes before written lines.ended (unread lines left)
     (moment_of lines round)
@@ -194,8 +188,7 @@ stops_at bytes before written round lines left one waits few =
     }
 
 -- what a failed read leaves, if the source reports its bytes
-pub stops_if : (all before written : Option (List ℕ)) (round : Open)
-    (lines : Lines)
+pub stops_if : (all before written : Option (List ℕ)) (round : Open) (lines : Lines)
     (left : Option (List ℕ))
     → IfSome all (λ bytes. RunsTo first_moment bytes before written lines.ended (unread lines left)
     (moment_of lines round))

@@ -1,20 +1,24 @@
 -- What one thread answers, and what the lanes answer as if alone. Serves the law of lanes.
-use Rattle.std.proofs.Common.{◌≡◌, ◌≢◌, inl, inr, ◌+◌, ◌<◌, ◌≤◌, ◌%◌, ◌==◌, ℕ, zero, suc, Bool, true, false, cond, List, [], ◌∷◌, ◌++◌, Some, None, sym, ap, subst, ◌∙◌, refl, arith, nat_lt}
-use Rattle.std.specs.FinMap as fin
+use Rattle.std.proofs.Common.{◌≡◌, ◌≢◌, inl, inr, ◌+◌, ◌<◌, ◌≤◌, ◌%◌, ◌==◌, ℕ, zero, suc, Bool, true, false, cond, List, [], ◌∷◌, ◌++◌, Some, None, sym, ap, subst, ◌∙◌, refl, arith, nat_lt, map, get_or}
 use Rattle.std.specs.List.{flat_map, range_with_len}
-use Rattle.std.specs.List.Sorted.{IsPermutation}
+use Rattle.std.specs.List.Sorted.{IsPermutation, IsStrictlyIncreasing}
 use Rattle.std.specs.Ordering.{nat_cmp, eq_by_cmp, is_eq}
 use Rattle.std.specs.declared.cmp.Ordering.TheVariants.{Less, Equal, Greater}
 use Rattle.std.specs.Cmp.{nat_cmp_total}
 use Rattle.std.proofs.lemmas.Bool.{cases_eq, eqb-true, eqb-false, ne_eqb, eq-eqb}
-use Rattle.std.proofs.lemmas.List.Sorted.{IsPermutation-refl, IsPermutation-trans, IsPermutation-append_right, IsPermutation-cons, IsPermutation-middle}
+use Rattle.std.proofs.lemmas.List.Sorted.{IsPermutation-refl, IsPermutation-trans, IsPermutation-append_right, IsPermutation-cons, IsPermutation-middle, IsPermutation-sym, Contains-permutation}
 use Rattle.ist_core.specs.declared.commands.Command.{Command}
 use Rattle.ist_core.specs.declared.commands.Command.TheVariants.{Put, Remove, Get}
-use Rattle.ist_core.specs.Map.{Map, key_of, map_after, reply_to}
+use Rattle.ist_core.specs.TreeTerms.{Map, key_of, map_after, reply_to, replay}
 use Rattle.tele_lanes.specs.declared.task_lists.Task.{Task}
 use Rattle.tele_lanes.specs.declared.answer_lists.Answer.{Answer}
-use Rattle.tele_lanes.specs.Lines.{answer_lines, replies_in}
-use Rattle.tele_lanes.specs.Lanes.{lane_of, lane_tasks, ArePlainAnswers}
+use Rattle.tele_lanes.specs.Lines.{answer_lines, replies_in, task_lines}
+use Rattle.tele_lanes.specs.Lanes.{lane_of, lane_tasks, ArePlainAnswers, lane_commands, AnswerAlone, InLineOrder}
+use Rattle.std.proofs.lemmas.List.{same_lists}
+use Rattle.std.proofs.lemmas.List.FromFn.{get_or-map-range_with_len, length-map-range_with_len}
+use Rattle.tele_lanes.proofs.LineLemmas.{flat_map-map, line_of}
+use Rattle.tele_lanes.proofs.SplitLemmas.{Climb-from_increasing, same_climbing}
+use Rattle.std.specs.FinMap as fin
 
 -- if a number is less or greater, it isn't equal
 less_or_greater : (b : Bool) → is_eq (cond b Less Greater) ≡ false
@@ -30,8 +34,7 @@ eq_by_cmp-differ q k differ =
 -- a command does the same to what two maps have at a key
 pub get-map_after_same : (m n : Map) (c : Command) (q : ℕ) → fin.get m q ≡ fin.get n q
     → fin.get (map_after m c) q ≡ fin.get (map_after n c) q
-get-map_after_same m n (Put key value) q same =
-    fin.get-insert nat_cmp_total m key value q
+get-map_after_same m n (Put key value) q same = fin.get-insert nat_cmp_total m key value q
     ∙ ap (λ o. cond (eq_by_cmp nat_cmp q key) (Some value) o) same
     ∙ sym (fin.get-insert nat_cmp_total n key value q)
 get-map_after_same m n (Remove key) q same =
@@ -42,11 +45,9 @@ get-map_after_same m n (Get key) q same = same
 -- a command leaves the other keys
 pub get-map_after_other : (m : Map) (c : Command) (q : ℕ) → q ≢ key_of c
     → fin.get (map_after m c) q ≡ fin.get m q
-get-map_after_other m (Put key value) q other =
-    fin.get-insert nat_cmp_total m key value q
+get-map_after_other m (Put key value) q other = fin.get-insert nat_cmp_total m key value q
     ∙ ap (λ b. cond b (Some value) (fin.get m q)) (eq_by_cmp-differ q key other)
-get-map_after_other m (Remove key) q other =
-    fin.get-remove nat_cmp_total m key q
+get-map_after_other m (Remove key) q other = fin.get-remove nat_cmp_total m key q
     ∙ ap (λ b. cond b None (fin.get m q)) (eq_by_cmp-differ q key other)
 get-map_after_other m (Get key) q other = refl
 
@@ -71,14 +72,12 @@ pub same_answers : (xs ys : List Answer) → answer_lines xs ≡ answer_lines ys
 same_answers [] [] e f = refl
 same_answers [] (y ∷ ys) e f = cc
 same_answers (x ∷ xs) [] e f = cc
-same_answers (x ∷ xs) (y ∷ ys) e f =
-    let line : x.line ≡ y.line = cc in
+same_answers (x ∷ xs) (y ∷ ys) e f = let line : x.line ≡ y.line = cc in
     let reply : x.reply ≡ y.reply = cc in
     let head : x ≡ y = λ i. record { line = line i; reply = reply i } in
     let lines : answer_lines xs ≡ answer_lines ys = cc in
     let replies : replies_in xs ≡ replies_in ys = cc in
-    let rest : xs ≡ ys = same_answers xs ys lines replies in
-    cc
+    let rest : xs ≡ ys = same_answers xs ys lines replies in cc
 
 -- one thread answers in one way
 pub answered-from_ArePlainAnswers : (m : Map) (tasks : List Task) (all : List Answer)
@@ -91,8 +90,7 @@ answered-from_ArePlainAnswers m tasks all alone =
 -- one thread's answers to all tasks, picked for one lane
 abbrev pub picked : ℕ → ℕ → Map → List Task → List Answer
 picked workers lane m [] = []
-picked workers lane m (t ∷ ts) =
-    cond (lane_of workers t.command == lane)
+picked workers lane m (t ∷ ts) = cond (lane_of workers t.command == lane)
     (record { line = t.line; reply = reply_to m t.command } ∷ picked workers lane (map_after m t.command) ts)
     (picked workers lane (map_after m t.command) ts)
 
@@ -121,24 +119,21 @@ picked_is workers lane m n (t ∷ ts) agree = go (lane_of workers t.command == l
         (λ q h. get-map_after_same m n t.command q (agree q h)) in
         ap (λ r. record { line = t.line; reply = r } ∷ picked workers lane (map_after m t.command) ts) same
         ∙ ap (λ l. record { line = t.line; reply = reply_to n t.command } ∷ l) rest
-    go false e later =
-        later (map_after m t.command) n
+    go false e later = later (map_after m t.command) n
         (λ q h. get-map_after_other m t.command q (λ same. eqb-false _ _ e (ap (λ k. k % workers) (sym same) ∙ h)) ∙ agree q h)
 
 -- lists that differ nowhere in a range
 pub flat_map-same : {A : Type 0} (f g : ℕ → List A) (from n : ℕ) → ((w : ℕ) → from ≤ w → f w ≡ g w)
     → flat_map f (range_with_len from n) ≡ flat_map g (range_with_len from n)
 flat_map-same f g from zero same = refl
-flat_map-same f g from (suc n) same =
-    let one : f from ≡ g from = same from (omega arith) in
+flat_map-same f g from (suc n) same = let one : f from ≡ g from = same from (omega arith) in
     let rest : flat_map f (range_with_len (from + 1) n) ≡ flat_map g (range_with_len (from + 1) n)
     = flat_map-same f g (from + 1) n (λ w h. same w (omega arith)) in
     cc
 
 -- one more element in one list of a range
 pub flat_map-more : {A : Type 0} (f g : ℕ → List A) (a : A) (at from n : ℕ) → from ≤ at
-    → at < from + n
-    → f at ≡ a ∷ g at → ((w : ℕ) → w ≢ at → f w ≡ g w)
+    → at < from + n → f at ≡ a ∷ g at → ((w : ℕ) → w ≢ at → f w ≡ g w)
     → IsPermutation (flat_map f (range_with_len from n)) (a ∷ flat_map g (range_with_len from n))
 flat_map-more f g a at from zero low high here other = absurd (omega arith)
 flat_map-more f g a at from (suc n) low high here other =
@@ -185,3 +180,66 @@ IsPermutation-picked workers m (t ∷ ts) h =
     (eq-eqb (lane_of workers t.command) (lane_of workers t.command) refl))
     (λ w differ. ap (λ b. cond b (a ∷ g w) (g w)) (ne_eqb (lane_of workers t.command) w (λ e. differ (sym e)))))
     (IsPermutation-cons a _ _ (IsPermutation-picked workers (map_after m t.command) ts h))
+
+-- ---- the lanes' answers, merged in line order, are one thread's. Serves the law of lanes.
+
+-- lanes that answer alone have the answers that are picked for each from one thread's answers
+pub picked-from_AnswerAlone : (m : Map) (workers : ℕ) (tasks : List Task) (lanes : List (List Answer)) → AnswerAlone m workers tasks lanes
+    → lanes ≡ map (λ lane. picked workers lane m tasks) (range_with_len 0 workers)
+picked-from_AnswerAlone m workers tasks lanes alone =
+    let f : ℕ → List Answer = λ lane. picked workers lane m tasks in
+    same_lists lanes (map f (range_with_len 0 workers))
+    (alone.len ∙ sym (length-map-range_with_len f 0 workers))
+    (λ k d h. let h' : k < workers = omega (arith, alone.len) in
+    answered-from_ArePlainAnswers m (lane_tasks workers k tasks) (get_or lanes k d)
+    (alone.each k d h')
+    ∙ sym (picked_is workers k m m tasks (λ q e. refl))
+    ∙ sym (get_or-map-range_with_len f 0 workers k k d h' (omega arith)))
+
+-- the answers of all lanes are one thread's, in some order
+pub IsPermutation-alone : (m : Map) (workers : ℕ) (tasks : List Task) (lanes : List (List Answer))
+    → 0 < workers → AnswerAlone m workers tasks lanes
+    → IsPermutation (flat_map (λ answers. answers) lanes) (answered m tasks)
+IsPermutation-alone m workers tasks lanes h alone = subst (λ l. IsPermutation l (answered m tasks))
+    (sym (ap (λ l. flat_map (λ answers. answers) l) (picked-from_AnswerAlone m workers tasks lanes alone)
+    ∙ flat_map-map (λ lane. picked workers lane m tasks) (range_with_len 0 workers)))
+    (IsPermutation-picked workers m tasks h)
+
+-- the answers of one thread are the lanes' in line order
+pub InLineOrder-answered : (m : Map) (workers : ℕ) (tasks : List Task) (lanes : List (List Answer))
+    → 0 < workers → IsStrictlyIncreasing (task_lines tasks) → AnswerAlone m workers tasks lanes
+    → InLineOrder lanes (answered m tasks)
+InLineOrder-answered m workers tasks lanes h up alone =
+    let own : ArePlainAnswers m tasks (answered m tasks) = ArePlainAnswers-answered m tasks in
+    record {
+      same = IsPermutation-alone m workers tasks lanes h alone;
+      rising = subst IsStrictlyIncreasing (sym own.lines) up;
+    }
+
+-- lists have one line order
+pub InLineOrder-one : (lanes : List (List Answer)) (xs ys : List Answer) → InLineOrder lanes xs
+    → InLineOrder lanes ys → xs ≡ ys
+InLineOrder-one lanes xs ys one two =
+    let flat : List Answer = flat_map (λ answers. answers) lanes in
+    same_climbing line_of xs ys (Climb-from_increasing line_of xs one.rising)
+    (Climb-from_increasing line_of ys two.rising)
+    (λ a c. Contains-permutation flat ys a two.same (Contains-permutation xs flat a (IsPermutation-sym flat xs one.same) c))
+    (λ a c. Contains-permutation flat xs a one.same (Contains-permutation ys flat a (IsPermutation-sym flat ys two.same) c))
+
+-- the value of a key at the end comes from its lane's commands only
+pub get-replay_lane : (workers key : ℕ) (m n : Map) (commands : List Command)
+    → fin.get m key ≡ fin.get n key → fin.get (replay m commands) key
+    ≡ fin.get (replay n (lane_commands workers (key % workers) commands)) key
+get-replay_lane workers key m n [] same = same
+get-replay_lane workers key m n (c ∷ cs) same = go (lane_of workers c == key % workers) refl
+    (λ p q. get-replay_lane workers key p q cs)
+  where
+    go : (b : Bool) → (lane_of workers c == key % workers) ≡ b
+        → ((p q : Map) → fin.get p key ≡ fin.get q key
+        → fin.get (replay p cs) key
+        ≡ fin.get (replay q (lane_commands workers (key % workers) cs)) key)
+        → fin.get (replay (map_after m c) cs) key
+        ≡ fin.get (replay n (cond b (c ∷ lane_commands workers (key % workers) cs) (lane_commands workers (key % workers) cs))) key
+    go true e later = later (map_after m c) (map_after n c) (get-map_after_same m n c key same)
+    go false e later =
+        later (map_after m c) n (get-map_after_other m c key (λ at. eqb-false _ _ e (ap (λ k. k % workers) (sym at))) ∙ same)

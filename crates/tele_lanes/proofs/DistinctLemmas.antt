@@ -40,8 +40,7 @@ IsDistinct-from_increasing xs up = IsDistinct-from_apart eqb xs (λ i j d lt h.
 pub IsDistinct-append : (xs ys : List ℕ) → IsDistinct eqb xs → IsDistinct eqb ys → ShareNoNumber xs ys
     → IsDistinct eqb (xs ++ ys)
 IsDistinct-append [] ys one two apart = two
-IsDistinct-append (x ∷ xs) ys one two apart =
-    let P = λ (y : ℕ). eqb x y ≡ false in
+IsDistinct-append (x ∷ xs) ys one two apart = let P = λ (y : ℕ). eqb x y ≡ false in
     let left : All P xs = All-from_recursion P xs (IsDistinct-head eqb x xs one) in
     let right : All P ys = λ k d h. ne_eqb x (get_or ys k d)
     (λ e. apart x (0, omega arith, refl)
@@ -54,8 +53,7 @@ IsDistinct-append (x ∷ xs) ys one two apart =
 -- if two lists are distinct together, the first is distinct
 pub IsDistinct-front : (xs ys : List ℕ) → IsDistinct eqb (xs ++ ys) → IsDistinct eqb xs
 IsDistinct-front [] ys all = IsDistinct-from_increasing [] (λ k h. absurd (omega arith))
-IsDistinct-front (x ∷ xs) ys all =
-    let P = λ (y : ℕ). eqb x y ≡ false in
+IsDistinct-front (x ∷ xs) ys all = let P = λ (y : ℕ). eqb x y ≡ false in
     let each : All P (xs ++ ys)
     = All-from_recursion P (xs ++ ys) (IsDistinct-head eqb x (xs ++ ys) all) in
     IsDistinct-cons eqb x xs
@@ -85,8 +83,7 @@ pub IsDistinct-flat_map : {X : Type 0} (f : X → List ℕ) (xs : List X)
     → IsDistinct eqb (flat_map f xs)
 IsDistinct-flat_map {X = X} f [] up apart =
     IsDistinct-from_increasing [] (λ k h. absurd (omega arith))
-IsDistinct-flat_map {X = X} f (x ∷ xs) up apart =
-    IsDistinct-append (f x) (flat_map f xs)
+IsDistinct-flat_map {X = X} f (x ∷ xs) up apart = IsDistinct-append (f x) (flat_map f xs)
     (IsDistinct-from_increasing (f x) (All-head (λ y. IsStrictlyIncreasing (f y)) x xs up))
     (IsDistinct-flat_map f xs (All-tail (λ y. IsStrictlyIncreasing (f y)) x xs up)
     (λ i j d lt h. apart (suc i) (suc j) d (omega arith) (omega arith)))
@@ -112,8 +109,7 @@ pub record IsPieceOf (piece xs : List ℕ) : Type 0 where
 -- what is in the piece is in the list
 pub Contains-piece : (piece xs : List ℕ) → IsPieceOf piece xs → (n : ℕ) → Contains piece n
     → Contains xs n
-Contains-piece piece xs p n c =
-    subst (λ l. Contains l n) (sym p.is)
+Contains-piece piece xs p n c = subst (λ l. Contains l n) (sym p.is)
     (Contains-append_left (p.front ++ piece) p.back n (Contains-append_right p.front piece n c))
 
 module _ {X : Type 0} (f g : X → List ℕ) where

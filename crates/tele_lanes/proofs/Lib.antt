@@ -3,5 +3,3 @@ pub mod SplitLemmas
 pub mod DistinctLemmas
 pub mod LineLemmas
 pub mod AloneLemmas
-pub mod ClimbLemmas
-pub mod LawLemmas

@@ -73,8 +73,7 @@ module _ {L : Type 0} (tasks_of : L → List Task) (answers_of : L → List Answ
 
   -- no line comes twice
   IsDistinct-lines : IsDistinct eqb (flat_map lines lanes)
-  IsDistinct-lines =
-      subst (IsDistinct eqb)
+  IsDistinct-lines = subst (IsDistinct eqb)
       (ap (map line_of_task) (flat_map-map tasks_of lanes)
       ∙ map-flat_map line_of_task tasks_of lanes)
       own
@@ -82,43 +81,36 @@ module _ {L : Type 0} (tasks_of : L → List Task) (answers_of : L → List Answ
   -- no line of an answer comes twice
   pub IsDistinct-answered : All (λ l. AnswerInOrder (tasks_of l) (answers_of l)) lanes
       → IsDistinct eqb (map line_of (flat_map answers_of lanes))
-  IsDistinct-answered first =
-      subst (IsDistinct eqb) (sym (map-flat_map line_of answers_of lanes))
+  IsDistinct-answered first = subst (IsDistinct eqb) (sym (map-flat_map line_of answers_of lanes))
       (IsDistinct-pieces lines (λ l. answer_lines (answers_of l)) lanes
       (λ k d h. first_piece (get_or lanes k d) (first k d h)) IsDistinct-lines)
     where
       -- the answered lines are the first of all
       first_piece : (l : L) → AnswerInOrder (tasks_of l) (answers_of l)
           → IsPieceOf (answer_lines (answers_of l)) (lines l)
-      first_piece l in_order =
-          let n = length (answers_of l) in
-          record {
-            front = [];
-            back = drop n (lines l);
-            is = sym (ap (λ xs. xs ++ drop n (lines l)) in_order ∙ take-append-drop n (lines l));
-          }
+      first_piece l in_order = let n = length (answers_of l) in record {
+        front = [];
+        back = drop n (lines l);
+        is = sym (ap (λ xs. xs ++ drop n (lines l)) in_order ∙ take-append-drop n (lines l));
+      }
 
   -- no line of a task that was left comes twice
-  pub IsDistinct-unanswered :
-      IsDistinct eqb
+  pub IsDistinct-unanswered : IsDistinct eqb
       (map line_of_task (flat_map (λ l. unanswered (tasks_of l) (answers_of l)) lanes))
-  IsDistinct-unanswered =
-      subst (IsDistinct eqb)
+  IsDistinct-unanswered = subst (IsDistinct eqb)
       (sym (map-flat_map line_of_task (λ l. unanswered (tasks_of l) (answers_of l)) lanes))
       (IsDistinct-pieces lines (λ l. task_lines (unanswered (tasks_of l) (answers_of l))) lanes
       (λ k d h. last_piece (get_or lanes k d)) IsDistinct-lines)
     where
       -- the lines that were left are the last of all
       last_piece : (l : L) → IsPieceOf (task_lines (unanswered (tasks_of l) (answers_of l))) (lines l)
-      last_piece l =
-          let n = length (answers_of l) in
-          record {
-            front = take n (lines l);
-            back = [];
-            is = sym (append-nil _
-                ∙ ap (λ xs. take n (lines l) ++ xs) (sym (drop-map line_of_task n (tasks_of l)))
-                ∙ take-append-drop n (lines l));
-          }
+      last_piece l = let n = length (answers_of l) in record {
+        front = take n (lines l);
+        back = [];
+        is = sym (append-nil _
+            ∙ ap (λ xs. take n (lines l) ++ xs) (sym (drop-map line_of_task n (tasks_of l)))
+            ∙ take-append-drop n (lines l));
+      }
 
   -- the answers sorted by line are in line order
   pub gathered_answers : (all : List Answer)

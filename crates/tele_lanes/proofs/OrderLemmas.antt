@@ -6,8 +6,7 @@ use Rattle.std.proofs.lemmas.List.{take-map, map_more, map_push, length_push}
 -- the first elements of a mapped list, and one more
 pub take-map_more : {X Y : Type 0} (f : X → Y) (xs : List X) (i : ℕ) (d : X) → i < length xs
     → take (i + 1) (map f xs) ≡ take i (map f xs) ++ f (get_or xs i d) ∷ []
-take-map_more f xs i d h =
-    take-map f (i + 1) xs ∙ map_more f xs i d h
+take-map_more f xs i d h = take-map f (i + 1) xs ∙ map_more f xs i d h
     ∙ ap (λ z. z ++ f (get_or xs i d) ∷ []) (sym (take-map f i xs))
 
 -- a list that follows the first elements of xs, by g and f, still does with one for the next
@@ -16,11 +15,9 @@ pub follows_push : {X A Y : Type 0} (f : X → Y) (g : A → Y) (xs : List X) (m
     → length made ≡ i → i < length xs → g a ≡ f (get_or xs i d)
     → map g made ≡ take (length made) (map f xs)
     → map g (made ++ a ∷ []) ≡ take (length (made ++ a ∷ [])) (map f xs)
-follows_push f g xs made a i d long h same before =
-    map_push g made a
+follows_push f g xs made a i d long h same before = map_push g made a
     ∙ ap (λ z. z ++ g a ∷ []) (before ∙ ap (λ n. take n (map f xs)) long)
-    ∙ ap (λ z. take i (map f xs) ++ z ∷ []) same
-    ∙ sym (take-map_more f xs i d h)
+    ∙ ap (λ z. take i (map f xs) ++ z ∷ []) same ∙ sym (take-map_more f xs i d h)
     ∙ ap (λ n. take n (map f xs)) (sym (length_push made a ∙ ap (λ n. n + 1) long))
 
 -- two lists that f and g see as the same, each with one more that they see as the same

@@ -17,8 +17,7 @@ slice_range-later bytes start count end h =
 
 -- bytes that were read after the first k are the next ones
 pub fills_after : (bytes : List ℕ) (k n : ℕ) (left now : Option (List ℕ)) → k + n ≤ length bytes
-    → GivesBytes left now n (drop k bytes)
-    → Fills left now (take k bytes) (take (k + n) bytes) n
+    → GivesBytes left now n (drop k bytes) → Fills left now (take k bytes) (take (k + n) bytes) n
 fills_after bytes k n (Some given) now h g = record {
   longer = omega (arith, length-take-le (k + n) bytes h, length-take-le k bytes (omega arith));
   bytes = record {
@@ -40,8 +39,7 @@ fills_after bytes k n None now h g = record {
 pub filled : (bytes old : List ℕ) (k n : ℕ) (left now : Option (List ℕ)) → take k bytes ≡ old
     → k + n ≤ length bytes → GivesBytes left now n (drop k bytes)
     → Fills left now old (slice_range bytes 0 (k + n)) n
-filled bytes old k n left now is h g =
-    let front = fills_after bytes k n left now h g in
+filled bytes old k n left now is h g = let front = fills_after bytes k n left now h g in
     let e : k + n ≡ k + n - 0 = omega arith in
     subst (λ xs. Fills left now xs (take (k + n - 0) bytes) n) is
     (subst (λ m. Fills left now (take k bytes) (take m bytes) n) e front)

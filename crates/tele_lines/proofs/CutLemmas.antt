@@ -25,9 +25,7 @@ cut_first (byte ∷ bytes) others k is below =
       | true ↦ λ e. subst
           (λ n. [] ∷ lines_of (bytes ++ others) ≡ take n (byte ∷ bytes) ∷ lines_of
           (drop (n + 1) (byte ∷ bytes) ++ others)) e refl
-      | false ↦ λ e.
-          let p = position_or_len is_newline bytes in
-          let e' : suc p ≡ k = omega arith in
+      | false ↦ λ e. let p = position_or_len is_newline bytes in let e' : suc p ≡ k = omega arith in
           let less : p < length bytes = omega arith in
           subst (λ n. onto_first byte (lines_of (bytes ++ others)) ≡ take n
           (byte ∷ bytes) ∷ lines_of (drop (n + 1) (byte ∷ bytes) ++ others)) e'
@@ -45,8 +43,7 @@ whole_longer byte bytes more k is =
 
 -- up to the first newline there is one line that a newline ends
 pub whole_first : (bytes more : List ℕ) (k : ℕ) → position_or_len is_newline bytes ≡ k
-    → k < length bytes
-    → whole_lines (take (k + 1) bytes ++ more) ≡ take k bytes ∷ whole_lines more
+    → k < length bytes → whole_lines (take (k + 1) bytes ++ more) ≡ take k bytes ∷ whole_lines more
 whole_first [] more k is below = absurd (omega arith)
 whole_first (byte ∷ bytes) more k is below =
     let P : ℕ → Type 0 =
@@ -57,10 +54,8 @@ whole_first (byte ∷ bytes) more k is below =
     → P k) [
       | true ↦ λ e is_end. subst P e
           (ap (λ b. if b then [] ∷ whole_lines more else onto_whole byte (whole_lines more)) is_end)
-      | false ↦ λ e no_end.
-          let p = position_or_len is_newline bytes in
-          let next : suc p ≡ k = omega arith in
-          let less : p < length bytes = omega arith in
+      | false ↦ λ e no_end. let p = position_or_len is_newline bytes in
+          let next : suc p ≡ k = omega arith in let less : p < length bytes = omega arith in
           let here = whole_longer byte bytes more p (whole_first bytes more p refl less) in
           subst P next
           (rw add-one
@@ -72,8 +67,7 @@ whole_first (byte ∷ bytes) more k is below =
 last_or_none : (byte : ℕ) (bytes : List ℕ) → IsUnbroken bytes
     → onto_first byte (lines_of bytes) ≡ (byte ∷ bytes) ∷ []
 last_or_none byte [] is = refl
-last_or_none byte (next ∷ bytes) is =
-    elim (next == newline) as
+last_or_none byte (next ∷ bytes) is = elim (next == newline) as
     (λ b. cond (not b) (1 + position_or_len is_newline bytes) 0 ≡ length (next ∷ bytes)
     → onto_first byte (if b then [] ∷ lines_of bytes else onto_first next (lines_of bytes)) ≡
     (byte ∷ next ∷ bytes) ∷ []) [
@@ -84,8 +78,7 @@ last_or_none byte (next ∷ bytes) is =
 -- bytes without a newline are one line
 pub cut_last : (bytes : List ℕ) → IsUnbroken bytes → 0 < length bytes → lines_of bytes ≡ bytes ∷ []
 cut_last [] is some = absurd (omega arith)
-cut_last (byte ∷ bytes) is some =
-    elim (byte == newline) as
+cut_last (byte ∷ bytes) is some = elim (byte == newline) as
     (λ b. cond (not b) (1 + position_or_len is_newline bytes) 0 ≡ length (byte ∷ bytes)
     → (if b then [] ∷ lines_of bytes else onto_first byte (lines_of bytes)) ≡ (byte ∷ bytes) ∷ []) [
       | true ↦ λ e. absurd (omega arith)
@@ -105,8 +98,7 @@ begins_one byte (line ∷ lines) = (line, lines, refl)
 begins_all : (byte : ℕ) (bytes others : List ℕ) → IsUnbroken bytes
     → BeginsWithBytes (byte ∷ bytes) (onto_first byte (lines_of (bytes ++ others)))
 begins_all byte [] others is = begins_one byte (lines_of others)
-begins_all byte (next ∷ bytes) others is =
-    elim (next == newline) as
+begins_all byte (next ∷ bytes) others is = elim (next == newline) as
     (λ b. cond (not b) (1 + position_or_len is_newline bytes) 0 ≡ length (next ∷ bytes)
     → BeginsWithBytes (byte ∷ next ∷ bytes)
     (onto_first byte
@@ -121,8 +113,7 @@ pub cut_long : (bytes others : List ℕ) → IsUnbroken bytes → 0 < length byt
     → (more : List ℕ) × (rest : List (List ℕ)) ×
     (lines_of (bytes ++ others) ≡ (bytes ++ more) ∷ rest)
 cut_long [] others is some = absurd (omega arith)
-cut_long (byte ∷ bytes) others is some =
-    elim (byte == newline) as
+cut_long (byte ∷ bytes) others is some = elim (byte == newline) as
     (λ b. cond (not b) (1 + position_or_len is_newline bytes) 0 ≡ length (byte ∷ bytes)
     → BeginsWithBytes (byte ∷ bytes)
     (if b then [] ∷ lines_of (bytes ++ others) else onto_first byte (lines_of (bytes ++ others)))) [
@@ -133,8 +124,7 @@ cut_long (byte ∷ bytes) others is some =
 -- bytes without a newline have no line that a newline ends
 pub no_whole : (bytes : List ℕ) → IsUnbroken bytes → whole_lines bytes ≡ []
 no_whole [] is = refl
-no_whole (byte ∷ bytes) is =
-    elim (byte == newline) as
+no_whole (byte ∷ bytes) is = elim (byte == newline) as
     (λ b. cond (not b) (1 + position_or_len is_newline bytes) 0 ≡ length (byte ∷ bytes)
     → (if b then [] ∷ whole_lines bytes else onto_whole byte (whole_lines bytes)) ≡ []) [
       | true ↦ λ e. absurd (omega arith)

@@ -5,9 +5,7 @@ pub mod FirstLemmas
 pub mod CutLemmas
 pub mod BufferLemmas
 pub mod ReaderLemmas
-pub mod CutterLemmas
 pub mod PlaceLemmas
 pub mod PrintedLemmas
 pub mod SparingLemmas
 pub mod SkippedLemmas
-pub mod ShownLemmas

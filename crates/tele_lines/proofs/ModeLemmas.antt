@@ -32,8 +32,7 @@ asks_two-keeps v item (Err cause) = refl
 
 by_letter-keeps : (v : Version) (letter : Option ℕ) (more : List (List ℕ)) → KeepsVersion v (by_letter (Some v) letter more)
 by_letter-keeps v None more = refl
-by_letter-keeps v (Some letter) more =
-    either v (letter == 80) _ _ (asks_two-keeps v _ _)
+by_letter-keeps v (Some letter) more = either v (letter == 80) _ _ (asks_two-keeps v _ _)
     (either v (letter == 82) _ _ (asks_one-keeps v _ _)
     (either v (letter == 71) _ _ (asks_one-keeps v _ _)
     (either v (letter == 73) _ _ (asks_two-keeps v _ _)
@@ -47,8 +46,7 @@ by_words-keeps v (word ∷ more) = either v (is_note word) _ _ refl (by_letter-k
 pub reading-keeps : (limit number : ℕ) (mode : Mode) (line : List ℕ) → IsSome mode
     → next_mode mode (reading limit number mode line) ≡ mode
 reading-keeps limit number None line some = absurd (cc some)
-reading-keeps limit number (Some v) line some =
-    either v (nat_le number limit) _ _
+reading-keeps limit number (Some v) line some = either v (nat_le number limit) _ _
     (either v (nat_le (length (without_return line)) longest) _ _ (by_words-keeps v (words_in_line (without_return line))) refl) refl
 
 -- the version stays over two lines if it stays over each

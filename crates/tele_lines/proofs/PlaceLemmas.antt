@@ -1,15 +1,21 @@
 -- How a line that was read takes the reading from one place to the next. Serves the reader.
-use Rattle.std.proofs.Common.{◌≡◌, ℕ, ◌+◌, Bool, true, false, List, [], ◌∷◌, ◌++◌, refl, sym, ◌∙◌, ap, subst, append_assoc}
-use Rattle.std.specs.Prelude.{Option, Some, None, IfSome}
+use Rattle.std.proofs.Common.{◌≡◌, ℕ, ◌+◌, Bool, true, false, List, [], ◌∷◌, ◌++◌, refl, sym, ◌∙◌, ap, subst, append_assoc, length, take, drop, arith, inl, inr, ◌<◌}
+use Rattle.std.specs.Prelude.{Option, Some, None, IfSome, ◌==◌, if◌then◌else◌, not, cond}
 use Rattle.tele_io.specs.Bytes.{Keeps}
 use Rattle.tele_lines.specs.declared.items.Cause.{Cause}
 use Rattle.tele_lines.specs.declared.items.Item.{Item}
 use Rattle.tele_lines.specs.declared.items.Said.{Said}
 use Rattle.tele_lines.specs.declared.items.Said.TheVariants.{Skips, Chooses, Asks, Fails}
-use Rattle.tele_lines.specs.Lines.{lines_of, whole_lines}
+use Rattle.tele_lines.specs.Lines.{lines_of, whole_lines, newline, onto_whole}
 use Rattle.tele_lines.specs.Readings.{version_in, next_mode, reading}
-use Rattle.tele_lines.specs.Answer.{Read, Good, Bad, then_read, read_from}
-use Rattle.tele_lines.specs.Progress.{Place, Continues, following, reads_given, read_at, GoesTo, TakesLine}
+use Rattle.tele_lines.specs.Answer.{Read, Good, Bad, then_read, read_from, exit_status}
+use Rattle.tele_lines.specs.Progress.{Place, Continues, following, reads_given, read_at, GoesTo, TakesLine, ShowsBad, place_of, unread, MeetsLine}
+use Rattle.std.specs.List.{position_or_len}
+use Rattle.std.proofs.lemmas.List.{take_all, take-append-drop}
+use Rattle.tele_lines.specs.Buffers.{is_newline, IsUnbroken, BreaksAt, IsOpenEnded, unread_of}
+use Rattle.tele_lines.proofs.CutLemmas.{whole_first}
+use Rattle.tele_lines.specs.declared.reader.Lines.{Lines}
+use Rattle.tele_lines.proofs.ReaderLemmas.{takes_line, meets_line, takes_last, meets_last, long_fails}
 
 -- a line followed by those after it
 then_given : (place : Place) (said : Said) (others : List Read) → Continues said
@@ -24,15 +30,13 @@ reads_first : (place : Place) (said : Said) (line : List ℕ) (lines others : Li
     → lines ≡ line ∷ others
     → reading place.limit (place.count + 1) place.mode line ≡ said → Continues said
     → read_at place lines ≡ reads_given place said ++ read_at (following place said) others
-reads_first place said line lines others cut says goes_on =
-    ap (read_at place) cut
+reads_first place said line lines others cut says goes_on = ap (read_at place) cut
     ∙ ap (λ s. then_read (place.count + 1) place.mode s (read_from place.limit (place.count + 1 + 1) (next_mode place.mode s) others)) says
     ∙ then_given place said (read_at (following place said) others) goes_on
 
 -- after a line the reading is at the next place
 goes_after : (place : Place) (said : Said) (bytes : List ℕ) (ended : Bool) (now : Option (List ℕ))
-    → Continues said
-    → TakesLine place said bytes ended now
+    → Continues said → TakesLine place said bytes ended now
     → GoesTo place (following place said) ended (reads_given place said) bytes now
 goes_after place said bytes ended now goes_on takes = record {
   taken = takes.taken;
@@ -45,8 +49,7 @@ goes_after place said bytes ended now goes_on takes = record {
 }
 
 -- one line was read
-pub one_after : (place new : Place) (said : Said) (before here now : Option (List ℕ))
-    (ended : Bool)
+pub one_after : (place new : Place) (said : Said) (before here now : Option (List ℕ)) (ended : Bool)
     → Keeps before here → new ≡ following place said → Continues said
     → IfSome here (λ bytes. TakesLine place said bytes ended now)
     → IfSome before (λ bytes. GoesTo place new ended (reads_given place said) bytes now)
@@ -67,8 +70,7 @@ pub goes_on_to : (one two three : Place) (mid ended : Bool) (first second : List
     → GoesTo one three ended (first ++ second) bytes now
 goes_on_to one two three mid ended first second bytes here now lasts a b =
     let next : GoesTo two three ended second a.rest now = subst (λ u. IfSome u (λ bytes. GoesTo two three ended second bytes now)) a.left b in
-    let was : ended ≡ false → mid ≡ false = still_going mid ended lasts in
-    record {
+    let was : ended ≡ false → mid ≡ false = still_going mid ended lasts in record {
       taken = a.taken ++ next.taken;
       rest = next.rest;
       left = next.left;
@@ -83,8 +85,7 @@ goes_on_to one two three mid ended first second bytes here now lasts a b =
 
 -- one stretch followed by another, also if the bytes aren't known
 pub goes_on_if : (one two three : Place) (mid ended : Bool) (second : List Read)
-    (before here now : Option (List ℕ))
-    → (mid ≡ true → ended ≡ true)
+    (before here now : Option (List ℕ)) → (mid ≡ true → ended ≡ true)
     → IfSome before (λ bytes. GoesTo one two mid [] bytes here)
     → IfSome here (λ bytes. GoesTo two three ended second bytes now)
     → IfSome before (λ bytes. GoesTo one three ended second bytes now)
@@ -118,3 +119,126 @@ pub bad_if : (one : Place) (count now number : ℕ) (first cause : Cause) (befor
 bad_if one count now number first cause before same is named reads =
     subst (λ c. IfSome before (λ bytes. read_at one (lines_of bytes) ≡ Bad number c ∷ [])) named
     (subst (λ n. IfSome before (λ bytes. read_at one (lines_of bytes) ≡ Bad n first ∷ [])) (ap (λ n. n + 1) (sym same) ∙ is) reads)
+
+-- ---- that the bytes which a reader keeps show a bad line. Serves the reader.
+
+-- lines of which the first is bad
+first_bad : (place : Place) (cause : Cause) (line : List ℕ) (lines others : List (List ℕ))
+    → lines ≡ line ∷ others → reading place.limit (place.count + 1) place.mode line ≡ Fails cause
+    → exit_status (read_at place lines) ≡ 3
+first_bad place cause line lines others cut says = ap (λ ls. exit_status (read_at place ls)) cut
+    ∙ ap (λ s. exit_status (then_read (place.count + 1) place.mode s
+    (read_from place.limit (place.count + 1 + 1) (next_mode place.mode s) others))) says
+
+-- a bad line that a newline ends
+pub shown_at : (place : Place) (cause : Cause) (said : Said) (buffer : List ℕ) (ended : Bool) (k : ℕ)
+    → BreaksAt buffer k
+    → said ≡ reading place.limit (place.count + 1) place.mode (take k buffer) → said ≡ Fails cause
+    → ShowsBad place buffer ended
+shown_at place cause said buffer ended k breaks says fails =
+    let more = drop (k + 1) buffer ++ newline ∷ [] in
+    let parts : buffer ++ newline ∷ [] ≡ take (k + 1) buffer ++ more =
+    ap (λ xs. xs ++ newline ∷ []) (sym (take-append-drop (k + 1) buffer))
+    ∙ append_assoc {A = ℕ} (take (k + 1) buffer) (drop (k + 1) buffer) (newline ∷ []) in
+    inr (first_bad place cause (take k buffer) _ (whole_lines more)
+    (ap whole_lines parts ∙ whole_first buffer more k breaks.first breaks.within)
+    (sym says ∙ fails))
+
+-- bytes without a newline, and then a newline
+ended_line : (bytes : List ℕ) → IsUnbroken bytes → whole_lines (bytes ++ newline ∷ []) ≡ bytes ∷ []
+ended_line [] is = refl
+ended_line (byte ∷ bytes) is = elim (byte == newline) as
+    (λ b. cond (not b) (1 + position_or_len is_newline bytes) 0 ≡ length (byte ∷ bytes)
+    → (if b then [] ∷ whole_lines (bytes ++ newline ∷ [])
+    else onto_whole byte (whole_lines (bytes ++ newline ∷ []))) ≡ (byte ∷ bytes) ∷ []) [
+      | true ↦ λ e. absurd (omega arith)
+      | false ↦ λ e. ap (onto_whole byte) (ended_line bytes (omega arith))
+    ] is
+
+-- a bad line that is too long, or the last one
+pub shown_last : (place : Place) (cause : Cause) (said : Said) (buffer : List ℕ) (ended : Bool)
+    (len : ℕ) → len ≡ length buffer → IsOpenEnded buffer ended
+    → said ≡ reading place.limit (place.count + 1) place.mode (take len buffer)
+    → said ≡ Fails cause → ShowsBad place buffer ended
+shown_last place cause said buffer ended len all unended says fails =
+    elim unended.why as (λ _. ShowsBad place buffer ended) [
+      | inl at_end ↦ inl at_end
+      | inr long ↦ inr (first_bad place cause buffer _ [] (ended_line buffer unended.unbroken)
+          (ap (reading place.limit (place.count + 1) place.mode)
+          (sym (ap (λ n. take n buffer) all ∙ take_all (length buffer) buffer (omega arith)))
+          ∙ sym says ∙ fails))
+    ]
+
+-- what was skipped before a bad line, which stays unread
+pub skipped_if : (one two new : Place) (mid ended : Bool) (before here now : Option (List ℕ))
+    → new ≡ two → (mid ≡ true → ended ≡ true) → Keeps here now
+    → IfSome before (λ bytes. GoesTo one two mid [] bytes here)
+    → IfSome before (λ bytes. GoesTo one new ended [] bytes now)
+skipped_if one two new mid ended None here now same lasts keeps goes = tt
+skipped_if one two new mid ended (Some bytes) None now same lasts keeps goes =
+    let e = goes.left in absurd (cc e)
+skipped_if one two new mid ended (Some bytes) (Some unread) now same lasts keeps goes =
+    subst (λ p. GoesTo one p ended [] bytes now) (sym same) (record {
+      taken = goes.taken;
+      rest = goes.rest;
+      left = keeps ∙ goes.left;
+      same = goes.same;
+      reads = goes.reads;
+      whole = λ going more. goes.whole (still_going mid ended lasts going) more;
+    })
+
+-- ---- what a read of the first line says of the unread bytes. Serves the reader.
+
+-- a line of `len` bytes that lets `taken` go is the first of the unread ones
+from_read : (old new : Lines) (taken : ℕ) (said : Said)
+    → ((left : Option (List ℕ)) → IfSome (unread old left)
+    (λ bytes. TakesLine (place_of old) said bytes old.ended (unread_of (drop taken old.buffer) old.ended left)))
+    → new.buffer ≡ drop taken old.buffer → new.ended ≡ old.ended → (left : Option (List ℕ))
+    → IfSome (unread old left)
+    (λ bytes. TakesLine (place_of old) said bytes new.ended (unread new left))
+from_read old new taken said takes rest ended left =
+    let P = λ (buffer : List ℕ) (e : Bool). IfSome (unread old left) (λ bytes. TakesLine (place_of old) said bytes e (unread_of buffer e left)) in
+    subst (P new.buffer) (sym ended) (subst (λ buffer. P buffer old.ended) (sym rest) (takes left))
+
+-- a line that ends at a newline
+pub line_at : (old new : Lines) (k : ℕ) (said : Said) → BreaksAt old.buffer k
+    → said ≡ reading old.limit (old.count + 1) old.mode (take k old.buffer)
+    → (Continues said → new.buffer ≡ drop (k + 1) old.buffer) → new.ended ≡ old.ended
+    → Continues said → (left : Option (List ℕ)) → IfSome (unread old left)
+    (λ bytes. TakesLine (place_of old) said bytes new.ended (unread new left))
+line_at old new k said breaks says rest ended goes_on =
+    from_read old new (k + 1) said (λ left. takes_line (place_of old) said old.buffer old.ended _ k breaks (sym says)) (rest goes_on) ended
+
+-- the last line, which is all that there is
+pub line_last : (old new : Lines) (len : ℕ) (said : Said) → len ≡ length old.buffer → ¬ (len ≡ 0)
+    → IsOpenEnded old.buffer old.ended
+    → said ≡ reading old.limit (old.count + 1) old.mode (take len old.buffer)
+    → (Continues said → new.buffer ≡ drop len old.buffer) → new.ended ≡ old.ended
+    → Continues said → (left : Option (List ℕ)) → IfSome (unread old left)
+    (λ bytes. TakesLine (place_of old) said bytes new.ended (unread new left))
+line_last old new len said all some unended says rest ended goes_on =
+    let more : 0 < length old.buffer = omega arith in
+    let here : reading old.limit (old.count + 1) old.mode (take (length old.buffer) old.buffer) ≡ said =
+    ap (λ n. reading old.limit (old.count + 1) old.mode (take n old.buffer)) (sym all) ∙ sym says in
+    elim unended.why [
+      | inl at_end ↦ from_read old new (length old.buffer) said
+          (λ left. takes_last (place_of old) said old.buffer old.ended left at_end unended.unbroken more here)
+          (rest goes_on ∙ ap (λ n. drop n old.buffer) all) ended
+      | inr long ↦ absurd (long_fails (place_of old) old.buffer said long here goes_on)
+    ]
+
+-- the first of the unread lines
+pub first_at : (old : Lines) (k : ℕ) (said : Said) (left : Option (List ℕ)) → BreaksAt old.buffer k
+    → said ≡ reading old.limit (old.count + 1) old.mode (take k old.buffer)
+    → IfSome (unread old left) (λ bytes. MeetsLine (place_of old) said bytes)
+first_at old k said left breaks says = meets_line (place_of old) said old.buffer _ k breaks (sym says)
+
+-- the first of the unread lines, which is all that there is, or begins with too many bytes
+pub first_last : (old : Lines) (len : ℕ) (said : Said) (left : Option (List ℕ))
+    → len ≡ length old.buffer → ¬ (len ≡ 0) → IsOpenEnded old.buffer old.ended
+    → said ≡ reading old.limit (old.count + 1) old.mode (take len old.buffer)
+    → IfSome (unread old left) (λ bytes. MeetsLine (place_of old) said bytes)
+first_last old len said left all some unended says =
+    let more : 0 < length old.buffer = omega arith in
+    meets_last (place_of old) said old.buffer old.ended left unended more
+    (ap (λ n. reading old.limit (old.count + 1) old.mode (take n old.buffer)) (sym all) ∙ sym says)

@@ -20,8 +20,7 @@ pub record HasPrinted (version : Version) (before now : Option (List ℕ)) (all 
 
 -- one more pair
 pub one_printed : (version : Version) (before now later : Option (List ℕ))
-    (all rest others : List Pair) (pair : Pair)
-    → rest ≡ pair ∷ others
+    (all rest others : List Pair) (pair : Pair) → rest ≡ pair ∷ others
     → HasPrinted version before now all rest → Appends now later (pair_text version pair)
     → HasPrinted version before later all others
 one_printed version before now later all rest others pair is h writes = record {
@@ -33,8 +32,7 @@ one_printed version before now later all rest others pair is h writes = record {
 
 -- a part of one more pair
 pub part_printed : (version : Version) (before now later : Option (List ℕ))
-    (all rest others : List Pair) (pair : Pair)
-    → rest ≡ pair ∷ others
+    (all rest others : List Pair) (pair : Pair) → rest ≡ pair ∷ others
     → HasPrinted version before now all rest → AppendsPart now later (pair_text version pair)
     → AppendsPart before later (flat_map (pair_text version) all)
 part_printed version before now later all rest others pair is h part =

@@ -70,8 +70,7 @@ takes_line place said buffer ended (Some others) k b says = record {
 
 -- it is the first of the unread lines
 pub meets_line : (place : Place) (said : Said) (buffer : List ℕ) (left : Option (List ℕ)) (k : ℕ)
-    → BreaksAt buffer k
-    → reading place.limit (place.count + 1) place.mode (take k buffer) ≡ said
+    → BreaksAt buffer k → reading place.limit (place.count + 1) place.mode (take k buffer) ≡ said
     → IfSome (option_map (λ bytes. buffer ++ bytes) left) (λ bytes. MeetsLine place said bytes)
 meets_line place said buffer None k b says = tt
 meets_line place said buffer (Some others) k b says = record {

@@ -40,9 +40,7 @@ module _ (first mid : Lines) (all left now : Option (List ℕ)) (h : HasSkipped 
       → IfSome left (λ bytes. TakesAsNeeded (place_of mid) (kept_of mid) mid.ended bytes now)
       → HasSkipped first last all now
   skipped_more last said line place going end ended limit steady sparing =
-      let more = ap (λ (p : Place). p.count) place in
-      let before = h.count in
-      record {
+      let more = ap (λ (p : Place). p.count) place in let before = h.count in record {
         passed = goes_on_if (place_of first) (place_of mid) (place_of last) mid.ended last.ended []
             (unread first all) (unread mid left) (unread last now) ended h.passed line;
         count = omega arith;

@@ -26,8 +26,7 @@ record Longer (old new rest more : List ℕ) : Type 0 where
 
 longer : (old new rest more : List ℕ) → length old ≤ length new → new ++ more ≡ old ++ rest
     → Longer old new rest more
-longer old new rest more le same =
-    let n = length old in
+longer old new rest more le same = let n = length old in
     let front : take n new ≡ old =
     sym (take-append-le n new more le) ∙ ap (take n) same ∙ take-append_seam old rest in
     let begins : new ≡ old ++ drop n new = sym (take-append-drop n new) ∙ ap (λ xs. xs ++ drop n new) front in
@@ -51,8 +50,7 @@ took_if None left now kept old new n a fills = tt
 took_if (Some bytes) left now kept old new n a fills =
     let given = filled old new left now n a.rest a.left fills in
     let parts = longer old new a.rest given.rest (omega (arith, fills.longer)) given.same in
-    let piece = drop (length old) new in
-    record {
+    let piece = drop (length old) new in record {
       taken = a.taken ++ piece;
       rest = given.rest;
       left = given.others;
@@ -106,8 +104,7 @@ ends_if first mid all left now old new n none end fills told =
     ended_at (Some bytes) now old new n none some fills =
         let given = filled old new (Some bytes) now n bytes refl fills in
         let parts = longer old new bytes given.rest (omega (arith, fills.longer)) given.same in
-        let size = ap length (given.at_end none) in
-        let all = ap length parts.gives in
+        let size = ap length (given.at_end none) in let all = ap length parts.gives in
         let both = length-append (drop (length old) new) given.rest in
         let empty : given.rest ≡ [] = nil_from_length given.rest (omega (arith, size, all, both)) in
         record {
@@ -123,8 +120,7 @@ pub needed_if : (place : Place) (kept : List ℕ) (was : Bool) (all now : Option
     → IfSome all (λ bytes. TakesAsNeeded place kept was bytes now)
 needed_if place kept was None now spared = tt
 needed_if place kept was (Some bytes) now (inl none) = inl none
-needed_if place kept was (Some bytes) now (inr some) =
-    let a = some.1 in
+needed_if place kept was (Some bytes) now (inr some) = let a = some.1 in
     inr (
       some.0,
       record {
@@ -149,14 +145,12 @@ pub record Given (bytes : List ℕ) (now : Option (List ℕ)) : Type 0 where
 pub given : (place : Place) (kept : List ℕ) (was : Bool) (bytes : List ℕ) (now : Option (List ℕ))
     → TakesAsNeeded place kept was bytes now → Given bytes now
 given place kept was bytes now (inl none) = record { taken = []; rest = bytes; left = none; same = refl }
-given place kept was bytes now (inr some) =
-    let a = some.1 in
-    record {
-      taken = a.before ++ a.piece;
-      rest = a.rest;
-      left = a.left;
-      same = a.same ∙ sym (append_assoc {A = ℕ} a.before a.piece a.rest);
-    }
+given place kept was bytes now (inr some) = let a = some.1 in record {
+  taken = a.before ++ a.piece;
+  rest = a.rest;
+  left = a.left;
+  same = a.same ∙ sym (append_assoc {A = ℕ} a.before a.piece a.rest);
+}
 
 -- the bytes of the lines that were read and those in the buffer are those kept at first and those
 -- taken since
@@ -174,8 +168,7 @@ later_needed : (one two : Place) (kept buffer bytes rest : List ℕ) (now : Opti
     → (was mid : Bool) → (was ≡ true → mid ≡ true) → (first : Given bytes (Some rest))
     → IfSome (unread_of kept was (Some bytes))
     (λ bytes. GoesTo one two mid [] bytes (unread_of buffer mid (Some rest)))
-    → mid ≡ false → TakesLast two buffer rest now
-    → TakesAsNeeded one kept was bytes now
+    → mid ≡ false → TakesLast two buffer rest now → TakesAsNeeded one kept was bytes now
 later_needed one two kept buffer bytes rest now true mid lasts first goes going last =
     absurd (cc (lasts refl, going))
 later_needed one two kept buffer bytes rest now false true lasts first goes going last =

@@ -33,8 +33,7 @@ longer byte next (piece ∷ pieces) word others is =
     let here = sym (some-cons next piece pieces) ∙ is in some-cons byte (next ∷ piece) pieces ∙ cc
 
 -- the first word of bytes that follow one that isn't blank: up to the first blank
-first_word : (byte : ℕ) (bytes : List ℕ)
-    → some_words (onto_first byte (slice_split is_blank bytes))
+first_word : (byte : ℕ) (bytes : List ℕ) → some_words (onto_first byte (slice_split is_blank bytes))
     ≡ (byte ∷ take (position_or_len is_blank bytes) bytes) ∷ words_in_line (drop (position_or_len is_blank bytes) bytes)
 first_word byte [] = refl
 first_word byte (next ∷ bytes) =
@@ -49,11 +48,9 @@ first_word byte (next ∷ bytes) =
 
 -- the same, of the bytes themselves
 pub words-first : (bytes : List ℕ) (k : ℕ) → position_or_len is_blank bytes ≡ k → BeginsWord bytes
-    → 0 < length bytes
-    → words_in_line bytes ≡ take k bytes ∷ words_in_line (drop k bytes)
+    → 0 < length bytes → words_in_line bytes ≡ take k bytes ∷ words_in_line (drop k bytes)
 words-first [] k is begins some = absurd (omega arith)
-words-first (byte ∷ bytes) k is begins some =
-    let p = position_or_len is_blank bytes in
+words-first (byte ∷ bytes) k is begins some = let p = position_or_len is_blank bytes in
     let there : suc p ≡ k = sym (one-add p) ∙ sym (ap (λ b. cond (not b) (1 + p) 0) begins) ∙ is in
     subst (λ n. words_in_line (byte ∷ bytes) ≡ take n (byte ∷ bytes) ∷ words_in_line (drop n (byte ∷ bytes))) there
     (ap some_words (slice_split-cons_no is_blank byte bytes begins) ∙ first_word byte bytes)

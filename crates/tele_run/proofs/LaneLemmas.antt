@@ -5,7 +5,7 @@ use Rattle.std.proofs.lemmas.List.Elements.{All-cons, All-head, All-tail, All-pu
 use mathlib.Core.List.{map-id}
 use Rattle.std.specs.List.{range_with_len}
 use Rattle.std.specs.List.Sorted.{IsStrictlyIncreasing}
-use Rattle.ist_tree.specs.Faces.{TreeFace, MakerFace}
+use Rattle.ist_tree.specs.CallTerms.{TreeFace, MakerFace}
 use Rattle.tele_run.specs.Ends.{TreeLane, IsNew, AreMade}
 use Rattle.tele_steal.proofs.OrderLemmas.{IsStrictlyIncreasing-from_0}
 
@@ -14,8 +14,7 @@ pub all_same : {A B : Type 0} (P : B → Type 0) (f : A → B) (xs ys : List A) 
     → All (λ y. P (f y)) ys → All (λ x. P (f x)) xs
 all_same P f [] ys e h = λ k d lt. absurd (omega arith)
 all_same P f (x ∷ xs) [] e h = absurd (cc)
-all_same P f (x ∷ xs) (y ∷ ys) e h =
-    let head : f y ≡ f x = cc in
+all_same P f (x ∷ xs) (y ∷ ys) e h = let head : f y ≡ f x = cc in
     let tail : map f xs ≡ map f ys = cc in
     All-cons (λ a. P (f a)) x xs (subst P head (All-head (λ a. P (f a)) y ys h))
     (all_same P f xs ys tail (All-tail (λ a. P (f a)) y ys h))
@@ -23,18 +22,14 @@ all_same P f (x ∷ xs) (y ∷ ys) e h =
 -- if one more is still missing, there are fewer so far than there will be
 pub one_to_come : {A B : Type 0} (f : A → B) (xs : List A) (y : B) (ys zs all : List B)
     → map f xs ++ zs ≡ all → zs ≡ y ∷ ys → length xs < length all
-one_to_come f xs y ys zs all e is =
-    let whole = ap length e in
-    let both = length-append (map f xs) zs in
-    let first = length-map xs f in
-    let more = ap length is in
-    omega arith
+one_to_come f xs y ys zs all e is = let whole = ap length e in
+    let both = length-append (map f xs) zs in let first = length-map xs f in
+    let more = ap length is in omega arith
 
 -- the numbers so far, with the next one
 range_push : (from n : ℕ) → range_with_len from (suc n) ≡ range_with_len from n ++ (from + n) ∷ []
 range_push from zero = let same : from ≡ from + 0 = omega arith in ap (λ k. k ∷ []) same
-range_push from (suc n) =
-    let same : from + 1 + n ≡ from + suc n = omega arith in
+range_push from (suc n) = let same : from + 1 + n ≡ from + suc n = omega arith in
     ap (λ ks. from ∷ ks) (range_push (from + 1) n
     ∙ ap (λ k. range_with_len (from + 1) n ++ k ∷ []) same)
 
@@ -45,8 +40,7 @@ pub numbers_push : {A : Type 0} (f : A → ℕ) (xs : List A) (x : A)
 numbers_push f xs x e is =
     let long : suc (length xs) ≡ length (xs ++ x ∷ [])
     = let both = length-append xs (x ∷ []) in omega arith in
-    let place : f x ≡ 0 + length xs = omega arith in
-    map_push f xs x ∙ ap (λ ns. ns ++ f x ∷ []) e
+    let place : f x ≡ 0 + length xs = omega arith in map_push f xs x ∙ ap (λ ns. ns ++ f x ∷ []) e
     ∙ ap (λ n. range_with_len 0 (length xs) ++ n ∷ []) place
     ∙ sym (range_push 0 (length xs)) ∙ ap (range_with_len 0) long
 
@@ -68,8 +62,7 @@ one_made tree before maker next lanes lane m number new its_tree pass same made 
   numbers = numbers_push (λ (l : TreeLane). l.port.pass.number) lanes lane m.numbers
       (pass ∙ m.made);
   same_tree = same ∙ m.same_tree;
-  made = let more = length-append lanes (lane ∷ []) in
-      let was = m.made in
+  made = let more = length-append lanes (lane ∷ []) in let was = m.made in
       omega (arith, more, was, made);
   taken = taken ∙ m.taken;
 }

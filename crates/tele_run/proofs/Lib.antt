@@ -1,5 +1,4 @@
 pub mod LaneLemmas
-pub mod RunLaneLemmas
 pub mod PutLemmas
 pub mod LogLemmas
 pub mod RefusalLemmas

@@ -1,8 +1,7 @@
 -- How many words were spent after a log that goes on. Serves `run_on_tree`.
 use Rattle.std.proofs.Common.{◌≡◌, ℕ, zero, suc, ◌≤◌, List, [], ◌∷◌, slice_get, slice_index, Some, arith}
 use Rattle.ist_core.specs.declared.pairs.Pair.{Pair}
-use Rattle.ist_core.specs.Logs.{Log, GoesOn, same_log, one_event}
-use Rattle.ist_core.specs.Spending.{spent}
+use Rattle.ist_core.specs.LogTerms.{Log, GoesOn, same_log, one_event, spent}
 
 -- at least as many words were spent after a log that goes on
 pub spent_rise : (pairs : List Pair) (earlier log : Log) → GoesOn earlier log

@@ -9,24 +9,14 @@ use Rattle.ist_core.specs.declared.commands.Command.{Command}
 use Rattle.ist_core.specs.declared.commands.Command.TheVariants.{Put, Remove, Get}
 use Rattle.ist_core.specs.declared.pairs.Pair.{Pair}
 use Rattle.ist_core.specs.declared.ports.Full.{Full}
-use Rattle.ist_core.specs.Elements.{Each}
-use Rattle.ist_core.specs.Logs.{Log, GoesOn}
-use Rattle.ist_core.specs.Changes.{changes_of}
-use Rattle.ist_core.specs.Histories.{PassCalls}
-use Rattle.ist_core.specs.Replies.{Refused}
-use Rattle.ist_core.specs.Resting.{StandsFor, told_by_call}
-use Rattle.ist_core.specs.RowLayout.{next_place}
-use Rattle.ist_core.proofs.SpendingLemmas.{words_are_spent}
-use Rattle.ist_core.specs.StartLayout.{start}
-use Rattle.ist_core.specs.Spending.{spent}
-use Rattle.ist_core.proofs.PrefixLemmas.{goes_on_more}
+use Rattle.ist_core.specs.LogTerms.{Each, Log, GoesOn, PassCalls, Refused, spent}
+use Rattle.ist_core.specs.TreeTerms.{changes_of, StandsFor, told_by_call}
+use Rattle.ist_core.specs.WordTerms.{next_place, start}
+use Rattle.ist_core.proofs.AllLogLemmas.{words_are_spent, goes_on_more}
 use Rattle.laws_calls.specs.Finishing.{puts_in}
 use Rattle.laws_calls.proofs.NumberLemmas.{puts_rise}
 use Rattle.laws_histories.proofs.ChangeLemmas.{changes_on}
-use Rattle.ist_tree.specs.Faces.{TreeFace, MakerFace, calls_in}
-use Rattle.ist_tree.specs.Opening.{IsNewTree}
-use Rattle.ist_tree.specs.Closing.{ClosesWith, calls_taken, told_to, calls_from}
-use Rattle.ist_tree.specs.Refusals.{PassWasRefused, MayBeAsked}
+use Rattle.ist_tree.specs.CallTerms.{TreeFace, MakerFace, calls_in, IsNewTree, ClosesWith, calls_taken, told_to, calls_from, PassWasRefused, MayBeAsked}
 use Rattle.ist_tree.proofs.NumberLemmas.{calls_in_order}
 use Rattle.tele_lanes.specs.declared.task_lists.Task.{Task}
 use Rattle.tele_lanes.specs.declared.answer_lists.Answer.{Answer}
@@ -84,8 +74,7 @@ module _ (workers words : ℕ) (pairs : List Pair) (tasks : List Task) (tree : T
 
   -- the calls of each pass, by its number, are the calls of each lane
   calls_are : calls_taken maker ≡ map (λ e. e.port.pass.calls) came.ends
-  calls_are =
-      let passes : List PassCalls = map (λ e. calls_in e.port.pass) came.ends in
+  calls_are = let passes : List PassCalls = map (λ e. calls_in e.port.pass) came.ends in
       let many : length passes ≡ workers
       = length-map came.ends (λ e. calls_in e.port.pass)
       ∙ sym (length-map came.ends (λ e. e.port.pass.number)) ∙ ap length came.numbers
@@ -100,35 +89,30 @@ module _ (workers words : ℕ) (pairs : List Pair) (tasks : List Task) (tree : T
 
   -- what the passes were told is what the lanes were told
   told_are : told_to maker ≡ told_of_runs runs
-  told_are =
-      ap (map (map told_by_call)) calls_are
+  told_are = ap (map (map told_by_call)) calls_are
       ∙ map-map (map told_by_call) (λ (e : TreeLane). e.port.pass.calls) came.ends
       ∙ sym (map-map (λ (r : LaneRun). r.told) run_of came.ends)
 
   -- the words stand for the pairs and for what the lanes were told
   stands : StandsFor table pairs (told_of_runs runs)
-  stands =
-      subst (λ ps. StandsFor table ps (told_of_runs runs)) start_is
+  stands = subst (λ ps. StandsFor table ps (told_of_runs runs)) start_is
       (subst (λ told. StandsFor table maker.tree.start told) told_are closes.stands)
 
   -- the lanes are those of the tasks, and have run
   lanes_are : LanesRan workers tasks runs
-  lanes_are =
-      record {
-        lanes = map-map (λ (r : LaneRun). r.tasks) run_of came.ends ∙ came.lanes;
-        ran = All-map HasRun run_of came.ends (λ k d lt. has_run _ (came.ran k d lt));
-      }
+  lanes_are = record {
+    lanes = map-map (λ (r : LaneRun). r.tasks) run_of came.ends ∙ came.lanes;
+    ran = All-map HasRun run_of came.ends (λ k d lt. has_run _ (came.ran k d lt));
+  }
 
   -- if no lane stopped, each answered all
   ended_whole : first_refusal (map (λ e. e.stopped) came.ends) ≡ None → AreWhole runs
-  ended_whole none =
-      All-map (λ (r : LaneRun). length r.told ≡ length r.tasks) run_of came.ends
+  ended_whole none = All-map (λ (r : LaneRun). length r.told ≡ length r.tasks) run_of came.ends
       (λ k d lt. whole_of _ (came.ran k d lt) (none_stopped came.ends none k d lt))
 
   -- there were no more puts in the log than the lanes answered
   puts_answered : puts_in (changes_of maker.tree.start (length table) log) ≤ puts_done runs
-  puts_answered =
-      let calls = closes.stands.calls in
+  puts_answered = let calls = closes.stands.calls in
       let are : calls ≡ map (λ e. e.port.pass.calls) came.ends = closes.calls_are ∙ calls_are in
       let many : maker.made ≡ length calls
       = came.made ∙ sym (length-range_with_len 0 workers) ∙ sym (ap length came.numbers)
@@ -137,8 +121,7 @@ module _ (workers words : ℕ) (pairs : List Pair) (tasks : List Task) (tree : T
       let few = puts_few maker.tree.start (length table) log calls closes.stands.stand
       (subst (λ n. Each (λ entry. entry.owner < n)
       (changes_of maker.tree.start (length table) log)) many closes.owners) in
-      let done = ap called_puts are ∙ called_puts-done came.ends came.ran in
-      omega arith
+      let done = ap called_puts are ∙ called_puts-done came.ends came.ran in omega arith
 
   -- a lane that its port refused
   module _ (e : TreeLane) (is_end : Contains came.ends e) (r : Refused)
@@ -173,8 +156,7 @@ module _ (workers words : ℕ) (pairs : List Pair) (tasks : List Task) (tree : T
         = cause.left.next_is ∙ ap (λ ps. spent ps cause.at) its_start in
         let rise = spent_rise maker.tree.start cause.at log (goes_on_more cause.until seen) in
         let now_is = words_are_spent maker.tree.start (length table) log closes.stands.lawful in
-        let there = word_there table next_place _ closes.stands.image.next in
-        omega arith
+        let there = word_there table next_place _ closes.stands.image.next in omega arith
 
     -- it asked for a number that it may ask for
     asked_for : MayBeAsked e.port.pass r.full.asked
@@ -190,16 +172,14 @@ module _ (workers words : ℕ) (pairs : List Pair) (tasks : List Task) (tree : T
         let on = changes_on (start maker.tree.start (length table)) e.port.pass.seen log seen in
         let rise = puts_rise (changes_of maker.tree.start (length table) e.port.pass.seen) on.0
         (changes_of maker.tree.start (length table) log) on.1 in
-        let most = node.most in
-        let few = puts_answered in
+        let most = node.most in let few = puts_answered in
         let began : length e.port.pass.tree.start ≡ length pairs
         = ap length (its_start ∙ start_is) in
         inr (inr (inr (node.some, node.least, omega arith, node.asked_is)))
 
     -- the table ran full before its next task
     ran_full : RanFull pairs table runs r.full
-    ran_full =
-        let ended = All-contains LaneHasEnded came.ends e came.ran is_end in
+    ran_full = let ended = All-contains LaneHasEnded came.ends e came.ran is_end in
         let refused = subst (λ o. IfSome o (λ x. slice_get (commands_of e.tasks)
         (length (run_of e).told) ≡ Some x.command)) was ended.refused in
         let answered : length (run_of e).told ≡ length e.answers.list
@@ -207,10 +187,8 @@ module _ (workers words : ℕ) (pairs : List Pair) (tasks : List Task) (tree : T
         ∙ length-map e.answers.list (λ a. a.reply) in
         let next = task_there e.tasks (length e.answers.list) r.command
         (subst (λ n. slice_get (commands_of e.tasks) n ≡ Some r.command) answered refused) in
-        let few = cause.left.few.small in
-        let its = its_words in
-        let full_words = cause.left.few.words_is in
-        record {
+        let few = cause.left.few.small in let its = its_words in
+        let full_words = cause.left.few.words_is in record {
           words = full_words ∙ its;
           next = next_few;
           over = omega arith;
@@ -226,23 +204,21 @@ module _ (workers words : ℕ) (pairs : List Pair) (tasks : List Task) (tree : T
   ended : (o : Option Full) → o ≡ first_refusal (map (λ e. e.stopped) came.ends)
       → EndedWith pairs table runs o
   ended None is = ended_whole (sym is)
-  ended (Some numbers) is =
-      let it = one_stopped came.ends numbers (sym is) in
+  ended (Some numbers) is = let it = one_stopped came.ends numbers (sym is) in
       let stop = All-contains LaneHasEnded came.ends it.0 came.ran it.1 in
       let r = refused_with it.0.port.refused numbers (sym stop.stopped ∙ it.2) in
       subst (RanFull pairs table runs) r.2 (ran_full it.0 it.1 r.0 r.1)
 
   -- the tasks ran on a table
   pub ran_on_table : RanOnTable workers words pairs tasks table answers left full
-  ran_on_table =
-      record {
-        runs = runs;
-        is = record { lanes = lanes_are; stands = stands };
-        sized = long ∙ new.words_is;
-        answered = subst (λ ls. InLineOrder ls answers)
-            (sym (map-map (λ (r : LaneRun). r.answers) run_of came.ends)) came.answered;
-        left_are = subst (λ ls. TasksInLineOrder ls left)
-            (sym (map-map (λ (r : LaneRun). unanswered r.tasks r.answers) run_of came.ends))
-            came.left_are;
-        ended = ended full came.full_is;
-      }
+  ran_on_table = record {
+    runs = runs;
+    is = record { lanes = lanes_are; stands = stands };
+    sized = long ∙ new.words_is;
+    answered = subst (λ ls. InLineOrder ls answers)
+        (sym (map-map (λ (r : LaneRun). r.answers) run_of came.ends)) came.answered;
+    left_are = subst (λ ls. TasksInLineOrder ls left)
+        (sym (map-map (λ (r : LaneRun). unanswered r.tasks r.answers) run_of came.ends))
+        came.left_are;
+    ended = ended full came.full_is;
+  }

@@ -3,7 +3,7 @@ use Rattle.std.proofs.Common.{◌≡◌, ℕ, zero, suc, List, [], ◌∷◌, ma
 use Rattle.std.proofs.lemmas.List.Elements.{All-cons}
 use Rattle.ist_core.specs.declared.commands.Command.{Command}
 use Rattle.ist_core.specs.declared.ports.Full.{Full}
-use Rattle.ist_core.specs.Replies.{Refused}
+use Rattle.ist_core.specs.LogTerms.{Refused}
 use Rattle.tele_lanes.specs.declared.task_lists.Task.{Task}
 use Rattle.tele_lanes.specs.Lines.{commands_of}
 use Rattle.tele_lanes.specs.Lanes.{first_refusal}
@@ -15,8 +15,7 @@ pub none_stopped : (ends : List TreeLane) → first_refusal (map (λ e. e.stoppe
 none_stopped [] h = λ k d lt. absurd (omega arith)
 none_stopped (e ∷ ends) h = at e.stopped refl h (none_stopped ends)
   where
-    at : (o : Option Full) → e.stopped ≡ o
-        → first_refusal (o ∷ map (λ x. x.stopped) ends) ≡ None
+    at : (o : Option Full) → e.stopped ≡ o → first_refusal (o ∷ map (λ x. x.stopped) ends) ≡ None
         → (first_refusal (map (λ x. x.stopped) ends) ≡ None → All (λ x. x.stopped ≡ None) ends)
         → All (λ x. x.stopped ≡ None) (e ∷ ends)
     at None is rest more = All-cons (λ (x : TreeLane). x.stopped ≡ None) e ends is (more rest)
@@ -34,9 +33,7 @@ one_stopped (e ∷ ends) full h = at e.stopped refl h (one_stopped ends full)
         → (first_refusal (map (λ x. x.stopped) ends) ≡ Some full
         → (x : TreeLane) × Contains ends x × (x.stopped ≡ Some full))
         → (x : TreeLane) × Contains (e ∷ ends) x × (x.stopped ≡ Some full)
-    at None is rest more =
-        let it = more rest in
-        let place = it.1 in
+    at None is rest more = let it = more rest in let place = it.1 in
         (it.0, (suc place.0, omega (arith, place.1), place.2), it.2)
     at (Some first) is rest more = (e, (zero, omega arith, refl), is ∙ rest)
 

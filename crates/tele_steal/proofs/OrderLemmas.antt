@@ -5,7 +5,7 @@ use Rattle.std.proofs.lemmas.List.FromFn.{length-map-range_with_len, get_or-map-
 use Rattle.std.specs.List.Sorted.{IsNonDecreasingBy, IsNonDecreasing, IsStrictlyIncreasing}
 use Rattle.std.proofs.lemmas.Map.Keys.{IsStrictlyIncreasing-from_distinct, IsDistinct-IsPermutation}
 use Rattle.tele_lanes.specs.declared.lanes.Lane.{Lane}
-use Rattle.tele_lanes.proofs.ClimbLemmas.{Climb-from_increasing, same_climbing}
+use Rattle.tele_lanes.proofs.SplitLemmas.{Climb-from_increasing, same_climbing}
 use Rattle.tele_lanes.proofs.DistinctLemmas.{eqb-flip, IsDistinct-from_increasing}
 use Rattle.std.proofs.lemmas.List.{map-append, map_push, length_push, length-map, get_or-map}
 use Rattle.std.proofs.lemmas.List.Sorted.{IsPermutation-sym, IsPermutation-trans, IsPermutation-map, IsPermutation-append, IsPermutation-append_comm, Contains-permutation, length_permutation}
@@ -47,8 +47,7 @@ as_many none all put kept is shared =
 pub as_many_ran : {X Y : Type 0} (f : X → Y) (none all put kept one : List X) → none ≡ []
     → IsPermutation (none ++ all) (put ++ kept) → IsPermutation (map f kept) (map f one)
     → length all ≡ length put + length one
-as_many_ran f none all put kept one is shared ran =
-    as_many none all put kept is shared
+as_many_ran f none all put kept one is shared ran = as_many none all put kept is shared
     ∙ ap (λ n. length put + n) (sym (length-map kept f)
     ∙ sym (length_permutation (map f kept) (map f one) ran) ∙ length-map one f)
 
@@ -68,8 +67,7 @@ module _ {P T : Type 0} (tie : P → T) where
   pub in_place : (old new : List (Lane P T)) → IsStrictlyIncreasing (map (λ l. l.number) old)
       → IsPermutation (map (ticket tie) old) (map (ticket tie) new)
       → IsNonDecreasingBy (λ l. l.number) new → map (ticket tie) new ≡ map (ticket tie) old
-  in_place old new up same rising =
-      let xs = map (ticket tie) old in
+  in_place old new up same rising = let xs = map (ticket tie) old in
       let ys = map (ticket tie) new in
       let ups : IsStrictlyIncreasing (map number_on xs) =
       subst IsStrictlyIncreasing (sym (through number_on old)) up in
@@ -90,8 +88,7 @@ module _ {P T : Type 0} (tie : P → T) where
   pub at_home : (old back new : List (Lane P T)) → IsStrictlyIncreasing (map (λ l. l.number) old)
       → IsPermutation (map (ticket tie) old) (map (ticket tie) back) → IsPermutation back new
       → IsNonDecreasingBy (λ l. l.number) new → map (ticket tie) new ≡ map (ticket tie) old
-  at_home old back new up came sorted rising =
-      in_place old new up
+  at_home old back new up came sorted rising = in_place old new up
       (IsPermutation-trans (map (ticket tie) old) (map (ticket tie) back) (map (ticket tie) new)
       came (IsPermutation-map (ticket tie) back new sorted)) rising
 
@@ -103,8 +100,7 @@ module _ {P T : Type 0} (tie : P → T) where
 
 -- the numbers from 0 on are strictly increasing
 pub IsStrictlyIncreasing-from_0 : (n : ℕ) → IsStrictlyIncreasing (map (λ k. k) (range_with_len 0 n))
-IsStrictlyIncreasing-from_0 n k h =
-    let size = length-map-range_with_len (λ j. j) 0 n in
+IsStrictlyIncreasing-from_0 n k h = let size = length-map-range_with_len (λ j. j) 0 n in
     let low = get_or-map-range_with_len (λ j. j) 0 n k k 0 (omega (arith, size, h)) (omega arith) in
     let high = get_or-map-range_with_len (λ j. j) 0 n (k + 1) (k + 1) 0
     (omega (arith, size, h)) (omega arith) in
@@ -114,7 +110,6 @@ IsStrictlyIncreasing-from_0 n k h =
 pub counted_more : {X : Type 0} (n : X → ℕ) (xs : List X) (x : X)
     → map n xs ≡ map (λ k. k) (range_with_len 0 (length xs)) → n x ≡ length xs
     → map n (xs ++ x ∷ []) ≡ map (λ k. k) (range_with_len 0 (length (xs ++ x ∷ [])))
-counted_more n xs x old is =
-    map_push n xs x ∙ ap (λ z. z ++ n x ∷ []) old
+counted_more n xs x old is = map_push n xs x ∙ ap (λ z. z ++ n x ∷ []) old
     ∙ sym (map-range_with_len_more (λ k. k) 0 (length xs) (n x) (omega (arith, is)))
     ∙ ap (λ k. map (λ j. j) (range_with_len 0 k)) (sym (length_push xs x))

@@ -21,8 +21,7 @@ owner_step v w n k put more old new less =
 -- the owner takes back some, and the workers stay
 pub draw_step : {X : Type 0} (v w : Tally X) (put more : List X) → v ≡ of_owner 0 put v.back
     → w ≡ of_owner v.out v.put (v.back ++ more) → w ≡ of_owner 0 put w.back
-draw_step v w put more old new =
-    let back : v.back ++ more ≡ w.back = sym (ap (λ z. z.back) new) in
+draw_step v w put more old new = let back : v.back ++ more ≡ w.back = sym (ap (λ z. z.back) new) in
     new ∙ (λ i. of_owner ((ap (λ z. z.out) old) i) ((ap (λ z. z.put) old) i) (back i))
 
 -- the owner drew one: one more came back, of those that were put in

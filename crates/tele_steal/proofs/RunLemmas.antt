@@ -23,8 +23,7 @@ module _ {P T : Type 0} (tie : P → T) where
       let tied : tie y.port ≡ tie x.port = ap (λ z. get_or z 0 (tie y.port)) c in
       let rest = same_tickets xs ys (ap (drop 1) a) (ap (drop 1) b) (ap (drop 1) c) in
       let first : ticket tie y ≡ ticket tie x =
-      λ i. record { number = number i; tasks = tasks i; tie = tied i } in
-      (λ i. first i ∷ rest i)
+      λ i. record { number = number i; tasks = tasks i; tie = tied i } in (λ i. first i ∷ rest i)
 
 -- a list whose part before a place stayed, and whose part from that place on fits after it replaced
 -- the old one
@@ -79,8 +78,7 @@ length_more xs ys x is = ap length is ∙ length-append xs (x ∷ [])
 -- lists of which f makes as many elements are as long
 pub same_length : {X Y : Type 0} (f : X → Y) (xs ys : List X) (more : List Y)
     → map f ys ≡ map f xs ++ more → length ys ≡ length xs + length more
-same_length f xs ys more is =
-    sym (length-map ys f) ∙ ap length is ∙ length-append (map f xs) more
+same_length f xs ys more is = sym (length-map ys f) ∙ ap length is ∙ length-append (map f xs) more
     ∙ ap (λ n. n + length more) (length-map xs f)
 
 -- the images in a list that grew, after a front, are the images of all that was added

@@ -5,16 +5,14 @@ use Rattle.std.proofs.lemmas.List.Sorted.{IsPermutation-sym, IsPermutation-trans
 module _ {X : Type 0} where
   -- the second of three parts comes first
   pub second_first : (a b c : List X) → IsPermutation (a ++ (b ++ c)) (b ++ (a ++ c))
-  second_first a b c =
-      subst (λ z. IsPermutation z (b ++ (a ++ c))) (append_assoc a b c)
+  second_first a b c = subst (λ z. IsPermutation z (b ++ (a ++ c))) (append_assoc a b c)
       (subst (λ z. IsPermutation ((a ++ b) ++ c) z) (append_assoc b a c)
       (IsPermutation-append_left c (a ++ b) (b ++ a) (IsPermutation-append_comm a b)))
 
   -- one more after both: it may join the first of two parts
   pub joins_first : (put a b x : List X) → IsPermutation put (a ++ b)
       → IsPermutation (put ++ x) ((a ++ x) ++ b)
-  joins_first put a b x same =
-      IsPermutation-trans (put ++ x) ((a ++ b) ++ x) ((a ++ x) ++ b)
+  joins_first put a b x same = IsPermutation-trans (put ++ x) ((a ++ b) ++ x) ((a ++ x) ++ b)
       (IsPermutation-append_left x put (a ++ b) same)
       (subst (λ z. IsPermutation z ((a ++ x) ++ b)) (sym (append_assoc a b x))
       (subst (λ z. IsPermutation (a ++ (b ++ x)) z) (sym (append_assoc a x b))
@@ -64,8 +62,7 @@ module _ {X : Type 0} where
   -- the last of what is left goes over to the rest
   pub one_over : (all a b l rest x : List X) → IsPermutation all (a ++ l) → l ≡ rest ++ x
       → IsPermutation (a ++ x) b → IsPermutation all (b ++ rest)
-  one_over all a b l rest x same is over =
-      IsPermutation-trans all (a ++ (x ++ rest)) (b ++ rest)
+  one_over all a b l rest x same is over = IsPermutation-trans all (a ++ (x ++ rest)) (b ++ rest)
       (IsPermutation-trans all (a ++ (rest ++ x)) (a ++ (x ++ rest))
       (subst (λ z. IsPermutation all (a ++ z)) is same)
       (IsPermutation-append_right a (rest ++ x) (x ++ rest) (IsPermutation-append_comm rest x)))

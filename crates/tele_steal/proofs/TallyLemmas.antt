@@ -32,8 +32,7 @@ module _ {X : Type 0} (Fits : X → Type 0) where
   pub counted : (port : ℕ) (v : Tally X) (items : List X) (views : List (Tally X))
       → BalancesAt Fits port v items views → length v.put
       ≡ length items + (length v.back + length (flat_map taken_by views))
-  counted port v items views b =
-      let F = flat_map taken_by views in
+  counted port v items views b = let F = flat_map taken_by views in
       sym (length_permutation v.put (items ++ (v.back ++ F)) b.same)
       ∙ length-append items (v.back ++ F) ∙ ap (λ n. length items + n) (length-append v.back F)
 
@@ -111,11 +110,9 @@ module _ {X : Type 0} (Fits : X → Type 0) where
   -- the owner takes some back
   pub draws : (port : ℕ) (v : Tally X) → IsOwners v
       → Takes (Balances Fits) port v 1 (HasDrawn Fits v)
-  draws port v is xs items views _ _ b at =
-      let w : Tally X = of_owner v.out v.put (v.back ++ xs) in
+  draws port v is xs items views _ _ b at = let w : Tally X = of_owner v.out v.put (v.back ++ xs) in
       let o = owned port v (xs ++ items) views is b at in
-      let n = counted port v (xs ++ items) views o in
-      let back = length-append v.back xs in
+      let n = counted port v (xs ++ items) views o in let back = length-append v.back xs in
       let both = length-append xs items in (
         w,
         record {
@@ -131,8 +128,7 @@ module _ {X : Type 0} (Fits : X → Type 0) where
   -- if the deque is empty and no worker has a pass, all came back
   pub all_back : (port : ℕ) (v : Tally X) → IsOwners v
       → Finds (Balances Fits) port v (v.out ≡ 0 → IsPermutation v.put v.back)
-  all_back port v is views b at none =
-      let o = owned port v [] views is b at in
+  all_back port v is views b at none = let o = owned port v [] views is b at in
       let flat : flat_map taken_by views ≡ []
       = flat_map-none taken_by busy_of views (o.workers ∙ none) o.idle in
       subst (λ z. IsPermutation v.put z) (append-nil v.back)
@@ -156,23 +152,18 @@ module _ {X : Type 0} (Fits : X → Type 0) where
   -- a worker takes some
   pub takes : (port : ℕ) (v : Tally X) → v ≡ of_worker v.taken
       → Takes (Balances Fits) port v 1 (HasTakenLanes Fits v)
-  takes port v is xs items views _ _ b at =
-      let w : Tally X = of_worker (v.taken ++ xs) in
-      let o = b.kept in
-      let mine = others taken_by views port v at in
-      let F = flat_map taken_by views in
-      let F' = flat_map taken_by (set views port w) in
+  takes port v is xs items views _ _ b at = let w : Tally X = of_worker (v.taken ++ xs) in
+      let o = b.kept in let mine = others taken_by views port v at in
+      let F = flat_map taken_by views in let F' = flat_map taken_by (set views port w) in
       let apart : b.port ≢ port = owner_apart port v (xs ++ items) views is b at in
       let moved : IsPermutation (xs ++ F) F' =
       moves v.taken xs F F' mine.rest mine.before (mine.after w) in
       let sums = sum_by-seat busy_of views port v w at in
-      let busy : busy_of v ≡ 1 = ap (λ (z : Tally X). z.busy) is in
-      let all = o.workers in
+      let busy : busy_of v ≡ 1 = ap (λ (z : Tally X). z.busy) is in let all = o.workers in
       let n = counted b.port b.own (xs ++ items) views o in
       let grown = length_permutation (xs ++ F) F' moved in
       let held = length_permutation F' (w.taken ++ mine.rest) (mine.after w) in
-      let parts = length-append w.taken mine.rest in
-      let two = length-append xs F in
+      let parts = length-append w.taken mine.rest in let two = length-append xs F in
       let one = length-append xs items in
       let limit = o.few in (
         w,
@@ -199,26 +190,21 @@ module _ {X : Type 0} (Fits : X → Type 0) where
   pub settled : (port : ℕ) (v : Tally X) (items : List X) (views : List (Tally X))
       → BalancesAt Fits port v items views → IsPermutation v.put v.back
       → (items ≡ []) × (flat_map taken_by views ≡ [])
-  settled port v items views b back =
-      let F = flat_map taken_by views in
-      let n = counted port v items views b in
-      let m = length_permutation v.put v.back back in
+  settled port v items views b back = let F = flat_map taken_by views in
+      let n = counted port v items views b in let m = length_permutation v.put v.back back in
       (nil_from_length items (omega (arith, n, m)), nil_from_length F (omega (arith, n, m)))
 
   -- the owner makes the pass of a worker, when all came back
   pub hires : (port : ℕ) (v : Tally X) → IsOwners v → IsPermutation v.put v.back
       → Forks (Balances Fits) port v (of_owner (v.out + 1) [] []) (of_worker [])
-  hires port v is back items views b at =
-      let o = owned port v items views is b at in
+  hires port v is back items views b at = let o = owned port v items views is b at in
       let w : Tally X = of_owner (v.out + 1) [] [] in
-      let none = settled port v items views o back in
-      let vs = set views port w in
+      let none = settled port v items views o back in let vs = set views port w in
       let long = seat_within views port v at in
       let unbusy : busy_of v ≡ 0 = ap (λ (z : Tally X). z.busy) is in
       let took : taken_by v ≡ [] = ap (λ (z : Tally X). z.taken) is in
       let sums = sum_by-seat busy_of views port v w at in
-      let one = sum_by_push busy_of vs (of_worker []) in
-      let all = o.workers in
+      let one = sum_by_push busy_of vs (of_worker []) in let all = o.workers in
       let flat : flat_map taken_by (vs ++ of_worker [] ∷ []) ≡ []
       = flat_map-append taken_by vs (of_worker [] ∷ []) ∙ append-nil (flat_map taken_by vs)
       ∙ flat_map-seat taken_by views port v w at (sym took) ∙ none.1 in
@@ -257,10 +243,8 @@ module _ {X : Type 0} (Fits : X → Type 0) where
       let busy : busy_of u ≡ 1 = ap (λ (z : Tally X). z.busy) worker in
       let took : taken_by v ≡ [] = ap (λ (z : Tally X). z.taken) is in
       let sums = sum_by-seat busy_of views port v w at in
-      let sums' = sum_by-seat busy_of vs other u of_none at' in
-      let all = o.workers in
-      let mine = others taken_by vs other u at' in
-      let F = flat_map taken_by views in
+      let sums' = sum_by-seat busy_of vs other u of_none at' in let all = o.workers in
+      let mine = others taken_by vs other u at' in let F = flat_map taken_by views in
       let F' = flat_map taken_by (set vs other of_none) in
       let flat : flat_map taken_by vs ≡ F = flat_map-seat taken_by views port v w at (sym took) in
       let parts : IsPermutation F (u.taken ++ F') =

@@ -18,11 +18,9 @@ module _ {X : Type 0} where
   pub sum_by-seat : (f : X → ℕ) (l : List X) (i : ℕ) (u w : X) → get_elem? l i ≡ some u
       → sum_by f (set l i w) + f u ≡ sum_by f l + f w
   sum_by-seat f [] i u w e = absurd (some-ne-none u (sym e))
-  sum_by-seat f (x ∷ xs) zero u w e =
-      let h = ap f (some-injective x u e) in
+  sum_by-seat f (x ∷ xs) zero u w e = let h = ap f (some-injective x u e) in
       let old = sum_by-cons f x xs in let new = sum_by-cons f w xs in omega (arith, h, old, new)
-  sum_by-seat f (x ∷ xs) (suc i) u w e =
-      let h = sum_by-seat f xs i u w e in
+  sum_by-seat f (x ∷ xs) (suc i) u w e = let h = sum_by-seat f xs i u w e in
       let old = sum_by-cons f x xs in let new =
       sum_by-cons f x (set xs i w) in omega (arith, h, old, new)
 
@@ -48,8 +46,7 @@ module _ {X : Type 0} where
   others f (x ∷ xs) zero u e = record {
     rest = flat_map f xs;
     before = subst (λ z. IsPermutation (f x ++ flat_map f xs) (f z ++ flat_map f xs))
-        (some-injective x u e)
-        (IsPermutation-refl (f x ++ flat_map f xs));
+        (some-injective x u e) (IsPermutation-refl (f x ++ flat_map f xs));
     after = λ w. IsPermutation-refl (f w ++ flat_map f xs);
   }
   others f (x ∷ xs) (suc i) u e = let o = others f xs i u e in record {
@@ -73,8 +70,7 @@ module _ {X : Type 0} where
   pub flat_map-none : {Y : Type 0} (f : X → List Y) (n : X → ℕ) (l : List X) → sum_by n l ≡ 0
       → All (λ u. n u ≡ 0 → f u ≡ []) l → flat_map f l ≡ []
   flat_map-none f n [] none idle = refl
-  flat_map-none f n (x ∷ xs) none idle =
-      let sum = sum_by-cons n x xs in
+  flat_map-none f n (x ∷ xs) none idle = let sum = sum_by-cons n x xs in
       let head = All-head (λ u. n u ≡ 0 → f u ≡ []) x xs idle (omega (arith, sum, none)) in
       let tail = flat_map-none f n xs (omega (arith, sum, none))
       (All-tail (λ u. n u ≡ 0 → f u ≡ []) x xs idle) in

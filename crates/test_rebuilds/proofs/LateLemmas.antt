@@ -4,31 +4,23 @@ use Rattle.std.proofs.Common.{◌≡◌, ℕ, [], ◌∷◌, List, Some, sym, ap
 use Rattle.ist_core.specs.declared.commands.Command.TheVariants.{Put}
 use Rattle.ist_core.specs.declared.events.Who.TheVariants.{Caller as CallerOf}
 use Rattle.ist_core.specs.declared.states.ChangeRow.{ChangeRow}
-use Rattle.ist_core.specs.Installing.{CanInstall, HasRoomFor, IsUnrefused}
-use Rattle.ist_core.specs.Pieces.{Change as ChangePiece, words_of}
-use Rattle.ist_core.specs.References.{IsGoodBase}
-use Rattle.ist_core.specs.StartLayout.{start}
+use Rattle.ist_core.specs.TreeTerms.{CanInstall, HasRoomFor, IsUnrefused}
+use Rattle.ist_core.specs.WordTerms.{Change as ChangePiece, words_of, IsGoodBase, start}
 use Rattle.ist_dcss.specs.Helping.{MayHelp}
 use Rattle.ist_dcss.specs.Installing.{IsInstallable, IsInstalled, rows_of}
+use Rattle.ist_rule.specs.RuleTerms.{StoredAll, now, IsSound}
 use Rattle.ist_rule.specs.declared.view.View.{View}
-use Rattle.ist_rule.specs.Conditions.{StoredAll}
-use Rattle.ist_rule.specs.Learning.{now}
-use Rattle.ist_rule.specs.Rule.{IsSound}
-use Rattle.ist_rule.proofs.GoingOnLemmas.{goes_on_who}
+use Rattle.ist_rule.proofs.EventLemmas.{goes_on_who}
+use Rattle.ist_rows.specs.RowTerms.{filled_with, with_own, kind_words, IsCaller, HasGone}
 use Rattle.ist_rows.specs.declared.callers.Caller.{Caller}
 use Rattle.ist_rows.specs.declared.kinds.Kind.TheVariants.{Leaf, Change}
-use Rattle.ist_rows.specs.Filling.{filled_with, with_own}
-use Rattle.ist_rows.specs.Kinds.{kind_words}
-use Rattle.ist_rows.specs.Rows.{IsCaller}
 use Rattle.ist_updates.specs.Asking.{IsAsked}
 use Rattle.ist_updates.specs.Changing.{Prepares}
-use Rattle.ist_rows.specs.Going.{HasGone}
-use Rattle.ist_updates.proofs.AskedLemmas.{asked_gone}
+use Rattle.ist_updates.proofs.StepLemmas.{asked_gone, prepares_none}
 use Rattle.ist_updates.proofs.PlanLemmas.{leaf_planned}
-use Rattle.ist_updates.proofs.PublishLemmas.{installed_row}
+use Rattle.ist_updates.proofs.StandingLemmas.{installed_row}
 use Rattle.ist_updates.proofs.SlotLemmas.{prepared}
-use Rattle.ist_updates.proofs.StepLemmas.{prepares_none}
-use Rattle.ist_updates.proofs.StoredLemmas.{kinds_apart, own_twice, row_filled, stand_kept}
+use Rattle.ist_updates.proofs.PairLemmas.{kinds_apart, own_twice, row_filled, stand_kept}
 use Rattle.test_rebuilds.specs.Late.{HasBoth, WasAt, put_of, row_of_put}
 
 -- ---- both rows
@@ -90,8 +82,7 @@ put_filled old first mid new key value node index word change leaf row asked gon
 -- whoever installed the put may help it
 pub late_helps : (v w : View) (number change leaf : ℕ) (row : ChangeRow) → v.who ≡ CallerOf number
     → IsInstalled v change (put_of leaf row) w → MayHelp w change
-late_helps v w number change leaf row mine i =
-    let rows = rows_of (put_of leaf row) change in
+late_helps v w number change leaf row mine i = let rows = rows_of (put_of leaf row) change in
     let first = start i.before.start i.before.words in
     let can : CanInstall first i.logged.before i.number change rows =
     (subst IsSound i.logged.view i.logged.sound).lawful.enabled.1 in

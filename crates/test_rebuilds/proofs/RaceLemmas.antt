@@ -6,41 +6,23 @@ use Rattle.ist_core.specs.declared.events.Event.TheVariants.{Root, Lose}
 use Rattle.ist_core.specs.declared.events.Who.TheVariants.{Caller as CallerOf}
 use Rattle.ist_core.specs.declared.lists.HeldRow.{HeldRow}
 use Rattle.ist_core.specs.declared.lists.Row.{Row}
-use Rattle.ist_core.specs.Arithmetic.{degree, square_root, root_up_to, part_len, part_lens}
-use Rattle.ist_core.specs.Building.{CanRoot, IsRoot, root_whole}
-use Rattle.ist_core.specs.Elements.{Among, Each}
-use Rattle.ist_core.specs.Growing.{AllGrow}
-use Rattle.ist_core.specs.Ideals.{IsIdeal}
-use Rattle.ist_core.specs.Marking.{HasTarget}
-use Rattle.ist_core.specs.Leaves.{PlacedLeaf, HasLeaves}
-use Rattle.ist_core.specs.Lawful.{state_of}
-use Rattle.ist_core.specs.Pieces.{Inner, Rebuild, with_inners}
-use Rattle.ist_core.specs.Rebuilding.{IsFinishedWith}
-use Rattle.ist_core.specs.References.{Ref, InnerAt, ref_of, tag_count, unset_word}
-use Rattle.ist_core.specs.RowLayout.{pair_words, rebuild_root_offset}
-use Rattle.ist_core.specs.Shapes.{shape, shape_within}
-use Rattle.ist_core.specs.Snapshots.{Snapshot, bases_of, sizes_of, HoldsRows}
-use Rattle.ist_core.specs.Shown.{IsShown, shown_row}
-use Rattle.ist_core.proofs.GrowingLemmas.{rebuild_there}
-use Rattle.ist_core.proofs.KeepingLemmas.{finished_leaves_stay}
-use Rattle.ist_core.proofs.PlaceLemmas.{placed, claimed_within}
+use Rattle.ist_core.specs.WordTerms.{degree, square_root, root_up_to, part_len, part_lens, IsIdeal, Inner, Rebuild, with_inners, Ref, InnerAt, ref_of, tag_count, unset_word, pair_words, rebuild_root_offset, shape, shape_within}
+use Rattle.ist_core.specs.TreeTerms.{CanRoot, IsRoot, root_whole, AllGrow, HasTarget, PlacedLeaf, HasLeaves, IsFinishedWith}
+use Rattle.ist_core.specs.LogTerms.{Among, Each, state_of, Snapshot, bases_of, sizes_of, HoldsRows, IsShown, shown_row, no_more}
+use Rattle.ist_core.proofs.AllLogLemmas.{rebuild_there, finished_leaves_stay}
+use Rattle.ist_core.proofs.AllPlaceLemmas.{placed, claimed_within}
 use Rattle.laws_coming.specs.Builds.{IsRootBuilt}
 use Rattle.laws_coming.proofs.RootLemmas.{root_comes, root_comes_or_loses}
 use Rattle.laws_coming.proofs.SizeLemmas.{IsRootSizes, of_whole, of_top, root_sizes}
 use Rattle.laws_links.proofs.FinishedLemmas.{target_grows}
 use Rattle.laws_links.proofs.FormLemmas.{finished_with_grows}
-use Rattle.laws_links.proofs.FinishedLeafLemmas.{finished_leaves}
-use Rattle.ist_rebuild.proofs.HelpedLemmas.{started_went}
+use Rattle.laws_links.proofs.ContentLemmas.{finished_leaves}
+use Rattle.ist_rebuild.proofs.EventLemmas.{started_went}
+use Rattle.ist_rule.specs.RuleTerms.{CanExchangeOrLose, StoredAll, WentOn, now, GoesOnTo, Looked, IsSound, own_at, number_of}
 use Rattle.ist_rule.specs.declared.view.View.{View}
 use Rattle.ist_rule.specs.declared.view.OwnWord.{OwnWord}
-use Rattle.ist_rule.specs.Conditions.{CanExchangeOrLose, StoredAll}
-use Rattle.ist_rule.specs.Going.{WentOn}
-use Rattle.ist_rule.specs.Learning.{now, GoesOnTo, Looked}
-use Rattle.ist_rule.specs.Rule.{IsSound, own_at}
-use Rattle.ist_rule.specs.Watching.{number_of}
-use Rattle.ist_rule.proofs.GoingOnLemmas.{looked_goes_on}
+use Rattle.ist_rule.proofs.EventLemmas.{looked_goes_on}
 use Rattle.ist_rule.proofs.WentOnLemmas.{goes_on_grow, goes_on_lawful, goes_on_now, went_grow, went_lawful, went_now, later_by-goes_on}
-use Rattle.ist_core.specs.Authors.{no_more}
 use Rattle.ist_core.proofs.RebuildExampleLemmas.{two_is_few}
 use Rattle.ist_rows.specs.declared.callers.Caller.{Caller}
 use Rattle.ist_build.specs.Calls.{Builds, IsPartLaid, MayBuild, share_whole}
@@ -60,17 +42,16 @@ shape_two = refl
 -- both leaves may be built over
 pub may_build : (t : Snapshot) (rebuild target keys : ℕ) → keys ≡ 2 → HasMarkedTarget t rebuild target keys
     → MayBuild t target 0 2
-may_build t rebuild target keys two m =
-    record {
-      rebuild = rebuild;
-      row = m.target_is.row;
-      published = m.target_is.published;
-      target_is = m.target_is.target_is;
-      started = m.started;
-      k = 2;
-      finished = subst (IsFinishedWith t target) two m.finished;
-      share = share_whole two_is_few refl refl;
-    }
+may_build t rebuild target keys two m = record {
+  rebuild = rebuild;
+  row = m.target_is.row;
+  published = m.target_is.published;
+  target_is = m.target_is.target_is;
+  started = m.started;
+  k = 2;
+  finished = subst (IsFinishedWith t target) two m.finished;
+  share = share_whole two_is_few refl refl;
+}
 
 -- of one row of this size the list is that row's base
 one_base : (rows : List Row) (base : ℕ) (rest : List ℕ) → sizes_of rows ≡ pair_words ∷ []
@@ -111,9 +92,7 @@ module _ (old new : Caller) (rebuild target keys word : ℕ) (ref : Ref) (two : 
       let it = claimed_within v.start v.words v.log target _ s.lawful.enabled
       ((placed v.start v.words v.log s.lawful.enabled).published target (Inner finished.row)
       finished.published) in
-      let below = it.below_next in
-      let words = it.some in
-      omega arith
+      let below = it.below_next in let words = it.some in omega arith
 
   p : IsPartLaid old new ref (take 2 (drop 0 some.0))
   p = laid some.0 some.1
@@ -129,8 +108,7 @@ module _ (old new : Caller) (rebuild target keys word : ℕ) (ref : Ref) (two : 
   all = take_all 2 some.0 (let n = some.2 in omega arith)
 
   root : IsRoot (with_inners (now w).pieces p.rows) word 2 some.0 target (bases_of p.rows)
-  root =
-      root_whole ref two_is_few ref_is
+  root = root_whole ref two_is_few ref_is
       (subst (λ leaves. IsIdeal (with_inners (now w).pieces p.rows) ref leaves target (bases_of p.rows))
       all (p.ideal target low))
 
@@ -145,37 +123,35 @@ module _ (old new : Caller) (rebuild target keys word : ℕ) (ref : Ref) (two : 
       ∙ shape_two
 
   topped : IsTopped word (bases_of p.rows)
-  topped =
-      root_topped (with_inners (now w).pieces p.rows) word 2 some.0 target (bases_of p.rows)
+  topped = root_topped (with_inners (now w).pieces p.rows) word 2 some.0 target (bases_of p.rows)
       (let n = some.2 in omega arith) root
 
   -- the caller holds the one row of the root that it has built
   pub has_laid : HasLaid w new.number rebuild word
-  has_laid =
-      record {
-        mine = ap (λ x. x.who) went.same ∙ mine ∙ ap CallerOf (sym number);
-        rows = p.rows;
-        bases = one_base p.rows (word / tag_count) topped.rest sizes
-            (topped.bases_are
-            ∙ ap (λ b. b ∷ topped.rest) (sym (topped_base word (bases_of p.rows) topped)));
-        sizes = sizes;
-        stored = p.owns.stored;
-        built = record {
-          row = on.row;
-          published = on.published;
-          started = started_went Builds v w went rebuild m.started;
-          k = 2;
-          finished = subst (λ n. IsFinishedWith (now w) n 2) (sym on.target_is)
-              (finished_with_grows (now v) (now w) grow target 2 finished);
-          leaves = some.0;
-          reached = subst (λ n. HasLeaves (now w).pieces (Some (InnerAt n)) some.0)
-              (sym on.target_is) reached;
-          root = subst (λ n. IsRoot (with_inners (now w).pieces p.rows) word 2 some.0 n
-              (bases_of p.rows)) (sym on.target_is) root;
-          once = p.owns.once;
-          held = p.owns.held;
-        };
-      }
+  has_laid = record {
+    mine = ap (λ x. x.who) went.same ∙ mine ∙ ap CallerOf (sym number);
+    rows = p.rows;
+    bases = one_base p.rows (word / tag_count) topped.rest sizes
+        (topped.bases_are
+        ∙ ap (λ b. b ∷ topped.rest) (sym (topped_base word (bases_of p.rows) topped)));
+    sizes = sizes;
+    stored = p.owns.stored;
+    built = record {
+      row = on.row;
+      published = on.published;
+      started = started_went Builds v w went rebuild m.started;
+      k = 2;
+      finished = subst (λ n. IsFinishedWith (now w) n 2) (sym on.target_is)
+          (finished_with_grows (now v) (now w) grow target 2 finished);
+      leaves = some.0;
+      reached = subst (λ n. HasLeaves (now w).pieces (Some (InnerAt n)) some.0)
+          (sym on.target_is) reached;
+      root = subst (λ n. IsRoot (with_inners (now w).pieces p.rows) word 2 some.0 n
+          (bases_of p.rows)) (sym on.target_is) root;
+      once = p.owns.once;
+      held = p.owns.held;
+    };
+  }
 
 -- ---- seeing that there is no root
 
@@ -207,32 +183,31 @@ module _ (v w : View) (number rebuild place word stood : ℕ) (s : IsSound v)
 
   -- and it has seen that the rebuild had no root yet
   pub has_built : HoldsRoot w number rebuild word
-  has_built =
-      record {
-        laid = record {
-          mine = ap (λ x. x.who) g.same ∙ h.mine;
-          rows = h.rows;
-          bases = h.bases;
-          sizes = h.sizes;
-          stored = subst (λ (own : List OwnWord). Each (λ (row : Row). (k : ℕ)
-              → k < length row.words → slice_get row.words k ≡ Some (own_at own (row.base + k)))
-              h.rows) (sym (ap (λ x. x.own) g.same)) h.stored;
-          built = subst (λ t. IsRootBuilt t number rebuild word h.rows) (sym (goes_on_now v w g))
-              record {
-                row = can.row;
-                published = can.published;
-                started = can.started;
-                k = can.k;
-                finished = can.finished;
-                leaves = can.leaves;
-                reached = can.reached;
-                root = can.root;
-                once = can.once;
-                held = can.held;
-              };
-        };
-        unset = record { prefix = w.log; since = no_more; shown = shown };
-      }
+  has_built = record {
+    laid = record {
+      mine = ap (λ x. x.who) g.same ∙ h.mine;
+      rows = h.rows;
+      bases = h.bases;
+      sizes = h.sizes;
+      stored = subst (λ (own : List OwnWord). Each (λ (row : Row). (k : ℕ)
+          → k < length row.words → slice_get row.words k ≡ Some (own_at own (row.base + k)))
+          h.rows) (sym (ap (λ x. x.own) g.same)) h.stored;
+      built = subst (λ t. IsRootBuilt t number rebuild word h.rows) (sym (goes_on_now v w g))
+          record {
+            row = can.row;
+            published = can.published;
+            started = can.started;
+            k = can.k;
+            finished = can.finished;
+            leaves = can.leaves;
+            reached = can.reached;
+            root = can.root;
+            once = can.once;
+            held = can.held;
+          };
+    };
+    unset = record { prefix = w.log; since = no_more; shown = shown };
+  }
 
 -- ---- the exchange
 
@@ -257,8 +232,7 @@ named v number word mine s (row ∷ []) bases sizes stored held =
     size_is = cc
 
     same : held_row v word ≡ record { caller = number; base = row.base; size = length row.words }
-    same =
-        ap {B = HeldRow} (λ n. record { caller = n; base = word / tag_count; size = pair_words })
+    same = ap {B = HeldRow} (λ n. record { caller = n; base = word / tag_count; size = pair_words })
         (ap number_of mine)
         ∙ ap₂ {C = HeldRow} (λ b n. record { caller = number; base = b; size = n }) (sym base_is) (sym size_is)
 named v number word mine s (row ∷ other ∷ rows) bases sizes stored held =
@@ -280,8 +254,7 @@ may_race v number rebuild place word unset s at is h =
     h.unset))))
   where
     root_is : (racing_at v place word).0 ≡ Root number rebuild word h.laid.rows
-    root_is =
-        ap₂ {C = Event} (λ n rows. Root n (place - rebuild_root_offset) word rows)
+    root_is = ap₂ {C = Event} (λ n rows. Root n (place - rebuild_root_offset) word rows)
         (ap number_of h.laid.mine)
         (named v number word h.laid.mine s h.laid.rows h.laid.bases h.laid.sizes h.laid.stored
         h.laid.built.held)

@@ -1,19 +1,60 @@
 -- Two passes that each made a put, and a find that follows the other's put. Serves `exchange`.
-use Rattle.std.proofs.Common.{◌≡◌, ◌≢◌, ℕ, ◌+◌, ◌<◌, ◌≤◌, ◌⊎◌, true, false, List, [], ◌∷◌, map, filter, Option, Some, refl, sym, ◌∙◌, ap, subst, inl, inr, ⊎_elim, if◌then◌else◌, length, ◌++◌, zero, suc, arith}
-use Rattle.std.proofs.lemmas.Bool.Decides.{eqb_tells}
+use Rattle.std.proofs.Common.{◌≡◌, ◌≢◌, ℕ, ◌<◌, ◌⊎◌, List, [], ◌∷◌, zero, suc, slice_get, take, Some, ◌∙◌, ap, ⊎_elim, arith, ◌+◌, ◌≤◌, true, false, map, filter, Option, refl, sym, subst, inl, inr, if◌then◌else◌, length, ◌++◌}
+use Rattle.std.specs.FinMap.{gets}
+use Rattle.std.proofs.lemmas.Bool.Decides.{nat_tests, eqb_tells}
+use Rattle.ist_core.specs.declared.commands.Command.{Command}
+use Rattle.ist_core.specs.declared.commands.Command.TheVariants.{Put, Get}
 use Rattle.ist_core.specs.declared.calls.Call.{Call}
-use Rattle.ist_core.specs.declared.commands.Command.TheVariants.{Get, Put}
 use Rattle.ist_core.specs.declared.pairs.Pair.{Pair}
-use Rattle.ist_core.specs.Map.{Map, map_of, reply_to}
-use Rattle.ist_core.specs.Elements.{Among, Each}
-use Rattle.ist_core.specs.Changes.{Entry, changes_of, map_at}
-use Rattle.ist_core.specs.Resting.{AllStandIn}
-use Rattle.ist_core.specs.Standing.{is_change, makes_entry, entry_by, entries_by, Follows, StandAmong}
-use Rattle.ist_core.proofs.ElementLemmas.{each-among, among_filter, each_of}
-use Rattle.ist_tree.specs.Closing.{ClosesWith, calls_from}
-use Rattle.ist_tree.specs.Faces.{PassFace, MakerFace, calls_in, noted}
+use Rattle.ist_core.specs.TreeTerms.{Map, map_after, Entry, map_after_entries, map_of, reply_to, changes_of, map_at, AllStandIn, is_change, makes_entry, entry_by, entries_by, Follows, StandAmong}
+use Rattle.ist_core.specs.LogTerms.{Each, Among}
+use Rattle.ist_core.proofs.AllWordLemmas.{each-among, among_filter, each_of}
+use Rattle.ist_tree.specs.CallTerms.{ClosesWith, calls_from, PassFace, MakerFace, calls_in, noted}
 use Rattle.try_example.specs.Turns.{HasPut, HasFoundNext}
-use Rattle.try_example.proofs.MapLemmas.{PutsOneOf, has_it}
+use Rattle.std.specs.FinMap as fin
+
+-- ---- a map after changes none of which puts another value at a key. Serves `exchange`.
+
+module _ (key value other what : ℕ) (apart : other ≢ key) where
+  -- the entry puts this value at the key, or that value at the other key
+  abbrev pub PutsOneOf : Entry → Type 0
+  PutsOneOf e = (e.command ≡ Put key value) ⊎ (e.command ≡ Put other what)
+
+  -- a put of the value leaves it at the key
+  pub put_here : (m : Map) (c : Command) → c ≡ Put key value
+      → fin.get (map_after m c) key ≡ Some value
+  put_here m c is =
+      let got : fin.get (fin.insert m key value) key ≡ Some value
+      = grind (arith, nat_tests, gets) in
+      ap (λ d. fin.get (map_after m d) key) is ∙ got
+
+  -- a put at the other key leaves what the map has at the key
+  put_there : (m : Map) (c : Command) → c ≡ Put other what
+      → fin.get (map_after m c) key ≡ fin.get m key
+  put_there m c is =
+      let got : fin.get (fin.insert m other what) key ≡ fin.get m key
+      = grind (arith, nat_tests, gets, apart) in
+      ap (λ d. fin.get (map_after m d) key) is ∙ got
+
+  -- once the key has the value, it keeps it
+  pub stays : (count : ℕ) (m : Map) (es : List Entry) → Each PutsOneOf es
+      → fin.get m key ≡ Some value → fin.get (map_after_entries m (take count es)) key ≡ Some value
+  stays zero m es each has = has
+  stays (suc count) m [] each has = has
+  stays (suc count) m (e ∷ es) each has = stays count (map_after m e.command) es each.1
+      (⊎_elim (put_here m e.command) (λ there. put_there m e.command there ∙ has) each.0)
+
+  -- after a put of the value the key has it
+  pub has_it : (i count : ℕ) (m : Map) (es : List Entry) → Each PutsOneOf es → (e : Entry)
+      → slice_get es i ≡ Some e → e.command ≡ Put key value → i < count
+      → fin.get (map_after_entries m (take count es)) key ≡ Some value
+  has_it i zero m es each e at is below = absurd (omega arith)
+  has_it i (suc count) m [] each e at is below = cc
+  has_it zero (suc count) m (x ∷ es) each e at is below = let same : x ≡ e = cc in
+      stays count (map_after m x.command) es each.1
+      (put_here m x.command (ap (λ y. y.command) same ∙ is))
+  has_it (suc i) (suc count) m (x ∷ es) each e at is below =
+      has_it i count (map_after m x.command) es each.1 e at is (omega arith)
 
 -- an owner with one entry has only this one
 the_one : (owner : ℕ) (only : Entry) (es : List Entry) → entries_by owner es ≡ only ∷ []
@@ -36,19 +77,16 @@ module _ (put find : Call) (p : Pair) (key : ℕ) (put_is : put.command ≡ Put 
   reads = ap (λ c. makes_entry c find.reply) find_is
 
   -- their pass has one entry, which puts the pair
-  one_entry : (m : Map) (es : List Entry) (number : ℕ)
-      → StandAmong m es number (put ∷ find ∷ [])
+  one_entry : (m : Map) (es : List Entry) (number : ℕ) → StandAmong m es number (put ∷ find ∷ [])
       → entries_by number es ≡ entry_by number put ∷ []
   one_entry m es number s =
       let few : filter is_change (put ∷ find ∷ []) ≡ put ∷ [] = rw changes (rw reads refl) in
       s.exactly ∙ ap (map (entry_by number)) few
 
   -- each entry of their pass puts the pair
-  pub puts_own : (m : Map) (es : List Entry) (number : ℕ)
-      → StandAmong m es number (put ∷ find ∷ [])
+  pub puts_own : (m : Map) (es : List Entry) (number : ℕ) → StandAmong m es number (put ∷ find ∷ [])
       → (e : Entry) → Among e es → e.owner ≡ number → e.command ≡ Put p.key p.value
-  puts_own m es number s e among own =
-      ap (λ x. x.command)
+  puts_own m es number s e among own = ap (λ x. x.command)
       (the_one number (entry_by number put) es (one_entry m es number s) e among own) ∙ put_is
 
 -- if all entries are those of two passes that each put a pair, a find that follows the other's put
@@ -98,13 +136,11 @@ pub both_find : (m : MakerFace) (words : List ℕ) → ClosesWith m words
     → HasPut one left putter → HasPut two right other
     → HasFoundNext putter (noted other) right.key mine end
     → HasFoundNext other (noted putter) left.key theirs last
-    → one.number ≡ 0 → two.number ≡ 1 → m.made ≡ 2
-    → m.taken ≡ calls_in last ∷ calls_in end ∷ []
+    → one.number ≡ 0 → two.number ≡ 1 → m.made ≡ 2 → m.taken ≡ calls_in last ∷ calls_in end ∷ []
     → (mine ≡ Some right.value) × (theirs ≡ Some left.value)
 both_find m words closes left right apart one two putter other end last mine theirs put_one put_two
     found_one found_two first second made taken =
-    let pairs = m.tree.start in
-    let log = closes.stands.log in
+    let pairs = m.tree.start in let log = closes.stands.log in
     let es = changes_of pairs (length words) log in
     let calls : closes.stands.calls
     ≡ (put_one.call ∷ found_one.call ∷ []) ∷ (put_two.call ∷ found_two.call ∷ []) ∷ []

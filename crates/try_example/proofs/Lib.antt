@@ -1,4 +1,3 @@
-pub mod MapLemmas
 pub mod ExchangeLemmas
 pub mod OwnerLemmas
 pub mod RaiseLemmas

@@ -3,8 +3,8 @@ use Rattle.std.proofs.Common.{◌≡◌, ◌∙◌, ℕ, zero, suc, List, [], �
 use Rattle.std.proofs.lemmas.List.Elements.{All-head, All-tail}
 use Rattle.std.specs.FinMap as fin
 use Rattle.ist_core.specs.declared.commands.Command.{Command}
-use Rattle.ist_core.specs.Map.{map_of}
-use Rattle.ist_core.specs.Replies.{Answered}
+use Rattle.ist_core.specs.TreeTerms.{map_of}
+use Rattle.ist_core.specs.LogTerms.{Answered}
 use Rattle.ist_rest.proofs.WholeLemmas.{same_pairs}
 use Rattle.ist_map.specs.Owning.{OnlyGets, OwnersReadBack, ReadBack, is_about}
 use Rattle.ist_map.specs.Running.{IsOneHistory}

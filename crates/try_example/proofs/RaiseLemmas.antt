@@ -3,9 +3,8 @@ use Rattle.std.proofs.Common.{◌≡◌, ◌∙◌, ℕ, List, [], ◌∷◌, �
 use Rattle.std.proofs.lemmas.List.{append-nil, append_assoc}
 use Rattle.ist_core.specs.declared.calls.Call.{Call}
 use Rattle.ist_core.specs.declared.commands.Command.TheVariants.{Get}
-use Rattle.ist_core.proofs.ElementLemmas.{each_append}
-use Rattle.ist_tree.specs.Calls.{AddsCall, HasSeenMore}
-use Rattle.ist_tree.specs.Faces.{PassFace}
+use Rattle.ist_core.proofs.AllWordLemmas.{each_append}
+use Rattle.ist_tree.specs.CallTerms.{AddsCall, HasSeenMore, PassFace}
 use Rattle.ist_tree.proofs.HeardLemmas.{seen_more_then, seen_same}
 use Rattle.try_example.specs.Raises.{HasOnlyGot}
 

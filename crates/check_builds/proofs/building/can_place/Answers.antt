@@ -1,8 +1,8 @@
 use Rattle.std.proofs.Common.{sym, arith}
 use Rattle.std.proofs.lemmas.Result.{IfOk-weaker}
 use Rattle.check_fairness.proofs.AnswerLemmas.{iff_trans, never, is_not}
-use Rattle.check_events.proofs.MirrorLemmas.{rebuild_stands}
-use Rattle.check_builds.proofs.PartFitLemmas.{part_fits, place_publishes, no_free_root}
+use Rattle.check_events.proofs.DecisionLemmas.{rebuild_stands}
+use Rattle.check_builds.proofs.DrawLemmas.{part_fits, place_publishes, no_free_root}
 use Rattle.check_builds.proofs.building.can_place.Goals as goal
 
 pub returns-then-not-may_publish : goal.returns-then-not-may_publish

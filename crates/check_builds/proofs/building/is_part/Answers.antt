@@ -1,7 +1,6 @@
 use Rattle.std.proofs.Common.{◌∙◌, sym}
 use Rattle.check_fairness.proofs.AnswerLemmas.{iff_trans, never}
-use Rattle.check_builds.proofs.BuiltSizeLemmas.{nth_by_degree}
-use Rattle.check_builds.proofs.PartFitLemmas.{no_such_part, such_part}
+use Rattle.check_builds.proofs.DrawLemmas.{nth_by_degree, no_such_part, such_part}
 use Rattle.check_builds.proofs.building.is_part.Goals as goal
 
 pub returns-in-None : goal.returns-in-None

@@ -23,8 +23,7 @@ returns-in-empty t c =
     }
 
 pub returns-else-key : goal.returns-else-key
-returns-else-key t c =
-    let first = c.index-leaves-0.result in
+returns-else-key t c = let first = c.index-leaves-0.result in
     let whole = keys_first c.args.n c.args.j c.args.left c.part_end-end.result c.args.leaves.now
     c.if-left-eq0.false c.part_end-end.ensures.value first c.if-end-eq0.false
     c.index-leaves-0.is in

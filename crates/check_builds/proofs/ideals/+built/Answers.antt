@@ -1,8 +1,8 @@
 use Rattle.std.proofs.Common.{◌∙◌, ap, length, Some, None, arith}
-use Rattle.ist_core.specs.References.{LeafAt}
+use Rattle.ist_core.specs.WordTerms.{LeafAt}
 use Rattle.check_builds.proofs.BuiltLemmas as built
-use Rattle.check_builds.proofs.BuiltPartLemmas as parts
-use Rattle.check_builds.proofs.BuiltSizeLemmas as sizes
+use Rattle.check_builds.proofs.PartCutLemmas as parts
+use Rattle.check_builds.proofs.DrawLemmas as sizes
 use Rattle.check_builds.proofs.ideals.+built.Goals as goal
 
 pub built-returns-then-names_nothing-clause-exact : goal.built-returns-then-names_nothing-clause-exact

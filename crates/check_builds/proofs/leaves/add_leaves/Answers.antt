@@ -7,8 +7,7 @@ returns-then-not-branch c = record {
 }
 
 pub loop-init : goal.loop-init
-loop-init c = λ t h.
-    gather.begun t.pieces _ _ _ _ c.new-waiting.ensures.items
+loop-init c = λ t h. gather.begun t.pieces _ _ _ _ c.new-waiting.ensures.items
     (rw c.if-not-branch.false at (c.in_ok-put_slots.ensures.exact t h))
 
 pub returns-in-None : goal.returns-in-None
@@ -19,15 +18,12 @@ returns-in-None c = record {
 }
 
 pub returns-then-not-branch-2 : goal.returns-then-not-branch-2
-returns-then-not-branch-2 c =
-    let next = gather.next_waits _ _ _ c.in-Some.ensures.items in
-    record {
-      exact = λ t h. gather.left_lacks t.pieces _ _ _ _ (rw next at (c.loop.invariant t h))
-          (rw c.if-not-branch-2.true at (c.in_ok-add_of_slot-in-Some.ensures.exact t h));
-    }
+returns-then-not-branch-2 c = let next = gather.next_waits _ _ _ c.in-Some.ensures.items in record {
+  exact = λ t h. gather.left_lacks t.pieces _ _ _ _ (rw next at (c.loop.invariant t h))
+      (rw c.if-not-branch-2.true at (c.in_ok-add_of_slot-in-Some.ensures.exact t h));
+}
 
 pub loop-preserved : goal.loop-preserved
-loop-preserved c = λ t h.
-    let next = gather.next_waits _ _ _ c.in-Some.ensures.items in
+loop-preserved c = λ t h. let next = gather.next_waits _ _ _ c.in-Some.ensures.items in
     gather.left_more t.pieces _ _ _ _ _ _ (rw next at (c.loop.invariant t h))
     (rw c.if-not-branch-2.false at (c.in_ok-add_of_slot-in-Some.ensures.exact t h))

@@ -4,13 +4,11 @@ use Rattle.std.specs.Cmp.Lexicographic.{slice_cmp}
 use Rattle.std.specs.Map.{lookup}
 use Rattle.std.specs.Ordering.{nat_cmp}
 use Rattle.check_events.specs.Remembering.{last_with}
-use Rattle.check_builds.proofs.BuildTableLemmas.{build_known}
-use Rattle.check_builds.proofs.SizesFoundLemmas.{are_sizes, found_after}
+use Rattle.check_builds.proofs.BuildTableLemmas.{build_known, are_sizes, found_after}
 use Rattle.check_builds.proofs.remembering.note_build.Goals as goal
 
 pub returns-clause-exact : goal.returns-clause-exact
-returns-clause-exact c log rebuild word known =
-    let old = c.args.builds.now in
+returns-clause-exact c log rebuild word known = let old = c.args.builds.now in
     let found = λ (xs : List ℕ).
     ap (lookup (is_at (λ v. slice_cmp nat_cmp xs v.items))) c.in_ok-insert.ensures.entries
     ∙ found_after (λ v. v.items) xs old.last.entries c.in_ok-sizes_of.field-0 (old.count + 1)

@@ -1,5 +1,5 @@
 use Rattle.std.proofs.Common.{◌≢◌, sym, arith}
-use Rattle.check_events.proofs.ClimbLemmas.{comes_on, comes_none, jump_leads}
+use Rattle.check_events.proofs.DecisionLemmas.{comes_on, comes_none, jump_leads}
 use Rattle.check_events.proofs.climbing.next_up.Goals as goal
 
 pub returns-in-None-clause-exact : goal.returns-in-None-clause-exact

@@ -2,7 +2,7 @@ use Rattle.std.proofs.Common.{◌↔◌, IsTrue, sym, subst, arith}
 use Rattle.check_events.specs.Ways.{ClimbsBy}
 use Rattle.check_fairness.proofs.AnswerLemmas.{iff_trans, never}
 use Rattle.check_events.proofs.WayUpLemmas.{comes_is}
-use Rattle.check_events.proofs.ClimbLemmas.{comes_here, comes_low}
+use Rattle.check_events.proofs.DecisionLemmas.{comes_here, comes_low}
 use Rattle.check_events.proofs.climbing.was_on_chain.Goals as goal
 
 pub returns-in-None : goal.returns-in-None
@@ -21,15 +21,13 @@ returns-then-at-row c = record {
       let on = (comes_is first log c.args.past.now.slots k c.args.node c.args.row).1 x in
       let low = comes_low c.args.past.now.slots k.rises c.args.row c.loop-at.at
       ((c.loop-at.invariant first log k w).1 on) in
-      let passed = c.loop-at-test.false in
-      let apart = c.if-at-row.true in
+      let passed = c.loop-at-test.false in let apart = c.if-at-row.true in
       omega arith);
 }
 
 pub returns : goal.returns
 returns c = record {
-  exact = λ first log k w.
-      let slots = c.args.past.now.slots in
+  exact = λ first log k w. let slots = c.args.past.now.slots in
       let here = subst (λ b. IsTrue b ↔ ClimbsBy slots c.args.row c.args.row)
       (sym c.contains_key.ensures) (comes_here slots c.args.row) in
       let left = subst (λ n. ClimbsBy slots c.args.row n ↔ ClimbsBy slots c.args.row c.args.node)

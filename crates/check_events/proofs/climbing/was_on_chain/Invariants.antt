@@ -1,6 +1,5 @@
 use Rattle.std.proofs.Common.{◌↔◌}
-use Rattle.ist_core.specs.Snapshots.{Snapshot}
-use Rattle.ist_core.specs.Logs.{Log}
+use Rattle.ist_core.specs.LogTerms.{Snapshot, Log}
 use Rattle.check_events.specs.Remembering.{KnowsSlots, KnowsWays}
 use Rattle.check_events.specs.Ways.{ClimbsBy}
 use Rattle.check_events.proofs.climbing.was_on_chain.Given as goal

@@ -12,8 +12,7 @@ returns-in-None c = record {
 
 pub returns-then-contains : goal.returns-then-contains
 returns-then-contains c = record {
-  exact = λ first log h u k w.
-      let counted = sym c.contains.ensures ∙ c.if-contains.true in
+  exact = λ first log h u k w. let counted = sym c.contains.ensures ∙ c.if-contains.true in
       never (λ x. (counted_lacks first log c.args.caller c.args.node c.args.past.now.updates u
       _ c.in-Some.ensures.value x).1 counted);
 }
@@ -28,8 +27,7 @@ returns-in-None-get c = record {
 
 pub returns-in-Some-get : goal.returns-in-Some-get
 returns-in-Some-get c = record {
-  exact = λ first log h u k w.
-      iff_trans (c.was_on_chain.ensures.exact first log k w)
+  exact = λ first log h u k w. iff_trans (c.was_on_chain.ensures.exact first log k w)
       (count_of_last first log c.args.caller c.args.node c.args.past.now.updates u
       c.args.replica.now c.in-Some.last.now c.in-Some-get.row.now h c.in-Some.ensures.value
       (λ y. cc (y, c.contains.ensures, c.if-contains.false)) c.in-Some-get.ensures.value

@@ -7,16 +7,14 @@ use Rattle.check_events.proofs.HeldLemmas.{none_found, one_found}
 use Rattle.check_events.proofs.held.has_row.Goals as goal
 
 pub returns-in-None : goal.returns-in-None
-returns-in-None c =
-    record {
-      exact = λ held k. never (none_found held c.args.row k.rising
-          (sym (ap (lookup (is_at (nat_cmp c.args.row.base))) k.rows) ∙ sym c.in-None.ensures.value));
-    }
+returns-in-None c = record {
+  exact = λ held k. never (none_found held c.args.row k.rising
+      (sym (ap (lookup (is_at (nat_cmp c.args.row.base))) k.rows) ∙ sym c.in-None.ensures.value));
+}
 
 pub returns-in-Some : goal.returns-in-Some
-returns-in-Some c =
-    record {
-      exact = λ held k. iff_trans c.is_same.ensures.exact
-          (one_found held c.args.row c.in-Some.found.now k.rising
-          (sym (ap (lookup (is_at (nat_cmp c.args.row.base))) k.rows) ∙ sym c.in-Some.ensures.value));
-    }
+returns-in-Some c = record {
+  exact = λ held k. iff_trans c.is_same.ensures.exact
+      (one_found held c.args.row c.in-Some.found.now k.rising
+      (sym (ap (lookup (is_at (nat_cmp c.args.row.base))) k.rows) ∙ sym c.in-Some.ensures.value));
+}

@@ -1,6 +1,6 @@
 use Rattle.std.proofs.Common.{take, subst}
 use Rattle.std.proofs.lemmas.List.{take_all, take_more}
-use Rattle.ist_core.specs.Snapshots.{without}
+use Rattle.ist_core.specs.LogTerms.{without}
 use Rattle.check_events.specs.Holding.{TableHolds}
 use Rattle.check_events.proofs.LetGoLemmas.{keeps_none, keeps_last}
 use Rattle.check_events.proofs.held.let_go.Goals as goal
@@ -14,9 +14,8 @@ loop-base-preserved c = λ held k. keeps_last _ held (take c.loop-base.base-inde
     (c.let_go_one.ensures.exact _ (c.loop-base.invariant held k))
 
 pub returns : goal.returns
-returns c =
-    record {
-      exact = λ held k. subst (λ bs. TableHolds c.loop-base.table (without bs held))
-          (take_all c.loop-base.base-index c.args.bases.now c.loop-base-test.false)
-          (c.loop-base.invariant held k);
-    }
+returns c = record {
+  exact = λ held k. subst (λ bs. TableHolds c.loop-base.table (without bs held))
+      (take_all c.loop-base.base-index c.args.bases.now c.loop-base-test.false)
+      (c.loop-base.invariant held k);
+}

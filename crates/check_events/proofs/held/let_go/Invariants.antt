@@ -1,6 +1,6 @@
 use Rattle.std.proofs.Common.{List, take}
 use Rattle.ist_core.specs.declared.lists.HeldRow.{HeldRow}
-use Rattle.ist_core.specs.Snapshots.{without}
+use Rattle.ist_core.specs.LogTerms.{without}
 use Rattle.check_events.specs.Holding.{TableHolds}
 use Rattle.check_events.proofs.held.let_go.Given as goal
 

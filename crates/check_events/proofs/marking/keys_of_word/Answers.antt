@@ -1,4 +1,4 @@
-use Rattle.ist_core.specs.References.{ref_of}
+use Rattle.ist_core.specs.WordTerms.{ref_of}
 use Rattle.check_events.proofs.MarkLemmas.{finds_empty, finds_leaf, finds_inner, finds_rebuild}
 use Rattle.check_events.proofs.marking.keys_of_word.Goals as goal
 use Rattle.ist_layout.proofs.MeaningLemmas.{word_names}

@@ -1,12 +1,11 @@
 use Rattle.std.proofs.Common.{◌≡◌, ◌∙◌, get_or, length, sym, arith, eq-eqb}
-use Rattle.ist_core.specs.References.{LeafAt, word_of}
+use Rattle.ist_core.specs.WordTerms.{LeafAt, word_of}
 use Rattle.check_fairness.proofs.AnswerLemmas.{is_equal}
 use Rattle.check_events.proofs.RowLemmas.{pair_over_is}
 use Rattle.check_events.proofs.pairs.is_pair_over.Goals as goal
 
 pub returns-else-from-leaf_word : goal.returns-else-from-leaf_word
-returns-else-from-leaf_word c =
-    let ws = c.as_slice.result.now in
+returns-else-from-leaf_word c = let ws = c.as_slice.result.now in
     let seven : length ws ≡ 7 = omega arith in
     let left : get_or ws 5 0 ≡ word_of (LeafAt c.args.left) = sym c.from.ensures
     ∙ c.if-from-leaf_word.false ∙ c.leaf_word.ensures.value in

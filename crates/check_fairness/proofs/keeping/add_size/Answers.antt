@@ -6,9 +6,7 @@ use Rattle.check_fairness.proofs.KeepingLemmas.{kept_more, first_is, at}
 use Rattle.check_fairness.proofs.keeping.add_size.Goals as goal
 
 pub returns : goal.returns
-returns c =
-    let lists = map (λ v. v.items) c.args.lists.now in
-    let kept = c.args.kept.now in
+returns c = let lists = map (λ v. v.items) c.args.lists.now in let kept = c.args.kept.now in
     let left : c.left_at-left.result.now ≡ left_at kept (length kept.sizes.items) =
     c.left_at-left.ensures.value ∙ ap (λ xs. at xs c.len.result) c.as_slice.ensures.value
     ∙ ap (at kept.left.items) (c.len.ensures ∙ omega (arith, kept.sizes.ok.0)) in

@@ -9,23 +9,19 @@ loop-list-init c sizes = none_added (begins_none (map (λ v. v.items) c.args.lis
     c.args.may c.args.size sizes)
 
 pub loop-list-preserved : goal.loop-list-preserved
-loop-list-preserved c sizes =
-    let lists = map (λ v. v.items) c.args.lists.now in
+loop-list-preserved c sizes = let lists = map (λ v. v.items) c.args.lists.now in
     let below : c.loop-list.list < length lists = omega (
       arith,
-      length-map c.args.lists.now
-          (λ v. v.items),
+      length-map c.args.lists.now (λ v. v.items),
     ) in
     two_added (c.loop-list.invariant sizes) (c.in_ok-add_on.ensures.added sizes)
     (begins_more lists c.args.room c.args.may c.args.size sizes c.loop-list.list below)
 
 pub returns : goal.returns
-returns c =
-    let lists = map (λ v. v.items) c.args.lists.now in
+returns c = let lists = map (λ v. v.items) c.args.lists.now in
     let past : length lists ≤ c.loop-list.list = omega (
       arith,
-      length-map c.args.lists.now
-          (λ v. v.items),
+      length-map c.args.lists.now (λ v. v.items),
     ) in
     record {
       added = λ sizes. other_added (c.loop-list.invariant sizes) (begins_end lists c.args.room

@@ -1,5 +1,5 @@
 use Rattle.std.proofs.Common.{◌∙◌, ◌++◌, ap, sym, append-nil, arith}
-use Rattle.ist_core.proofs.ShapeLemmas.{shape_few}
+use Rattle.ist_core.proofs.AllWordLemmas.{shape_few}
 use Rattle.check_fairness.proofs.BuildLemmas.{shape_step, shape_whole}
 use Rattle.check_fairness.proofs.shapes.+add_shape.Goals as goal
 
@@ -16,9 +16,8 @@ loop-j-preserved t c =
     c.part_len_of.ensures.value
 
 pub returns : goal.returns
-returns t c =
-    record {
-      added = shape_whole c.args.n c.degree_of-children.result c.loop-j.j c.args.out.now.items
-          c.push.new.self.items c.loop-j.out.items (omega arith) c.degree_of-children.ensures.value
-          (omega arith) c.in_ok-push.ensures.items c.loop-j.invariant;
-    }
+returns t c = record {
+  added = shape_whole c.args.n c.degree_of-children.result c.loop-j.j c.args.out.now.items
+      c.push.new.self.items c.loop-j.out.items (omega arith) c.degree_of-children.ensures.value
+      (omega arith) c.in_ok-push.ensures.items c.loop-j.invariant;
+}

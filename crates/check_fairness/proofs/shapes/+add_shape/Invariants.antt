@@ -1,7 +1,6 @@
 use Rattle.std.proofs.Common.{◌≡◌, ◌++◌, map}
 use Rattle.std.specs.List.{flat_map, range_with_len}
-use Rattle.ist_core.specs.Arithmetic.{part_len}
-use Rattle.ist_core.specs.Shapes.{shape}
+use Rattle.ist_core.specs.WordTerms.{part_len, shape}
 use Rattle.check_fairness.proofs.shapes.+add_shape.Given as goal
 
 abbrev pub decreases-add_shape : goal.decreases-add_shape

@@ -1,5 +1,5 @@
 use Rattle.std.proofs.Common.{map, take}
-use Rattle.ist_core.specs.Elements.{Among}
+use Rattle.ist_core.specs.LogTerms.{Among}
 use Rattle.check_fairness.proofs.shapes.is_listed.Given as goal
 
 -- none of the lists so far is the one

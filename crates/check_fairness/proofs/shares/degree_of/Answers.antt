@@ -1,5 +1,5 @@
 use Rattle.std.proofs.Common.{arith}
-use Rattle.ist_core.proofs.RootLemmas.{degree_is}
+use Rattle.ist_core.proofs.AllWordLemmas.{degree_is}
 use Rattle.check_fairness.proofs.shares.degree_of.Goals as goal
 
 -- the degree is the larger of 2 and the root

@@ -1,4 +1,4 @@
-use Rattle.ist_core.proofs.PartLemmas.{longer_at, shorter_at}
+use Rattle.ist_core.proofs.AllWordLemmas.{longer_at, shorter_at}
 use Rattle.check_fairness.proofs.shares.part_len_of.Goals as goal
 
 pub returns-then-j-n-clause-value : goal.returns-then-j-n-clause-value

@@ -21,9 +21,7 @@ returns-in-Place c = record {
 }
 
 pub returns-in_default : goal.returns-in_default
-returns-in_default c =
-    let other = c.in_default in
-    record {
-      exact = c.write_word.ensures.exact (takes_none c.args.event.now other.not-Reserve other.not-Install
-          other.not-Root other.not-Place other.not-Lose);
-    }
+returns-in_default c = let other = c.in_default in record {
+  exact = c.write_word.ensures.exact (takes_none c.args.event.now other.not-Reserve other.not-Install
+      other.not-Root other.not-Place other.not-Lose);
+}

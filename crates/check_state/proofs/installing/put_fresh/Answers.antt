@@ -1,8 +1,7 @@
 use Rattle.std.proofs.Common.{ap}
 use Rattle.std.proofs.lemmas.Result.{on_ok_weaker}
-use Rattle.ist_core.specs.Pieces.{leaf_of, inner_of, with_row}
-use Rattle.check_state.proofs.PublishLemmas.{mirrors_row}
-use Rattle.check_state.proofs.FreshLemmas.{one_row, two_rows, one_fresh, two_fresh}
+use Rattle.ist_core.specs.WordTerms.{leaf_of, inner_of, with_row}
+use Rattle.check_state.proofs.PublishLemmas.{mirrors_row, one_row, two_rows, one_fresh, two_fresh}
 use Rattle.check_state.proofs.installing.put_fresh.Goals as goal
 
 pub returns-in-len1 : goal.returns-in-len1
@@ -23,8 +22,7 @@ returns-in_ok-put_as_leaf-in-len2 c =
       exact = on_ok_weaker c.put_as_inner.result
           (λ f t change kind h.
           let leafy = record t {
-            pieces = with_row t.pieces c.leaf-item.result.base
-                (leaf_of c.leaf-item.result.words);
+            pieces = with_row t.pieces c.leaf-item.result.base (leaf_of c.leaf-item.result.words);
           } in
           let first = mirrors_row c.put_as_leaf.new.replica t c.leaf-item.result.base _ _
           (ap leaf_of c.as_slice.ensures.value) (c.in_ok-put_as_leaf-in-len2.ensures.exact t h)

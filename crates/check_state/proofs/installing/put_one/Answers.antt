@@ -1,13 +1,11 @@
 use Rattle.std.proofs.Common.{◌∙◌, ap}
 use Rattle.std.proofs.lemmas.Result.{on_ok_weaker}
-use Rattle.ist_core.specs.Pieces.{leaf_of, rebuild_of}
-use Rattle.check_state.proofs.PublishLemmas.{mirrors_row}
-use Rattle.check_state.proofs.FreshLemmas.{start_chosen, other_chosen}
+use Rattle.ist_core.specs.WordTerms.{leaf_of, rebuild_of}
+use Rattle.check_state.proofs.PublishLemmas.{mirrors_row, start_chosen, other_chosen}
 use Rattle.check_state.proofs.installing.put_one.Goals as goal
 
 pub returns-then-kind-eq-START_KIND : goal.returns-then-kind-eq-START_KIND
-returns-then-kind-eq-START_KIND c =
-    let ws = c.args.row.now.words in
+returns-then-kind-eq-START_KIND c = let ws = c.args.row.now.words in
     let is = ap rebuild_of c.as_slice.ensures.value ∙ start_chosen c.args.kind (rebuild_of ws)
     (leaf_of ws) c.if-kind-eq-START_KIND.true in
     record {
@@ -17,8 +15,7 @@ returns-then-kind-eq-START_KIND c =
     }
 
 pub returns-else-kind-eq-START_KIND : goal.returns-else-kind-eq-START_KIND
-returns-else-kind-eq-START_KIND c =
-    let ws = c.args.row.now.words in
+returns-else-kind-eq-START_KIND c = let ws = c.args.row.now.words in
     let is = ap leaf_of c.as_slice-else-kind-eq-START_KIND.ensures.value ∙ other_chosen c.args.kind
     (rebuild_of ws) (leaf_of ws) c.if-kind-eq-START_KIND.false in
     record {

@@ -1,5 +1,5 @@
-use Rattle.ist_core.specs.Links.{IsChild}
-use Rattle.ist_core.specs.Snapshots.{Snapshot}
+use Rattle.ist_core.specs.TreeTerms.{IsChild}
+use Rattle.ist_core.specs.LogTerms.{Snapshot}
 use Rattle.check_events.specs.Mirroring.{Mirrors}
 use Rattle.check_state.specs.Hanging.{HangsOnce}
 use Rattle.check_state.proofs.WaitingLemmas.{Noted}

@@ -1,9 +1,7 @@
 use Rattle.std.proofs.Common.{◌≡◌, ◌↔◌, ◌⊎◌, Some, None}
 use Rattle.ist_core.specs.declared.states.InnerRow.{InnerRow}
-use Rattle.ist_core.specs.Elements.{Among}
-use Rattle.ist_core.specs.RowLayout.{anchor}
-use Rattle.ist_core.specs.Pieces.{Inner}
-use Rattle.ist_core.specs.Snapshots.{Snapshot}
+use Rattle.ist_core.specs.LogTerms.{Among, Snapshot}
+use Rattle.ist_core.specs.WordTerms.{anchor, Inner}
 use Rattle.check_events.specs.Mirroring.{Mirrors}
 use Rattle.check_state.specs.declared.linking.Link.{Link}
 use Rattle.check_state.proofs.WaitingLemmas.{HangsBefore}

@@ -1,5 +1,5 @@
 use Rattle.std.proofs.Common.{◌≡◌, ◌+◌, ◌*◌, ◌≤◌, length}
-use Rattle.ist_core.specs.Arithmetic.{degree}
+use Rattle.ist_core.specs.WordTerms.{degree}
 use Rattle.ist_image.specs.Placing.{rows_after, part_base}
 use Rattle.check_state.specs.Laying.{Publishes}
 use Rattle.check_state.proofs.opening.+laying.Given as goal

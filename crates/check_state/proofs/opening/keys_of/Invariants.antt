@@ -1,6 +1,6 @@
 use Rattle.std.proofs.Common.{◌≡◌, ◌-◌, map, length, get_or}
 use Rattle.std.specs.List.{range_with_len}
-use Rattle.ist_core.specs.Arithmetic.{part_start}
+use Rattle.ist_core.specs.WordTerms.{part_start}
 use Rattle.check_state.proofs.opening.keys_of.Given as goal
 
 -- the first keys of the parts so far, but the first

@@ -1,7 +1,5 @@
 use Rattle.std.proofs.Common.{◌∙◌, ap, arith, length, refl, None}
-use Rattle.ist_core.specs.RowLayout.{first_row}
-use Rattle.ist_core.specs.References.{word_of}
-use Rattle.ist_core.specs.StartLayout.{start, tree_at}
+use Rattle.ist_core.specs.WordTerms.{first_row, word_of, start, tree_at}
 use Rattle.ist_image.proofs.PlacingSizeLemmas.{few_fit, opens_fit}
 use Rattle.check_fairness.proofs.AnswerLemmas.{finds_none}
 use Rattle.check_state.proofs.LaidLemmas.{opened}
@@ -18,11 +16,8 @@ put_tree-requires-clause-few c = few_fit first_row (length c.args.pairs.now)
     (opens_fit c.args.pairs.now c.args.words c.requires.opens)
 
 pub returns : goal.returns
-returns c =
-    let pairs = c.args.pairs.now in
-    let t = start pairs c.args.words in
-    let words = c.ideal_words.ensures.value in
-    record {
+returns c = let pairs = c.args.pairs.now in let t = start pairs c.args.words in
+    let words = c.ideal_words.ensures.value in record {
       mirrors = opened c.put_tree.new.replica t c.from-first.result pairs c.from-first.ensures
           (c.in_ok-put_tree.ensures.exact (record t { pieces = λ base. None })
           record {

@@ -1,7 +1,6 @@
 use Rattle.std.proofs.Common.{◌≡◌, ◌∙◌, ap, arith}
-use Rattle.ist_core.specs.Arithmetic.{degree}
-use Rattle.ist_core.specs.Shapes.{ideal_words}
-use Rattle.ist_core.proofs.RootLemmas.{degree-le}
+use Rattle.ist_core.specs.WordTerms.{degree, ideal_words}
+use Rattle.ist_core.proofs.AllWordLemmas.{degree-le}
 use Rattle.ist_image.proofs.PlacingSizeLemmas.{part_base-suc, part_base_fits, part_fits_at}
 use Rattle.check_state.proofs.LaidLemmas.{slot_more, slots_whole}
 use Rattle.check_state.proofs.opening.slots_of.Goals as goal
@@ -24,17 +23,14 @@ overflow_add-at-in-loop-j c =
 
 -- one part more
 pub loop-j-preserved : goal.loop-j-preserved
-loop-j-preserved c =
-    let at = c.loop-j.invariant.place in
-    let len = ap ideal_words c.part-len.ensures.len in
-    record {
+loop-j-preserved c = let at = c.loop-j.invariant.place in
+    let len = ap ideal_words c.part-len.ensures.len in record {
       place = omega (arith, part_base-suc c.args.base c.args.count c.loop-j.j);
       slots = slot_more c.args.base (omega arith) at c.part-len.ensures.len c.tree_word.ensures.value
           c.in_ok-push.ensures.items c.loop-j.invariant.slots;
     }
 
 pub returns : goal.returns
-returns c =
-    let end : c.loop-j.j ≡ degree c.args.count = omega arith in
+returns c = let end : c.loop-j.j ≡ degree c.args.count = omega arith in
     let whole = slots_whole c.args.base end c.loop-j.invariant.slots in
     record { value = λ pairs long. c.from_vec.ensures.value ∙ whole pairs long }

@@ -1,5 +1,5 @@
 use Rattle.std.proofs.Common.{subst, sym}
-use Rattle.ist_core.specs.StartLayout.{start}
+use Rattle.ist_core.specs.WordTerms.{start}
 use Rattle.check_events.specs.Remembering.{KnowsWays}
 use Rattle.check_state.proofs.ways.add_ways.Goals as goal
 use Rattle.check_state.proofs.ways.add_ways.Goals.{in-Some-inner_of_word+in_ok-add_way-in-Some+in_ok-put_slots-in-Some, in_default}
@@ -11,6 +11,5 @@ loop-preserved c = λ pairs words log law mirrors k h.
       | in-Some-inner_of_word+in_ok-add_way-in-Some+in_ok-put_slots-in-Some w ↦
           subst (λ ways. KnowsWays ways (start pairs words) log) (sym w.ways-is)
           (w.in_ok-add_way-in-Some.ensures.exact pairs words log law mirrors k before)
-      | in_default w ↦
-          subst (λ ways. KnowsWays ways (start pairs words) log) (sym w.ways-is) before
+      | in_default w ↦ subst (λ ways. KnowsWays ways (start pairs words) log) (sym w.ways-is) before
     ]

@@ -1,28 +1,24 @@
 use Rattle.std.proofs.Common.{◌≡◌, sym, subst, arith}
 use Rattle.std.proofs.lemmas.Option.{IfSome_then}
-use Rattle.ist_core.specs.Arithmetic.{child_count}
-use Rattle.ist_core.specs.RowLayout.{anchor}
-use Rattle.ist_core.specs.StartLayout.{start}
-use Rattle.ist_core.specs.Lawful.{state_of}
-use Rattle.check_events.proofs.MirrorLemmas.{inner_stands}
+use Rattle.ist_core.specs.WordTerms.{child_count, anchor, start}
+use Rattle.ist_core.specs.LogTerms.{state_of}
+use Rattle.check_events.proofs.DecisionLemmas.{inner_stands}
 use Rattle.check_state.specs.Leading.{IsSpanOf, IsWayBy}
-use Rattle.check_state.proofs.StayingLemmas.{keys_stay}
+use Rattle.check_state.proofs.WayTableLemmas.{keys_stay}
 use Rattle.check_state.proofs.WayToRowLemmas.{below_is, row_rises, narrowed}
 use Rattle.check_state.proofs.ways.way_by.Goals as goal
 
 pub returns-then-node-from : goal.returns-then-node-from
 returns-then-node-from c = record {
   exact = IfSome_then c.top_way.result c.top_way.ensures.exact
-      (λ way f pairs words log lawful mirrors h.
-      let same : anchor ≡ c.args.node = omega arith in
+      (λ way f pairs words log lawful mirrors h. let same : anchor ≡ c.args.node = omega arith in
       subst (λ n. IsWayBy (start pairs words) log n c.args.index way) same
       (f (start pairs words) log (keys_stay pairs words log lawful)));
 }
 
 pub returns-in-Some-span_of : goal.returns-in-Some-span_of
 returns-in-Some-span_of c = record {
-  exact = λ pairs words log lawful mirrors h slots row k e.
-      let at = sym c.in-Some.ensures.value in
+  exact = λ pairs words log lawful mirrors h slots row k e. let at = sym c.in-Some.ensures.value in
       let stands = inner_stands c.args.replica.now (state_of pairs words log) c.args.node mirrors
       c.in-Some-get.row.now (sym c.in-Some-get.ensures.value) in
       let span = subst (λ ks. IsSpanOf ks c.args.index c.in-Some-span_of.span.low

@@ -1,12 +1,12 @@
 use borrow.Author.Gap.{counting}
 use borrow.Author.Rules.{rules}
 use Rattle.std.proofs.Common.{length, ap, ◌∙◌, arith}
-use Rattle.ist_rule.specs.Learning.{now}
+use Rattle.ist_rule.specs.RuleTerms.{now}
 use Rattle.ist_rows.specs.declared.callers.Caller.{Caller}
 use Rattle.ist_build.proofs.BuildingLemmas.{held_good}
 use Rattle.ist_build.proofs.StoringLemmas.{small_end, block_first, laying_opened}
-use Rattle.ist_build.proofs.SlicePartLemmas.{is_part, lay_asked, laying_more}
-use Rattle.ist_build.proofs.LaidBlockLemmas.{block_end, all_laid_below}
+use Rattle.ist_build.proofs.RootBuiltLemmas.{is_part, lay_asked, laying_more}
+use Rattle.ist_build.proofs.HeldMoreLemmas.{block_end, all_laid_below}
 use Rattle.ist_build.proofs.block.+lay.Goals as goal
 
 -- ---- few leaves
@@ -33,9 +33,7 @@ loop-j-init t c =
 
 -- the rows, leaves and keys of a part are what its laying asks for
 pub lay-word-requires : goal.lay-word-requires
-lay-word-requires t c =
-    let m = c.loop-j.invariant in
-    let p = c.part-part.ensures in
+lay-word-requires t c = let m = c.loop-j.invariant in let p = c.part-part.ensures in
     let a = lay_asked _ _ _ _ _ _ _ _ _ _ m (is_part _ _ _ _ _ c.args.leaves.now c.args.keys.now
     c.loop-j-test.true c.degree-degree.ensures.value p.start p.len p.some) c.requires.fresh
     c.requires.leaves c.requires.keys c.requires.many in
@@ -48,11 +46,8 @@ lay-word-requires t c =
 
 -- one part more is laid
 pub loop-j-preserved : goal.loop-j-preserved
-loop-j-preserved t c =
-    let e = c.lay-word.ensures in
-    let s = c.set_part.ensures in
-    let p = c.part-part.ensures in
-    laying_more _ _ _ _ _ _ _ _ _ _ _ _ _ _ c.loop-j.invariant
+loop-j-preserved t c = let e = c.lay-word.ensures in let s = c.set_part.ensures in
+    let p = c.part-part.ensures in laying_more _ _ _ _ _ _ _ _ _ _ _ _ _ _ c.loop-j.invariant
     (is_part _ _ _ _ _ c.args.leaves.now c.args.keys.now c.loop-j-test.true c.degree-degree.ensures.value
     p.start p.len p.some) c.requires.keys c.degree-degree.ensures.value c.loop-j-test.true e.written
     e.next e.low e.laid s.stored s.caller s.sound

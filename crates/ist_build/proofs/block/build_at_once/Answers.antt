@@ -1,6 +1,6 @@
 use Rattle.std.proofs.Common.{length, rules, refl, sym, ap, ◌∙◌, subst, arith}
+use Rattle.ist_rule.specs.RuleTerms.{word_count_of}
 use Rattle.ist_rule.specs.declared.view.View.{View}
-use Rattle.ist_rule.specs.Faces.{word_count_of}
 use Rattle.ist_build.specs.Laying.{AreNextRows}
 use Rattle.ist_build.proofs.AtOnceLemmas.{BlockReady, placed_on, block_ready, later_built}
 use Rattle.ist_build.proofs.BuiltLemmas.{loads_built, built_grow}
@@ -39,8 +39,7 @@ pub lay-requires-clause-keys : goal.lay-requires-clause-keys
 lay-requires-clause-keys c = (ready (goal.at.lay-requires-clause-keys c).After-from-next).keys_are
 
 pub returns-in-Some : goal.returns-in-Some
-returns-in-Some c =
-    let e = c.lay.ensures in
+returns-in-Some c = let e = c.lay.ensures in
     let b = (ready (goal.at.returns-in-Some c).After-from-next).laid _ _ _ e.written e.laid in
     record {
       caller = e.written.caller;
@@ -57,9 +56,7 @@ returns-in-Some c =
 -- ---- if they don't, only loads were made
 
 pub build-requires-in-None : goal.build-requires-in-None
-build-requires-in-None c =
-    let g = c.in-None.ensures.none refl in
-    let b = loads_built _ _ g in
+build-requires-in-None c = let g = c.in-None.ensures.none refl in let b = loads_built _ _ g in
     record {
       caller = (c.reserve_shape.ensures.caller, ap (λ (v : View). v.table) g.same ∙ c.requires.caller.1);
       due = λ two. subst (λ x. AreNextRows x (length c.args.leaves.now)) (sym c.in-None.ensures.same)
@@ -71,9 +68,7 @@ build-requires-in-None c =
     }
 
 pub returns-in-None : goal.returns-in-None
-returns-in-None c =
-    let e = c.build-in-None.ensures in
-    let f = c.in-None.ensures in
+returns-in-None c = let e = c.build-in-None.ensures in let f = c.in-None.ensures in
     let o = later_built c.args.who.now c.reserve_shape.new.who c.build-in-None.new.who
     (word_count_of c.args.table.now) c.args.leaves.now c.requires.caller.0
     (sym (c.know.ensures.words ∙ ap (λ t. t.words) c.requires.caller.1)) (f.full refl) f.same (f.none refl)

@@ -1,4 +1,4 @@
-use Rattle.ist_core.specs.Shapes.{shape}
+use Rattle.ist_core.specs.WordTerms.{shape}
 use Rattle.ist_build.proofs.block.build_at_once.Given as goal
 
 -- the rows are the ideal subtree's

@@ -9,8 +9,7 @@ reserve_inner-requires-clause-next c =
     next_row c.args.who.now _ _ c.requires.several c.requires.degree_is c.requires.due
 
 pub returns-in_err-base-clause-refused : goal.returns-in_err-base-clause-refused
-returns-in_err-base-clause-refused c =
-    let e = c.reserve_inner.ensures in
+returns-in_err-base-clause-refused c = let e = c.reserve_inner.ensures in
     let r = row_refused c.args.who.now c.reserve_inner.new.who _ _ _ _ c.requires.several
     c.requires.degree_is e.caller e.number e.rows c.in_err-base.ensures.full
     c.in_err-base.ensures.refused in

@@ -1,6 +1,6 @@
 use Rattle.std.proofs.Common.{◌+◌, refl, arith}
-use Rattle.ist_core.specs.Pieces.{Leaf}
-use Rattle.ist_rule.proofs.GoingOnLemmas.{looked_goes_on}
+use Rattle.ist_core.specs.WordTerms.{Leaf}
+use Rattle.ist_rule.proofs.EventLemmas.{looked_goes_on}
 use Rattle.ist_dcss.proofs.FieldLemmas.{looked_row}
 use Rattle.ist_build.proofs.BuiltLemmas.{leaf_goes_on}
 use Rattle.ist_build.proofs.PlaceLemmas.{word_there}
@@ -18,9 +18,7 @@ returns-clause-seen c = looked_goes_on _ _ _ _ c.load.ensures.looked
 
 -- the word is its key
 pub returns-clause-key : goal.returns-clause-key
-returns-clause-key c =
-    λ row e.
-    let from = c.from.ensures in
+returns-clause-key c = λ row e. let from = c.from.ensures in
     looked_row _ _ _ _ c.load.ensures.looked c.args.leaf (Leaf row) 0 row.key
     (leaf_goes_on _ _ (looked_goes_on _ _ _ _ c.load.ensures.looked) c.args.leaf row e) refl
     (omega arith)

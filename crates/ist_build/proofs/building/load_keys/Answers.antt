@@ -1,6 +1,6 @@
 use Rattle.std.proofs.Common.{◌∙◌, rules}
 use Rattle.std.proofs.lemmas.List.{length-set}
-use Rattle.ist_rule.proofs.GoingOnLemmas.{goes_on_same, goes_on_more}
+use Rattle.ist_rule.proofs.EventLemmas.{goes_on_same, goes_on_more}
 use Rattle.ist_build.proofs.KeyLemmas.{leaf_after, keys_more, keys_all}
 use Rattle.ist_build.proofs.building.load_keys.Goals as goal
 
@@ -16,8 +16,7 @@ key_of-requires c =
 
 -- one key more
 pub loop-i-preserved : goal.loop-i-preserved
-loop-i-preserved c =
-    let i = c.loop-i.invariant in
+loop-i-preserved c = let i = c.loop-i.invariant in
     let e = c.key_of.ensures in (
       goes_on_more _ _ _ i.0 e.seen,
       length-set _ _ _ ∙ i.1,

@@ -1,17 +1,15 @@
 use Rattle.std.proofs.Common.{sym, subst, arith}
+use Rattle.ist_rows.specs.RowTerms.{HoldsPlace}
 use Rattle.ist_rows.specs.declared.callers.Caller.{Caller}
-use Rattle.ist_rows.specs.Rows.{HoldsPlace}
 use Rattle.ist_build.proofs.RowOpenedLemmas.{holds_place}
 use Rattle.ist_build.proofs.building.open_row.Goals as goal
 
 pub fill-requires-clause-held : goal.fill-requires-clause-held
-fill-requires-clause-held c =
-    let some = c.requires.some in
+fill-requires-clause-held c = let some = c.requires.some in
     holds_place c.args.who.now c.args.base c.args.degree 2 c.requires.held (omega arith)
 
 pub fill-requires-2-clause-held : goal.fill-requires-2-clause-held
-fill-requires-2-clause-held c =
-    let some = c.requires.some in
+fill-requires-2-clause-held c = let some = c.requires.some in
     subst (λ (who : Caller). HoldsPlace who c.args.base 3) (sym c.fill.ensures.stored)
     (holds_place (record c.args.who.now { token = record c.args.who.now.token { view = _ } })
     c.args.base

@@ -1,8 +1,8 @@
 use Rattle.std.proofs.Common.{arith}
-use Rattle.ist_rule.proofs.GoingOnLemmas.{goes_on_more}
+use Rattle.ist_rule.proofs.EventLemmas.{goes_on_more}
 use Rattle.ist_build.proofs.DescentLemmas.{few_loads, few_below, past, past_nothing, past_leaf, past_row, at_leaf, below_row, not_past}
 use Rattle.ist_build.proofs.ReadingLemmas.{reading_begun}
-use Rattle.ist_build.proofs.SlotLemmas.{slots_on}
+use Rattle.ist_build.proofs.PlaceLemmas.{slots_on}
 use Rattle.ist_build.proofs.descent.+go_down.Goals as goal
 use Rattle.ist_build.proofs.descent.+go_down.Goals.{in-Nothing, in-Leaf+else-skip-eq0, in-Row+else-skip-keys}
 
@@ -18,23 +18,18 @@ loop-index-init t c =
     )
 
 pub overflow_add-loads : goal.overflow_add-loads
-overflow_add-loads t c =
-    let i = c.loop-index.invariant in
+overflow_add-loads t c = let i = c.loop-index.invariant in
     let few = few_loads _ i.0.sound _ _ _ _ _ i.1 c.loop-index-test.true i.3 c.look_below-below.ensures.few in
     record { fits = omega arith }
 
 pub overflow_add-result : goal.overflow_add-result
-overflow_add-result t c =
-    let i = c.loop-index.invariant in
-    let e = c.look_below-below.ensures in
+overflow_add-result t c = let i = c.loop-index.invariant in let e = c.look_below-below.ensures in
     let rest = few_below _ c.look_below-below.new.token.view i.0.sound _ _ _ _ _ _ _ _ i.1 c.loop-index-test.true
     i.3 e.few _ c.in-Row.is e.under c.go_down-reached.ensures.fits in
     record { fits = omega arith }
 
 pub returns-then-skip-eq0 : goal.returns-then-skip-eq0
-returns-then-skip-eq0 t c =
-    let i = c.loop-index.invariant in
-    let e = c.look_below-below.ensures in
+returns-then-skip-eq0 t c = let i = c.loop-index.invariant in let e = c.look_below-below.ensures in
     record {
       seen = goes_on_more _ _ _ i.0 e.seen;
       read = λ leaves has. at_leaf leaves _ _ _ _ _ i.0.sound e.seen i.1 c.loop-index-test.true _ _
@@ -44,11 +39,8 @@ returns-then-skip-eq0 t c =
     }
 
 pub returns-then-skip-keys : goal.returns-then-skip-keys
-returns-then-skip-keys t c =
-    let i = c.loop-index.invariant in
-    let e = c.look_below-below.ensures in
-    let g = c.go_down-reached.ensures in
-    record {
+returns-then-skip-keys t c = let i = c.loop-index.invariant in let e = c.look_below-below.ensures in
+    let g = c.go_down-reached.ensures in record {
       seen = goes_on_more _ _ _ (goes_on_more _ _ _ i.0 e.seen) g.seen;
       read = λ leaves has. below_row leaves _ _ _ _ _ i.0.sound e.seen i.1 c.loop-index-test.true _ _
           (i.4 leaves has) _ _ _ _ c.in-Row.is e.under g.read;
@@ -58,8 +50,7 @@ returns-then-skip-keys t c =
     }
 
 pub loop-index-preserved : goal.loop-index-preserved
-loop-index-preserved t c =
-    let i = c.loop-index.invariant in
+loop-index-preserved t c = let i = c.loop-index.invariant in
     let e = c.look_below-below.ensures in (
       goes_on_more _ _ _ i.0 e.seen,
       slots_on _ _ e.seen _ _ i.1,
@@ -78,6 +69,5 @@ loop-index-preserved t c =
     )
 
 pub unreachable-requires : goal.unreachable-requires
-unreachable-requires t c =
-    let i = c.loop-index.invariant in
+unreachable-requires t c = let i = c.loop-index.invariant in
     not_past _ _ c.know.ensures.sound i.0.sound _ _ _ _ _ i.1 c.loop-index-test.false c.requires.finished.0 i.4

@@ -1,14 +1,12 @@
 use Rattle.std.proofs.Common.{arith}
 use Rattle.ist_build.proofs.PartPutLemmas.{slot_built}
 use Rattle.ist_build.proofs.PartSlotLemmas.{shared_share}
-use Rattle.ist_build.proofs.TopLeafLemmas.{target_few, many_two}
+use Rattle.ist_build.proofs.FewLemmas.{target_few, many_two}
 use Rattle.ist_build.proofs.filling.build_slot.Goals as goal
 
 pub part-share-requires : goal.part-share-requires
-part-share-requires c =
-    let sh = c.requires.shared in
-    let few = target_few _ c.know.ensures.sound _ _ sh.is.finished in
-    record {
+part-share-requires c = let sh = c.requires.shared in
+    let few = target_few _ c.know.ensures.sound _ _ sh.is.finished in record {
       several = many_two _ sh.is.shared;
       fits = omega arith;
       within = omega (arith, sh.degree_is, c.requires.within);
@@ -21,9 +19,7 @@ build_share-requires-clause-share c =
 
 -- the part is made, or the build was refused
 pub returns : goal.returns
-returns c =
-    let e = c.build_share.ensures in
-    let p = c.part-share.ensures in
+returns c = let e = c.build_share.ensures in let p = c.part-share.ensures in
     let b = slot_built c.args.who.now c.build_share.new.who c.args.shared c.args.i _ _ _
     record {
       ready = c.requires.ready.0;

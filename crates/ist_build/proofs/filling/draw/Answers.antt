@@ -5,16 +5,14 @@ use Rattle.ist_build.proofs.PlaceLemmas.{word_there}
 use Rattle.ist_build.proofs.filling.draw.Goals as goal
 
 pub load-next-requires : goal.load-next-requires
-load-next-requires c =
-    let is = c.requires.shared.is in
+load-next-requires c = let is = c.requires.shared.is in
     let there = word_there c.know.ensures.sound c.know.ensures.words c.requires.ready.1 _ _
     is.published 4 (c.from-place.result + 4) (omega arith) (omega (arith, c.from-place.ensures)) in
     record { same_table = c.requires.ready.1; within = there.0; no_walk = there.1 }
 
 -- the part that the draw word names may be drawn
 pub add-requires : goal.add-requires
-add-requires c =
-    let is = c.requires.shared.is in
+add-requires c = let is = c.requires.shared.is in
     let there = word_there c.know.ensures.sound c.know.ensures.words c.requires.ready.1 _ _
     is.published 4 (c.from-place.result + 4) (omega arith) (omega (arith, c.from-place.ensures)) in
     let m = may_draw c.args.who.now c.load-next.new.token c.requires.ready.0 c.know.ensures.sound c.args.shared

@@ -1,7 +1,6 @@
 use Rattle.std.proofs.Common.{◌∙◌, rules}
-use Rattle.ist_build.proofs.BackLemmas.{back_more}
-use Rattle.ist_build.proofs.KeptLemmas.{shared_back, shared_stopped}
-use Rattle.ist_build.proofs.FewFillLemmas.{fills_more, fills_none, fills_out, fills_out_more, fills_part}
+use Rattle.ist_build.proofs.BackLemmas.{back_more, shared_back, shared_stopped}
+use Rattle.ist_build.proofs.BlockLemmas.{fills_more, fills_none, fills_out, fills_out_more, fills_part}
 use Rattle.ist_build.proofs.filling.fill_slot.Goals as goal
 
 pub build_slot-requires-clause-shared : goal.build_slot-requires-clause-shared
@@ -17,9 +16,7 @@ returns-then-slot_of-to_word-clause-few c =
     (fills_none _ _ c.args.shared c.slot_of.ensures.back c.requires.shared c.slot_of.ensures.none).1
 
 pub returns-in_err-word : goal.returns-in_err-word
-returns-in_err-word c =
-    let e = c.slot_of.ensures in
-    let f = c.in_err-word.ensures in
+returns-in_err-word c = let e = c.slot_of.ensures in let f = c.in_err-word.ensures in
     let on = shared_back _ _ c.args.shared e.back c.requires.shared in
     let vacant = e.vacant (c.if-slot_of-to_word.false ∙ c.to_word.ensures.value) in
     let stopped = shared_stopped _ _ c.args.shared _ c.requires.shared e.back _ _ f.full in
@@ -28,9 +25,7 @@ returns-in_err-word c =
     record { back = back_more _ _ _ e.back f.back; few = search rules; set = search rules; full = search rules }
 
 pub returns : goal.returns
-returns c =
-    let e = c.slot_of.ensures in
-    let m = c.in_ok-word.ensures.made in
+returns c = let e = c.slot_of.ensures in let m = c.in_ok-word.ensures.made in
     let on = shared_back _ _ c.args.shared e.back c.requires.shared in
     let vacant = e.vacant (c.if-slot_of-to_word.false ∙ c.to_word.ensures.value) in
     let put = c.put_slot.ensures.put c.slot_of.new.who m in

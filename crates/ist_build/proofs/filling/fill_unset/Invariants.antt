@@ -1,4 +1,4 @@
-use Rattle.ist_rows.specs.Taken.{HasTakenFew}
+use Rattle.ist_rows.specs.RowTerms.{HasTakenFew}
 use Rattle.ist_build.specs.Back.{IsFilling}
 use Rattle.ist_build.specs.Left.{left_for}
 use Rattle.ist_build.proofs.filling.fill_unset.Given as goal

@@ -1,4 +1,4 @@
-use Rattle.ist_rule.proofs.GoingOnLemmas.{looked_goes_on}
+use Rattle.ist_rule.proofs.EventLemmas.{looked_goes_on}
 use Rattle.ist_rows.proofs.FewStepLemmas.{none_loads}
 use Rattle.ist_build.proofs.BackLemmas.{back_loads}
 use Rattle.ist_build.proofs.LeftLemmas.{slot_open}
@@ -17,11 +17,8 @@ load-requires c =
     record { same_table = c.requires.ready.1; within = there.0; no_walk = there.1 }
 
 pub returns : goal.returns
-returns c =
-    let l = c.load.ensures.looked in
-    let slots = shared_slots _ _ c.requires.shared in
-    let at = c.slot_place.ensures.value in
-    record {
+returns c = let l = c.load.ensures.looked in let slots = shared_slots _ _ c.requires.shared in
+    let at = c.slot_place.ensures.value in record {
       back = back_loads c.args.who.now _ c.requires.ready.0 (looked_goes_on _ _ _ _ l);
       none = none_loads c.args.who.now _ c.requires.ready.0.caller.mine (looked_goes_on _ _ _ _ l);
       set = slot_looked _ _ _ _ _ _ _ slots c.requires.within at l;

@@ -1,8 +1,7 @@
 use Rattle.std.proofs.Common.{◌≤◌, IfOk, subst, rules}
 use Rattle.std.specs.List.{sum}
-use Rattle.ist_core.specs.Shapes.{shape}
-use Rattle.ist_rows.specs.Building.{HasTaken}
-use Rattle.ist_rows.specs.Taken.{HasTakenFewIn}
+use Rattle.ist_core.specs.WordTerms.{shape}
+use Rattle.ist_rows.specs.RowTerms.{HasTaken, HasTakenFewIn}
 use Rattle.ist_build.proofs.parts.build_few.Goals as goal
 
 pub returns-clause-taken : goal.returns-clause-taken

@@ -1,6 +1,6 @@
 use Rattle.std.proofs.Common.{sym, subst, arith}
-use Rattle.ist_core.specs.Shapes.{share_from_is}
-use Rattle.ist_rows.specs.Taken.{HasTakenFewIn}
+use Rattle.ist_core.specs.WordTerms.{share_from_is}
+use Rattle.ist_rows.specs.RowTerms.{HasTakenFewIn}
 use Rattle.ist_build.proofs.FewLemmas.{root_few, root_many}
 use Rattle.ist_build.proofs.RootBuiltLemmas.{whole_share, ok_whole, ok_top}
 use Rattle.ist_build.proofs.root.build_root.Goals as goal

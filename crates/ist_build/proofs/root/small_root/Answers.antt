@@ -1,4 +1,4 @@
-use Rattle.ist_rule.proofs.GoingOnLemmas.{goes_on_same}
+use Rattle.ist_rule.proofs.EventLemmas.{goes_on_same}
 use Rattle.ist_build.proofs.RootFewLemmas.{none_root, one_root, one_key_good}
 use Rattle.ist_build.proofs.root.small_root.Goals as goal
 
@@ -11,11 +11,10 @@ returns-then-keys-eq0-clause-root c =
     c.if-keys-eq0.true c.to_word.ensures.value _
 
 pub to_word-requires-2 : goal.to_word-requires-2
-to_word-requires-2 c =
-    record {
-      good = one_key_good _ c.know.ensures.sound c.args.target c.args.keys _ c.requires.finished.0
-          c.if-keys-eq0.false c.leaf_base-base.ensures.leaf;
-    }
+to_word-requires-2 c = record {
+  good = one_key_good _ c.know.ensures.sound c.args.target c.args.keys _ c.requires.finished.0
+      c.if-keys-eq0.false c.leaf_base-base.ensures.leaf;
+}
 
 pub returns-clause-root : goal.returns-clause-root
 returns-clause-root c =

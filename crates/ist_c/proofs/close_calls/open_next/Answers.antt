@@ -8,8 +8,7 @@ pub returns-in-Ok : goal.returns-in-Ok
 returns-in-Ok c = record { opens = opens_owner c.in-Ok.owner c.in-Ok.ensures.new c.in-Ok.ensures.number }
 
 pub returns-in-Err : goal.returns-in-Err
-returns-in-Err c =
-    record {
-      opens = subst (OpensInHandle c.args.closed c.args.words c.args.number (of.Closed c.args.closed)) (sym c.status_for.ensures.value)
-          (opens_none c.in-Err.fault c.requires.within c.in-Err.ensures.fault);
-    }
+returns-in-Err c = record {
+  opens = subst (OpensInHandle c.args.closed c.args.words c.args.number (of.Closed c.args.closed)) (sym c.status_for.ensures.value)
+      (opens_none c.in-Err.fault c.requires.within c.in-Err.ensures.fault);
+}

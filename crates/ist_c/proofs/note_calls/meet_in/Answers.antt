@@ -1,7 +1,7 @@
 -- A pass has learnt what the note holds; else both are as they were.
 use Rattle.std.proofs.Common.{ap, sym, rules, ◌∙◌}
 use Rattle.ist_c.proofs.KindLemmas.{no_some, number}
-use Rattle.ist_c.proofs.NoteLemmas.{met_one, met_by_none, met_nothing, met_other, met_not}
+use Rattle.ist_c.proofs.PassLemmas.{met_one, met_by_none, met_nothing, met_other, met_not}
 use Rattle.ist_c.proofs.note_calls.meet_in.Goals as goal
 
 pub returns-then-deref : goal.returns-then-deref

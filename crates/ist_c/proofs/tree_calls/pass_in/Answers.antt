@@ -5,19 +5,17 @@ use Rattle.ist_c.proofs.PassLemmas.{made_one, made_none}
 use Rattle.ist_c.proofs.tree_calls.pass_in.Goals as goal
 
 pub returns-in-Ok-pass : goal.returns-in-Ok-pass
-returns-in-Ok-pass c =
-    let e = c.in-Ok-pass.ensures in
-    record {
-      makes = made_one c.args.held.now c.in-Owner.owner c.pass.new.self c.in-Ok-pass.pass c.args.out.now
-          c.of.result c.in-Owner.is (record {
-            same_tree = e.tree;
-            its_tree = e.its_tree;
-            number = e.number;
-            no_calls = e.no_calls;
-            made = e.made;
-            taken = e.taken;
-          }) c.if-out.false c.of.ensures.full (search rules);
-    }
+returns-in-Ok-pass c = let e = c.in-Ok-pass.ensures in record {
+  makes = made_one c.args.held.now c.in-Owner.owner c.pass.new.self c.in-Ok-pass.pass c.args.out.now
+      c.of.result c.in-Owner.is (record {
+        same_tree = e.tree;
+        its_tree = e.its_tree;
+        number = e.number;
+        no_calls = e.no_calls;
+        made = e.made;
+        taken = e.taken;
+      }) c.if-out.false c.of.ensures.full (search rules);
+}
 
 pub returns-in-Ok : goal.returns-in-Ok
 returns-in-Ok c = record {

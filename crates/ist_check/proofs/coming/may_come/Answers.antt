@@ -1,9 +1,9 @@
 use Rattle.std.proofs.Common.{◌∙◌, sym, ap}
 use Rattle.std.proofs.lemmas.Result.{IfOk-weaker}
 use Rattle.ist_core.specs.declared.events.Event.TheVariants.{Install}
-use Rattle.ist_core.specs.StartLayout.{start}
-use Rattle.check_state.proofs.StayingLemmas.{keys_stay}
-use Rattle.ist_check.proofs.KindLemmas.{enabled_by, of_build}
+use Rattle.ist_core.specs.WordTerms.{start}
+use Rattle.check_state.proofs.WayTableLemmas.{keys_stay}
+use Rattle.ist_check.proofs.StandingLemmas.{enabled_by, of_build}
 use Rattle.ist_check.proofs.coming.may_come.Goals as goal
 
 pub returns-in-Enter : goal.returns-in-Enter
@@ -22,12 +22,10 @@ returns-in-Install c = record {
 }
 
 pub returns-in_default : goal.returns-in_default
-returns-in_default c =
-    let o = c.in_default in
-    record {
-      exact = IfOk-weaker c.may_build.result _ _
-          (λ may exact pairs words log knows. exact pairs words log knows
-          (of_build c.args.event.now o.not-Enter o.not-Reserve o.not-Install o.not-Okay o.not-Decide
-          o.not-Resolve o.not-Count o.not-Mark o.not-Pass o.not-Finish))
-          c.may_build.ensures.exact;
-    }
+returns-in_default c = let o = c.in_default in record {
+  exact = IfOk-weaker c.may_build.result _ _
+      (λ may exact pairs words log knows. exact pairs words log knows
+      (of_build c.args.event.now o.not-Enter o.not-Reserve o.not-Install o.not-Okay o.not-Decide
+      o.not-Resolve o.not-Count o.not-Mark o.not-Pass o.not-Finish))
+      c.may_build.ensures.exact;
+}

@@ -1,8 +1,7 @@
 use Rattle.std.proofs.Common.{◌∙◌, sym, ap}
 use Rattle.std.proofs.lemmas.Result.{IfOk-weaker}
 use Rattle.ist_core.specs.declared.events.Event.TheVariants.{Root, Place, Lose}
-use Rattle.ist_check.proofs.KindLemmas.{tells_by}
-use Rattle.ist_check.proofs.StandingLemmas.{held_are_free}
+use Rattle.ist_check.proofs.StandingLemmas.{tells_by, held_are_free}
 use Rattle.ist_check.proofs.failing.build_fails.Goals as goal
 
 pub returns-in-Root : goal.returns-in-Root
@@ -19,13 +18,11 @@ returns-in-Draw c = record {
 }
 
 pub returns-in-Place : goal.returns-in-Place
-returns-in-Place c =
-    let i = c.in-Place in
-    record {
-      exact = IfOk-weaker c.place_fails.result _ _ (λ fails exact p w l k build. tells_by p w l
-          (ap (Place i.caller i.rebuild i.part i.word) c.as_slice-rows-in-Place.ensures.value ∙ sym i.is)
-          fails (exact _ k.mirrors (held_are_free p w l k.lawful) k.remembers.leaves)) c.place_fails.ensures.exact;
-    }
+returns-in-Place c = let i = c.in-Place in record {
+  exact = IfOk-weaker c.place_fails.result _ _ (λ fails exact p w l k build. tells_by p w l
+      (ap (Place i.caller i.rebuild i.part i.word) c.as_slice-rows-in-Place.ensures.value ∙ sym i.is)
+      fails (exact _ k.mirrors (held_are_free p w l k.lawful) k.remembers.leaves)) c.place_fails.ensures.exact;
+}
 
 pub returns-in-Lose : goal.returns-in-Lose
 returns-in-Lose c = record {

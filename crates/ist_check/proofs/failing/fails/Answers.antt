@@ -1,10 +1,10 @@
 use Rattle.std.proofs.Common.{◌∙◌, sym, ap}
 use Rattle.std.proofs.lemmas.Result.{IfOk-weaker}
 use Rattle.ist_core.specs.declared.events.Event.TheVariants.{Install}
-use Rattle.ist_core.specs.StartLayout.{start}
-use Rattle.ist_core.specs.Lawful.{state_of}
-use Rattle.check_state.proofs.StayingLemmas.{keys_stay}
-use Rattle.ist_check.proofs.KindLemmas.{of_build, tells_by}
+use Rattle.ist_core.specs.WordTerms.{start}
+use Rattle.ist_core.specs.LogTerms.{state_of}
+use Rattle.check_state.proofs.WayTableLemmas.{keys_stay}
+use Rattle.ist_check.proofs.StandingLemmas.{of_build, tells_by}
 use Rattle.ist_check.proofs.failing.fails.Goals as goal
 
 pub returns-in-Enter : goal.returns-in-Enter
@@ -77,12 +77,10 @@ returns-in-Finish c = record {
 }
 
 pub returns-in_default : goal.returns-in_default
-returns-in_default c =
-    let o = c.in_default in
-    record {
-      exact = IfOk-weaker c.build_fails.result _ _
-          (λ fails exact pairs words log knows. exact pairs words log knows
-          (of_build c.args.event.now o.not-Enter o.not-Reserve o.not-Install o.not-Okay o.not-Decide
-          o.not-Resolve o.not-Count o.not-Mark o.not-Pass o.not-Finish))
-          c.build_fails.ensures.exact;
-    }
+returns-in_default c = let o = c.in_default in record {
+  exact = IfOk-weaker c.build_fails.result _ _
+      (λ fails exact pairs words log knows. exact pairs words log knows
+      (of_build c.args.event.now o.not-Enter o.not-Reserve o.not-Install o.not-Okay o.not-Decide
+      o.not-Resolve o.not-Count o.not-Mark o.not-Pass o.not-Finish))
+      c.build_fails.ensures.exact;
+}

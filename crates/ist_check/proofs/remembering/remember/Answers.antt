@@ -1,12 +1,11 @@
 use Rattle.std.proofs.Common.{◌∷◌}
 use Rattle.std.proofs.lemmas.Result.{on_ok_weaker}
-use Rattle.ist_core.specs.Lawful.{state_of}
+use Rattle.ist_core.specs.LogTerms.{state_of}
 use Rattle.ist_core.proofs.FrozenLemmas as frozen
 use Rattle.ist_check.proofs.remembering.remember.Goals as goal
 
 pub returns-clause-exact : goal.returns-clause-exact
-returns-clause-exact c =
-    on_ok_weaker c.remember_build.result
+returns-clause-exact c = on_ok_weaker c.remember_build.result
     (λ builds pairs words log law mirrors past.
     record {
       okayed = c.in_ok-remember_okay.ensures.exact log past.okayed;

@@ -1,5 +1,5 @@
 use Rattle.std.proofs.Common.{◌≤◌}
-use Rattle.ist_core.specs.Shapes.{share_from}
+use Rattle.ist_core.specs.WordTerms.{share_from}
 use Rattle.check_fairness.proofs.AnswerLemmas.{iff_trans, never}
 use Rattle.ist_check.proofs.FinishedLemmas.{finished_so, shared_from, unfinished}
 use Rattle.ist_check.proofs.single.is_shared.Goals as goal

@@ -1,5 +1,5 @@
 use Rattle.std.proofs.Common.{refl}
-use Rattle.ist_core.specs.References.{ref_of}
+use Rattle.ist_core.specs.WordTerms.{ref_of}
 use Rattle.ist_core.proofs.examples.a_change_is_read.Goals as goal
 
 pub returns-clause-undecided : goal.returns-clause-undecided

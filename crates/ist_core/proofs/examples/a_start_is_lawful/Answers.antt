@@ -1,5 +1,5 @@
 use Rattle.std.proofs.Common.{refl}
-use Rattle.ist_core.specs.References.{ref_of}
+use Rattle.ist_core.specs.WordTerms.{ref_of}
 use Rattle.ist_core.proofs.StartExampleLemmas.{start_is_lawful}
 use Rattle.ist_core.proofs.examples.a_start_is_lawful.Goals as goal
 

@@ -1,4 +1,4 @@
-use Rattle.ist_core.proofs.LeafLemmas as leaves
+use Rattle.ist_core.proofs.UnderLemmas as leaves
 use Rattle.ist_core.proofs.laws.contents_are_one.Goals as goal
 
 pub returns : goal.returns

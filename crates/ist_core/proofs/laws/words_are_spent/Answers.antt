@@ -1,4 +1,4 @@
-use Rattle.ist_core.proofs.SpendingLemmas as spending
+use Rattle.ist_core.proofs.HoldingLemmas as spending
 use Rattle.ist_core.proofs.laws.words_are_spent.Goals as goal
 
 pub returns : goal.returns

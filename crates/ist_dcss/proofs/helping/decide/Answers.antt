@@ -1,7 +1,6 @@
 use Rattle.std.proofs.Common.{◌∙◌, ap, arith}
 use Rattle.ist_rule.specs.declared.view.View.{View}
-use Rattle.ist_rule.proofs.KnownPlaceLemmas.{known_low}
-use Rattle.ist_rule.proofs.KeptSearchLemmas.{keeps_more, exchanged_keeps, loaded_as_keeps}
+use Rattle.ist_rule.proofs.ExchangeLemmas.{known_low, keeps_more, exchanged_keeps, loaded_as_keeps}
 use Rattle.ist_dcss.proofs.DecidedLemmas.{helper_can_decide, helper_decided}
 use Rattle.ist_dcss.proofs.DecideLemmas.{may_decide}
 use Rattle.ist_dcss.proofs.helping.decide.Goals as goal
@@ -15,8 +14,7 @@ exchange-stood-requires c =
     c.know.ensures.sound in
     let low = known_low _ _ c.know.ensures.sound can.known in
     let here = ap (λ (v : View). v.table) it.went.same ∙ c.requires.same_table in
-    let same = ap (λ t. t.words) here in
-    (here, (omega arith, can))
+    let same = ap (λ t. t.words) here in (here, (omega arith, can))
 
 -- the caller served the change, which has the decision that is returned
 pub returns : goal.returns

@@ -1,5 +1,5 @@
 use Rattle.std.specs.Prelude.{◌/◌}
-use Rattle.ist_core.specs.References.{tag_count}
+use Rattle.ist_core.specs.WordTerms.{tag_count}
 use Rattle.ist_dcss.specs.HelpEvents.{resolving}
 use Rattle.ist_dcss.proofs.helping.resolve.Given as goal
 

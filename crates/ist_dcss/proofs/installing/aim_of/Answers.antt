@@ -1,8 +1,8 @@
 use Rattle.std.proofs.Common.{ap, ◌∙◌, arith}
 use Rattle.ist_rule.specs.declared.view.View.{View}
-use Rattle.ist_rule.proofs.GoingOnLemmas.{goes_on_more}
+use Rattle.ist_rule.proofs.EventLemmas.{goes_on_more}
 use Rattle.ist_dcss.proofs.InstallLemmas.{filled, filled_on}
-use Rattle.ist_dcss.proofs.InstalledLemmas.{has_loaded, loaded_slot, aimed}
+use Rattle.ist_dcss.proofs.CallingLemmas.{has_loaded, loaded_slot, aimed}
 use Rattle.ist_dcss.proofs.installing.aim_of.Goals as goal
 
 -- the row is filled
@@ -11,8 +11,7 @@ own_word-node-requires g c = (c.requires.0, (filled _ c.args.change g.filling c.
 
 -- the row is still filled
 pub own_word-index-requires : goal.own_word-index-requires
-own_word-index-requires g c =
-    let seen = c.own_word-node.ensures.seen in
+own_word-index-requires g c = let seen = c.own_word-node.ensures.seen in
     let still = filled_on _ _ seen c.args.change _ (filled _ _ g.filling c.requires.1) in
     (ap (λ (v : View). v.table) seen.same ∙ c.requires.0, (still, omega arith))
 

@@ -1,4 +1,4 @@
-use Rattle.ist_core.specs.Pieces.{Change, words_of}
+use Rattle.ist_core.specs.WordTerms.{Change, words_of}
 use Rattle.ist_dcss.proofs.installing.aim_of.Given as goal
 
 -- the words are the words of the change's row

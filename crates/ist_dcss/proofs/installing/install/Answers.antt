@@ -1,17 +1,16 @@
 use Rattle.std.proofs.Common.{◌∙◌, ap, arith}
 use Rattle.ist_rule.specs.declared.view.View.{View}
-use Rattle.ist_rule.proofs.KnownPlaceLemmas.{known_low}
+use Rattle.ist_rule.proofs.ExchangeLemmas.{known_low}
 use Rattle.ist_dcss.proofs.InstallLemmas.{filled}
-use Rattle.ist_dcss.proofs.InstalledLemmas.{good_held, may_exchange, aimed_yes, aimed_other}
+use Rattle.ist_dcss.proofs.CallingLemmas.{good_held, may_exchange, aimed_yes, aimed_other}
 use Rattle.ist_dcss.proofs.installing.install.Goals as goal
 
 -- the change lies at a good base
 pub to_word-word-requires : goal.to_word-word-requires
-to_word-word-requires g c =
-    record {
-      good = good_held _ c.know.ensures.sound c.args.change _
-          (filled _ c.args.change g.filling c.requires.1) (omega arith);
-    }
+to_word-word-requires g c = record {
+  good = good_held _ c.know.ensures.sound c.args.change _
+      (filled _ c.args.change g.filling c.requires.1) (omega arith);
+}
 
 -- the change may be installed
 pub exchange-found-requires : goal.exchange-found-requires
@@ -21,8 +20,7 @@ exchange-found-requires g c =
     let low = known_low _ _ c.know-2.ensures.sound can.known in
     let known = c.know-2.ensures.words in
     let here = ap (λ (v : View). v.table) c.aim_of-place.ensures.aimed.seen.same ∙ c.requires.0 in
-    let same = ap (λ t. t.words) here in
-    (here, (omega arith, can))
+    let same = ap (λ t. t.words) here in (here, (omega arith, can))
 
 -- if the slot held the word, the change is installed
 pub returns-then-found-from-clause-yes : goal.returns-then-found-from-clause-yes

@@ -1,5 +1,5 @@
 use Rattle.std.specs.Prelude.{◌/◌}
-use Rattle.ist_core.specs.References.{tag_count}
+use Rattle.ist_core.specs.WordTerms.{tag_count}
 use Rattle.ist_dcss.specs.HelpEvents.{installing}
 use Rattle.ist_dcss.proofs.installing.install.Given as goal
 

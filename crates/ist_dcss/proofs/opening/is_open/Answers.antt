@@ -1,9 +1,9 @@
 use Rattle.std.proofs.Common.{sym, ap, ◌∙◌, eq-eqb, arith}
 use Rattle.std.proofs.lemmas.Bool.{eqb-true}
-use Rattle.ist_core.specs.Writing.{place_of_status}
-use Rattle.ist_rule.proofs.GoingOnLemmas.{looked_goes_on}
+use Rattle.ist_core.specs.TreeTerms.{place_of_status}
+use Rattle.ist_rule.proofs.EventLemmas.{looked_goes_on}
 use Rattle.ist_dcss.proofs.CallingLemmas.{open_unrefused}
-use Rattle.ist_dcss.proofs.OpeningLemmas.{status_low, status_off, shows_open, open_shows}
+use Rattle.ist_dcss.proofs.DecideLemmas.{status_low, status_off, shows_open, open_shows}
 use Rattle.ist_dcss.proofs.opening.is_open.Goals as goal
 
 -- the status lies within the table
@@ -11,13 +11,11 @@ pub load-requires-clause-within : goal.load-requires-clause-within
 load-requires-clause-within c =
     let low = status_low _ c.know.ensures.sound c.args.node c.requires.node in
     let at = c.status_place.ensures.value ∙ ap place_of_status c.from.ensures in
-    let same = ap (λ t. t.words) c.requires.same_table in
-    omega arith
+    let same = ap (λ t. t.words) c.requires.same_table in omega arith
 
 -- and isn't the anchor's slot
 pub load-requires-clause-no_walk : goal.load-requires-clause-no_walk
-load-requires-clause-no_walk c at =
-    status_off _ c.know.ensures.sound c.args.node c.requires.node
+load-requires-clause-no_walk c at = status_off _ c.know.ensures.sound c.args.node c.requires.node
     (sym (c.status_place.ensures.value ∙ ap place_of_status c.from.ensures) ∙ at)
 
 -- a load was made
@@ -26,8 +24,7 @@ returns-clause-seen c = looked_goes_on _ _ _ _ c.load.ensures.looked
 
 -- the word is the open word if the node is open
 pub returns-clause-open : goal.returns-clause-open
-returns-clause-open c =
-    let at = c.status_place.ensures.value ∙ ap place_of_status c.from.ensures in
+returns-clause-open c = let at = c.status_place.ensures.value ∙ ap place_of_status c.from.ensures in
     let looked = c.load.ensures.looked in (
       λ t. shows_open _ c.know.ensures.sound c.args.node _ _ _ looked c.requires.node at
           (eqb-true _ _ t ∙ c.to_word.ensures.value),

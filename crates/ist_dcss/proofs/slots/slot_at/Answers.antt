@@ -1,5 +1,5 @@
 use Rattle.std.proofs.Common.{◌∙◌, sym, ap, arith}
-use Rattle.ist_rule.proofs.GoingOnLemmas.{goes_on_same, looked_goes_on}
+use Rattle.ist_rule.proofs.EventLemmas.{goes_on_same, looked_goes_on}
 use Rattle.ist_dcss.proofs.FieldLemmas.{HasPlace, has_place, tells_slot}
 use Rattle.ist_dcss.proofs.slots.slot_at.Goals as goal
 use Rattle.ist_dcss.proofs.slots.slot_at.Goals.{Else-node-from}
@@ -17,8 +17,7 @@ pub overflow_add-node : goal.overflow_add-node
 overflow_add-node c = record { fits = omega (arith, here (goal.at.overflow_add-node c).Else-node-from) }
 
 pub load-degree-requires : goal.load-degree-requires
-load-degree-requires c =
-    let k = here (goal.at.load-degree-requires c).Else-node-from in
+load-degree-requires c = let k = here (goal.at.load-degree-requires c).Else-node-from in
     let same = ap (λ t. t.words) c.requires.same_table in
     record { same_table = c.requires.same_table; within = omega arith; no_walk = omega arith }
 
@@ -27,8 +26,7 @@ overflow_cast-node c = record { fits = omega (arith, here (goal.at.overflow_cast
 
 -- the index is below the degree
 pub slot_place-requires : goal.slot_place-requires
-slot_place-requires c =
-    let k = here (goal.at.slot_place-requires c).Else-node-from in
+slot_place-requires c = let k = here (goal.at.slot_place-requires c).Else-node-from in
     let t = tells_slot _ _ _ k _ _ c.load-degree.ensures.looked in
     record { within = t.index_low; fits = t.degree_low }
 

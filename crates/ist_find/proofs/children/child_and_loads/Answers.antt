@@ -1,6 +1,6 @@
 use Rattle.std.proofs.Common.{rules}
-use Rattle.ist_rule.proofs.GoingOnLemmas.{goes_on_more}
-use Rattle.ist_find.proofs.RowLemmas.{row_on}
+use Rattle.ist_rule.proofs.EventLemmas.{goes_on_more}
+use Rattle.ist_find.proofs.LoadLemmas.{row_on}
 use Rattle.ist_find.proofs.SpanLemmas.{child_on}
 use Rattle.ist_find.proofs.children.child_and_loads.Goals as goal
 

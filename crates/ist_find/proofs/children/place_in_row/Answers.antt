@@ -1,6 +1,6 @@
 use Rattle.std.proofs.Common.{arith, rules}
-use Rattle.ist_rule.proofs.GoingOnLemmas.{goes_on_more}
-use Rattle.ist_find.proofs.RowLemmas.{row_on, count_on, distance_on}
+use Rattle.ist_rule.proofs.EventLemmas.{goes_on_more}
+use Rattle.ist_find.proofs.LoadLemmas.{row_on, count_on, distance_on}
 use Rattle.ist_find.proofs.PlaceLemmas.{row_at}
 use Rattle.ist_find.proofs.children.place_in_row.Goals as goal
 
@@ -27,12 +27,10 @@ pub returns-clause-loads : goal.returns-clause-loads
 returns-clause-loads c =
     let same = distance_on _ _ c.key_count-count.ensures.seen c.args.node c.requires.row.0 c.args.key
     c.child_for-index.result.value in
-    let more = c.child_for-index.ensures.finds.few in
-    omega arith
+    let more = c.child_for-index.ensures.finds.few in omega arith
 
 pub returns-clause-loads_far : goal.returns-clause-loads_far
 returns-clause-loads_far c k less =
     let same = distance_on _ _ c.key_count-count.ensures.seen c.args.node c.requires.row.0 c.args.key
     c.child_for-index.result.value in
-    let more = c.child_for-index.ensures.finds.far k (omega arith) in
-    omega arith
+    let more = c.child_for-index.ensures.finds.far k (omega arith) in omega arith

@@ -1,7 +1,7 @@
 use Rattle.std.proofs.Common.{[], ap, arith, rules}
 use Rattle.ist_layout.specs.Meanings.{ref_meant}
 use Rattle.ist_find.proofs.SearchLemmas.{begun_comes}
-use Rattle.ist_find.proofs.SearchTurnLemmas.{fewer_left, search_begins, search_came, search_rises, search_goes_on, search_ends}
+use Rattle.ist_find.proofs.EdgeLemmas.{fewer_left, search_begins, search_came, search_rises, search_goes_on, search_ends}
 use Rattle.ist_find.proofs.finding.find_and_loads.Goals as goal
 
 -- the search begins at the anchor
@@ -33,7 +33,6 @@ loop-look-preserved c =
 
 -- what was found
 pub returns : goal.returns
-returns c =
-    let value = c.value_in-value.ensures in
+returns c = let value = c.value_in-value.ensures in
     let e = search_ends _ _ _ _ _ _ _ c.loop-look.invariant _ _ c.know-2.ensures.sound value.value (omega arith) in
     record { seen = e.0; value = e.1; found = e.2; linked = e.3; index = e.4; loads = e.5; counted = omega arith }

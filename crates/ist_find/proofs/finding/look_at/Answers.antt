@@ -8,8 +8,7 @@ read_child-requires-clause-node c =
 
 -- what was read there is a look of the search
 pub returns : goal.returns
-returns c =
-    record {
-      looked = looks_at_child _ _ c.args.node c.args.key _ _ _ c.requires.come.0
-          c.read_child.ensures.read;
-    }
+returns c = record {
+  looked = looks_at_child _ _ c.args.node c.args.key _ _ _ c.requires.come.0
+      c.read_child.ensures.read;
+}

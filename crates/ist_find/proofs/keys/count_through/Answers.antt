@@ -8,11 +8,8 @@ loop-j-init c = none_counted _ c.know.ensures.sound c.args.node c.requires.row.0
 
 -- the loaded key is counted if it is at most the key
 pub loop-j-preserved : goal.loop-j-preserved
-loop-j-preserved c =
-    let h = c.loop-j.invariant in
-    let k = c.key_at.ensures in
-    let count = c.requires.count in
-    let less = c.loop-j-test.true in
+loop-j-preserved c = let h = c.loop-j.invariant in let k = c.key_at.ensures in
+    let count = c.requires.count in let less = c.loop-j-test.true in
     elim c.if-key_at-key.branch [
       | then-key_at-key w ↦ subst
           (HasCountedKeys c.args.token.now.view c.key_at.new.token.view c.args.node

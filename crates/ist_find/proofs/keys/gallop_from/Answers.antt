@@ -4,9 +4,7 @@ use Rattle.ist_find.proofs.keys.gallop_from.Goals as goal
 
 -- the look at the guess was the first
 pub loop-gallop-init : goal.loop-gallop-init
-loop-gallop-init c =
-    let k = c.key_at.ensures in
-    let b = c.begin-gallop.ensures in
+loop-gallop-init c = let k = c.key_at.ensures in let b = c.begin-gallop.ensures in
     run_begins _ _ c.know.ensures.sound c.args.node c.args.from c.args.key _ c.key_at.result
     c.requires.row.0 k.seen k.loads k.value
     (subst (λ n. c.args.from < n) c.requires.count c.requires.within) c.requires.first
@@ -24,16 +22,13 @@ overflow_add-loads c =
 
 -- each look is one load
 pub loop-gallop-preserved : goal.loop-gallop-preserved
-loop-gallop-preserved c =
-    let k = c.key_at-in-loop-gallop.ensures in
-    let p = c.probe-at.ensures in
+loop-gallop-preserved c = let k = c.key_at-in-loop-gallop.ensures in let p = c.probe-at.ensures in
     let t = c.told-gallop.ensures in
     run_on _ _ _ _ _ _ _ _ _ _ _ c.loop-gallop.invariant k.seen k.loads k.value p.after_low p.before_high
     t.low t.high t.gallops
 
 pub returns : goal.returns
-returns c =
-    record {
-      finds = run_ends _ _ c.know.ensures.sound _ _ _ _ _ _ c.requires.row.0 c.loop-gallop.invariant
-          c.loop-gallop-test.ensures.exact c.requires.count c.requires.within;
-    }
+returns c = record {
+  finds = run_ends _ _ c.know.ensures.sound _ _ _ _ _ _ c.requires.row.0 c.loop-gallop.invariant
+      c.loop-gallop-test.ensures.exact c.requires.count c.requires.within;
+}

@@ -1,6 +1,6 @@
 use Rattle.std.proofs.Common.{◌+◌, ap, arith}
-use Rattle.ist_rule.proofs.GoingOnLemmas.{looked_goes_on}
-use Rattle.ist_find.proofs.RowLemmas.{may_load, knows_row, degree_told}
+use Rattle.ist_rule.proofs.EventLemmas.{looked_goes_on}
+use Rattle.ist_find.proofs.LoadLemmas.{may_load, knows_row, degree_told}
 use Rattle.ist_find.proofs.keys.key_count.Goals as goal
 
 -- the row lies within the table

@@ -1,6 +1,6 @@
 use Rattle.std.proofs.Common.{◌+◌, ◌∙◌, ap, arith}
-use Rattle.ist_rule.proofs.GoingOnLemmas.{looked_goes_on}
-use Rattle.ist_find.proofs.RowLemmas.{may_load}
+use Rattle.ist_rule.proofs.EventLemmas.{looked_goes_on}
+use Rattle.ist_find.proofs.LoadLemmas.{may_load}
 use Rattle.ist_find.proofs.ReadLemmas.{change_on, side_told}
 use Rattle.ist_find.proofs.reading.side.Goals as goal
 
@@ -12,8 +12,7 @@ load-decision-requires c =
     record { same_table = c.requires.row.1; within = may.0; no_walk = may.1 }
 
 pub load-requires : goal.load-requires
-load-requires c =
-    let g = looked_goes_on _ _ _ _ c.load-decision.ensures.looked in
+load-requires c = let g = looked_goes_on _ _ _ _ c.load-decision.ensures.looked in
     let r = change_on _ _ g c.args.base c.requires.row.0 in
     let same = ap (λ v. v.table) g.same ∙ c.requires.row.1 in
     let may = may_load c.know-2.ensures.sound c.know-2.ensures.words same c.args.base r.published
@@ -22,8 +21,7 @@ load-requires c =
 
 -- the loads show how the slot reads
 pub returns-clause-side : goal.returns-clause-side
-returns-clause-side c =
-    side_told _ _ _ c.args.word c.args.base _ _ _ _ c.requires.change
+returns-clause-side c = side_told _ _ _ c.args.word c.args.base _ _ _ _ c.requires.change
     c.requires.row.0 c.load-decision.ensures.looked (ap (λ n. n + 0) c.from.ensures)
     c.load.ensures.looked c.side_offset.result
     (ap (λ n. n + c.side_offset.result) c.from-2.ensures) c.side_offset.ensures.value

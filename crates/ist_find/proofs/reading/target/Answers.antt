@@ -1,7 +1,7 @@
 use Rattle.std.proofs.Common.{◌+◌, ◌<◌, ◌^◌, ap, arith}
-use Rattle.ist_core.specs.Pieces.{Inner}
+use Rattle.ist_core.specs.WordTerms.{Inner}
 use Rattle.ist_dcss.proofs.FieldLemmas.{row_low}
-use Rattle.ist_find.proofs.RowLemmas.{may_load}
+use Rattle.ist_find.proofs.LoadLemmas.{may_load}
 use Rattle.ist_find.proofs.ReadLemmas.{target_told}
 use Rattle.ist_find.proofs.reading.target.Goals as goal
 
@@ -20,9 +20,7 @@ overflow_cast-result c =
     let r = told.found in
     let low = row_low _ c.know-2.ensures.sound c.load-target.result (Inner r.row) r.published 0
     (omega arith) in
-    let place = low.0 in
-    let small = low.1 in
-    let h : c.load-target.result < 2 ^ 32 = omega arith in
+    let place = low.0 in let small = low.1 in let h : c.load-target.result < 2 ^ 32 = omega arith in
     record { fits = h }
 
 -- the load shows how the slot reads

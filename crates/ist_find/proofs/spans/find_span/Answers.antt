@@ -1,7 +1,6 @@
 use Rattle.std.proofs.Common.{ap, rules}
 use Rattle.ist_layout.specs.Meanings.{ref_meant}
-use Rattle.ist_find.proofs.SearchTurnLemmas.{fewer_left}
-use Rattle.ist_find.proofs.SpanTurnLemmas.{all_at_anchor, span_begins, span_came, span_rises, span_goes_on, span_ends}
+use Rattle.ist_find.proofs.EdgeLemmas.{fewer_left, all_at_anchor, span_begins, span_came, span_rises, span_goes_on, span_ends}
 use Rattle.ist_find.proofs.spans.find_span.Goals as goal
 
 -- the search for each key begins at the anchor
@@ -33,8 +32,6 @@ loop-look-preserved c =
 
 -- what each key has
 pub returns : goal.returns
-returns c =
-    let p = c.end_pair-pair.ensures in
-    let own = c.pair_within-its_pair.ensures in
+returns c = let p = c.end_pair-pair.ensures in let own = c.pair_within-its_pair.ensures in
     let e = span_ends _ _ _ _ _ _ _ _ c.loop-look.invariant _ _ _ p.values own.value c.requires.begun p.seen p.loads in
     record { seen = e.0; first = e.1; last = e.2; within = own.within; values = e.3; edges = e.4; loads = e.5 }

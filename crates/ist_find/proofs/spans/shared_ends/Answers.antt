@@ -1,6 +1,6 @@
 use Rattle.std.proofs.Common.{sym}
-use Rattle.ist_rule.proofs.GoingOnLemmas.{goes_on_same}
-use Rattle.ist_find.proofs.RowLemmas.{child_is}
+use Rattle.ist_rule.proofs.EventLemmas.{goes_on_same}
+use Rattle.ist_find.proofs.LoadLemmas.{child_is}
 use Rattle.ist_find.proofs.EdgeLemmas.{edges_on, edges_row}
 use Rattle.ist_find.proofs.SpanLemmas.{anchor_child, node_row, row_child}
 use Rattle.ist_find.proofs.spans.shared_ends.Goals as goal
@@ -30,9 +30,7 @@ returns-clause-share c k low high =
 
 -- they end at edges, as before or by keys of the row
 pub returns-clause-edges : goal.returns-clause-edges
-returns-clause-edges c =
-    let v = c.args.token.now.view in
-    let other = c.if-node-eq-ANCHOR.false in
+returns-clause-edges c = let v = c.args.token.now.view in let other = c.if-node-eq-ANCHOR.false in
     edges_on _ _ c.row_ends.ensures.seen _ _
     (edges_row v c.args.node (node_row v c.args.node other c.requires.node.0) c.args.ends.first
     c.args.ends.last _ _ c.requires.edges c.row_ends.ensures.low c.row_ends.ensures.high

@@ -1,8 +1,8 @@
 use Rattle.std.proofs.Common.{◌∙◌, ◌+◌, sym, ap, subst, arith}
 use Rattle.ist_layout.specs.Meanings.{ref_meant}
+use Rattle.ist_rule.specs.RuleTerms.{MayWalk}
 use Rattle.ist_rule.specs.declared.view.View.{View}
-use Rattle.ist_rule.proofs.GoingOnLemmas.{goes_on_more}
-use Rattle.ist_rule.specs.Conditions.{MayWalk}
+use Rattle.ist_rule.proofs.EventLemmas.{goes_on_more}
 use Rattle.ist_find.specs.Sweeps.{HasSwept, starting}
 use Rattle.ist_find.proofs.SlotEndLemmas.{not_inner, one_slot}
 use Rattle.ist_find.proofs.SlotSawLemmas.{led_node}
@@ -16,9 +16,7 @@ use Rattle.ist_find.proofs.sweeping.+sweeping.Goals as goal
 pub sweep_slot-sweep_below-requires : goal.sweep_slot-sweep_below-requires
 sweep_slot-sweep_below-requires t c =
     let below = c.requires.below.0.inner c.in-Inner.base (ap ref_meant c.in-Inner.is) in
-    let up = below.0 in
-    let falls = c.decreases in
-    let small = c.ranges.node.fits in
+    let up = below.0 in let falls = c.decreases in let small = c.ranges.node.fits in
     (omega arith, ((below.2, c.requires.below.1), (c.requires.some, λ is. absurd (below.1 is))))
 
 pub sweep_slot-returns-in-Inner-clause-swept : goal.sweep_slot-returns-in-Inner-clause-swept
@@ -54,8 +52,7 @@ sweep_below-slots-init t c = record {
 
 -- what the slot holds was led to
 pub sweep_below-sweep_slot-requires : goal.sweep_below-sweep_slot-requires
-sweep_below-sweep_slot-requires t c =
-    let falls = c.decreases in
+sweep_below-sweep_slot-requires t c = let falls = c.decreases in
     let small = c.ranges.node.fits in (
       omega arith,
       (
@@ -91,11 +88,8 @@ sweep_below-returns-then-read-last-clause-swept t c =
 
 -- or the next key begins the next slot
 pub sweep_below-slots-preserved : goal.sweep_below-slots-preserved
-sweep_below-slots-preserved t c =
-    let ends = c.read_from-read.ensures.read.ends in
-    let top = ends.top in
-    let other = c.if-read-last.false in
-    record {
+sweep_below-slots-preserved t c = let ends = c.read_from-read.ensures.read.ends in
+    let top = ends.top in let other = c.if-read-last.false in record {
       here = goes_on_after _ _ _ c.args.node c.args.first c.slots.from c.read_from-read.result.to c.args.last _ _ _
           _ _ _ c.slots.invariant.here c.read_from-read.ensures.read _ _ c.sweep_slot.ensures.seen
           c.in_ok-sweep_slot.ensures.swept (omega arith);

@@ -1,6 +1,6 @@
 use Rattle.std.proofs.Common.{◌≡◌, ◌+◌, ◌*◌, ◌-◌, ◌^◌}
-use Rattle.ist_core.specs.RowLayout.{anchor}
-use Rattle.ist_rule.specs.Conditions.{MayWalk}
+use Rattle.ist_core.specs.WordTerms.{anchor}
+use Rattle.ist_rule.specs.RuleTerms.{MayWalk}
 use Rattle.ist_find.specs.Sweeps.{starting}
 use Rattle.ist_find.specs.Turns.{HasSweptTo}
 use Rattle.ist_find.proofs.sweeping.+sweeping.Given as goal

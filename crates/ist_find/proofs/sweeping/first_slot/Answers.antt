@@ -1,4 +1,4 @@
-use Rattle.ist_rule.proofs.GoingOnLemmas.{goes_on_same}
+use Rattle.ist_rule.proofs.EventLemmas.{goes_on_same}
 use Rattle.std.proofs.Common.{arith}
 use Rattle.ist_find.proofs.PlaceLemmas.{anchor_at, few_to_start}
 use Rattle.ist_find.proofs.SpanLemmas.{node_row}
@@ -23,8 +23,7 @@ pub returns-clause-stays : goal.returns-clause-stays
 returns-clause-stays c is = absurd (c.if-node-eq-ANCHOR.false is)
 
 pub returns-clause-loads : goal.returns-clause-loads
-returns-clause-loads c =
-    let v = c.args.token.now.view in
+returns-clause-loads c = let v = c.args.token.now.view in
     let few = few_to_start v _ c.place_in_row.ensures.seen c.args.node c.args.key _ _
     c.place_in_row.result.loads c.if-node-eq-ANCHOR.false
     (node_row v c.args.node c.if-node-eq-ANCHOR.false c.requires.node.0) c.place_in_row.ensures.at

@@ -1,4 +1,4 @@
-use Rattle.ist_rule.specs.Conditions.{MayWalk}
+use Rattle.ist_rule.specs.RuleTerms.{MayWalk}
 use Rattle.ist_find.proofs.PlaceLemmas.{at_on, slot_read}
 use Rattle.ist_find.proofs.SlotEndLemmas.{slot_within}
 use Rattle.std.proofs.Common.{arith, subst, sym, rules}
@@ -21,8 +21,7 @@ pub read_slot-reference-requires-clause-within : goal.read_slot-reference-requir
 read_slot-reference-requires-clause-within c =
     let within = slot_within c.args.token.now.view c.args.node c.args.from c.args.place.index
     c.requires.at.0.child in
-    let long = c.requires.at.0.count_is in
-    omega arith
+    let long = c.requires.at.0.count_is in omega arith
 
 -- and a walk may begin still, if one is to begin
 pub read_slot-reference-requires-clause-top : goal.read_slot-reference-requires-clause-top
@@ -30,10 +29,7 @@ read_slot-reference-requires-clause-top c is =
     subst MayWalk (sym (c.slot_end-to.ensures.stays is)) (c.requires.top is)
 
 pub returns : goal.returns
-returns c =
-    let end = c.slot_end-to.ensures in
-    let it = c.read_slot-reference.ensures in
-    record {
-      read = slot_read _ _ _ end.seen it.seen end.loads it.loads c.args.node c.args.from _
-          c.args.last _ _ _ end.ends it.looked it.found;
-    }
+returns c = let end = c.slot_end-to.ensures in let it = c.read_slot-reference.ensures in record {
+  read = slot_read _ _ _ end.seen it.seen end.loads it.loads c.args.node c.args.from _
+      c.args.last _ _ _ end.ends it.looked it.found;
+}

@@ -1,6 +1,6 @@
 use Rattle.ist_math.proofs.ChildLemmas.{key_after_child}
-use Rattle.ist_rule.proofs.GoingOnLemmas.{goes_on_same}
-use Rattle.ist_find.proofs.RowLemmas.{keys_rise}
+use Rattle.ist_rule.proofs.EventLemmas.{goes_on_same}
+use Rattle.ist_find.proofs.LoadLemmas.{keys_rise}
 use Rattle.ist_find.proofs.SpanLemmas.{node_row, row_child}
 use Rattle.ist_find.proofs.SlotEndLemmas.{slot_within}
 use Rattle.ist_find.proofs.PlaceLemmas.{anchor_ends, keys_end}
@@ -17,11 +17,8 @@ returns-then-node-eq-ANCHOR-clause-ends c =
 
 -- another node is a row, whose keys rise
 pub last_of-requires : goal.last_of-requires
-last_of-requires c =
-    let v = c.args.token.now.view in
-    let other = c.if-node-eq-ANCHOR.false in
-    let row = node_row v c.args.node other c.requires.at.0.node_is in
-    record {
+last_of-requires c = let v = c.args.token.now.view in let other = c.if-node-eq-ANCHOR.false in
+    let row = node_row v c.args.node other c.requires.at.0.node_is in record {
       row = (row, c.requires.at.1);
       count = c.requires.at.0.count_is;
       within = slot_within v c.args.node c.args.from _ c.requires.at.0.child;

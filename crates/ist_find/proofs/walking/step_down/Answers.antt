@@ -3,16 +3,12 @@ use Rattle.ist_find.proofs.walking.step_down.Goals as goal
 
 -- the search has reached a node
 pub slot_for-child-requires-clause-node : goal.slot_for-child-requires-clause-node
-slot_for-child-requires-clause-node c =
-    let came = c.requires.come in
+slot_for-child-requires-clause-node c = let came = c.requires.come in
     (come_node _ c.know.ensures.sound c.args.key came.1.last c.args.node came.0 came.1.comes, c.requires.same_table)
 
 pub returns : goal.returns
-returns c =
-    let came = c.requires.come in
-    let g = c.slot_for-child.ensures.seen in
-    let index = c.slot_for-child.ensures.index in
-    let word = c.slot_for-child.ensures.word in
+returns c = let came = c.requires.come in let g = c.slot_for-child.ensures.seen in
+    let index = c.slot_for-child.ensures.index in let word = c.slot_for-child.ensures.word in
     record {
       index = index;
       word = word;

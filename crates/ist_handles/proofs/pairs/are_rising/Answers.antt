@@ -10,8 +10,7 @@ returns-then-pairs-at-clause-exact c rising =
     absurd (omega (arith, below, c.if-pairs-at.true))
 
 pub returns-clause-rising : goal.returns-clause-rising
-returns-clause-rising c is =
-    let end = c.loop-at-test.false in
+returns-clause-rising c is = let end = c.loop-at-test.false in
     rises_by_steps c.args.pairs.now (λ k within. c.loop-at.invariant k (omega (arith, within)))
 
 pub returns-clause-given : goal.returns-clause-given

@@ -1,5 +1,5 @@
 use Rattle.std.proofs.Common.{◌≡◌, drop}
-use Rattle.ist_core.specs.Map.{map_of, no_pairs, replay}
+use Rattle.ist_core.specs.TreeTerms.{map_of, no_pairs, replay}
 use Rattle.ist_handles.specs.Pairs.{puts_of}
 use Rattle.ist_handles.proofs.pairs.put_all.Given as goal
 

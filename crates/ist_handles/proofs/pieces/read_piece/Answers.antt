@@ -12,20 +12,17 @@ pub returns-then-last-first-clause-read : goal.returns-then-last-first-clause-re
 returns-then-last-first-clause-read c = read_not c.args.pass.now
 
 pub returns-then-last-first-clause-pairs : goal.returns-then-last-first-clause-pairs
-returns-then-last-first-clause-pairs c =
-    let e = c.last_piece-empty.ensures in
+returns-then-last-first-clause-pairs c = let e = c.last_piece-empty.ensures in
     piece_said (IsPiece _ _ _ _) _ _ _ c.args.room.now e.next e.count
     (piece_none c.args.pass.now c.args.first c.args.last (take 0 c.args.room.now) refl c.if-last-first.true)
 
 -- nothing was read yet
 pub pairs-init : goal.pairs-init
-pairs-init c =
-    let some = c.if-last-first.false in
-    record {
-      read = read_to_none c.args.pass.now c.args.first c.args.last (take 0 c.args.room.now) refl (omega arith);
-      free = c.requires.some;
-      room = refl;
-    }
+pairs-init c = let some = c.if-last-first.false in record {
+  read = read_to_none c.args.pass.now c.args.first c.args.last (take 0 c.args.room.now) refl (omega arith);
+  free = c.requires.some;
+  room = refl;
+}
 
 -- there is no pair from there on
 pub returns-in_default-clause-read : goal.returns-in_default-clause-read
@@ -33,8 +30,7 @@ returns-in_default-clause-read c =
     read_on _ _ _ _ _ _ _ c.pairs.invariant.read c.at_least.ensures.read
 
 pub returns-in_default-clause-pairs : goal.returns-in_default-clause-pairs
-returns-in_default-clause-pairs c =
-    let fits = c.ranges.last.fits in
+returns-in_default-clause-pairs c = let fits = c.ranges.last.fits in
     let e = c.last_piece-rest.ensures in
     piece_said (IsPiece _ _ _ _) _ _ _ c.pairs.room e.next e.count
     (piece_ends _ _ _ _ _ _ _ c.pairs.invariant.read c.at_least.ensures.read
@@ -46,8 +42,7 @@ returns-then-last-pair-clause-read c =
     read_on _ _ _ _ _ _ _ c.pairs.invariant.read c.at_least.ensures.read
 
 pub returns-then-last-pair-clause-pairs : goal.returns-then-last-pair-clause-pairs
-returns-then-last-pair-clause-pairs c =
-    let far = c.if-last-pair.true in
+returns-then-last-pair-clause-pairs c = let far = c.if-last-pair.true in
     let e = c.last_piece-below.ensures in
     piece_said (IsPiece _ _ _ _) _ _ _ c.pairs.room e.next e.count
     (piece_ends _ _ _ _ _ _ _ c.pairs.invariant.read c.at_least.ensures.read
@@ -59,8 +54,7 @@ returns-then-pair-last-clause-read c =
     read_on _ _ _ _ _ _ _ c.pairs.invariant.read c.at_least.ensures.read
 
 pub returns-then-pair-last-clause-pairs : goal.returns-then-pair-last-clause-pairs
-returns-then-pair-last-clause-pairs c =
-    let e = c.last_piece-whole.ensures in
+returns-then-pair-last-clause-pairs c = let e = c.last_piece-whole.ensures in
     piece_said (IsPiece _ _ _ _) _ _ _ _ e.next e.count
     (piece_full _ _ _ _ _ _ _ c.pairs.invariant.read c.at_least.ensures.read c.in-Some.pair
     c.in-Some.ensures.next _ (take_more_set c.pairs.room c.pairs.count _ c.pairs.invariant.free)
@@ -72,21 +66,16 @@ returns-then-count-room-clause-read c =
     read_on _ _ _ _ _ _ _ c.pairs.invariant.read c.at_least.ensures.read
 
 pub returns-then-count-room-clause-pairs : goal.returns-then-count-room-clause-pairs
-returns-then-count-room-clause-pairs c =
-    let near = c.if-last-pair.false in
-    let other = c.if-pair-last.false in
-    let e = c.next_piece-part.ensures in
+returns-then-count-room-clause-pairs c = let near = c.if-last-pair.false in
+    let other = c.if-pair-last.false in let e = c.next_piece-part.ensures in
     piece_said (IsPiece _ _ _ _) _ _ _ _ e.next e.count
     (piece_goes_on _ _ _ _ _ _ _ c.pairs.invariant.read c.at_least.ensures.read c.in-Some.pair
     c.in-Some.ensures.next _ (take_more_set c.pairs.room c.pairs.count _ c.pairs.invariant.free) (omega arith))
 
 -- it goes on after the pair
 pub pairs-preserved : goal.pairs-preserved
-pairs-preserved c =
-    let near = c.if-last-pair.false in
-    let other = c.if-pair-last.false in
-    let same = length-set c.pairs.room c.pairs.count _ in
-    record {
+pairs-preserved c = let near = c.if-last-pair.false in let other = c.if-pair-last.false in
+    let same = length-set c.pairs.room c.pairs.count _ in record {
       read = read_to_more _ _ _ _ _ _ _ c.pairs.invariant.read c.at_least.ensures.read c.in-Some.pair
           c.in-Some.ensures.next _ (take_more_set c.pairs.room c.pairs.count _ c.pairs.invariant.free)
           (omega arith);

@@ -1,6 +1,5 @@
 use Rattle.std.proofs.Common.{◌∙◌, ◌+◌, ℕ, ap, arith, sym, refl, length}
-use Rattle.ist_core.specs.Arithmetic.{degree}
-use Rattle.ist_core.specs.Shapes.{ideal_words}
+use Rattle.ist_core.specs.WordTerms.{degree, ideal_words}
 use Rattle.ist_image.specs.Placing.{part_base}
 use Rattle.ist_image.proofs.PlacingSizeLemmas.{PartLies, part_lies, part_start-first, last_end}
 use Rattle.ist_image.proofs.PlacedLemmas.{part_put, none_set, all_left, head_set}
@@ -11,14 +10,11 @@ use Rattle.ist_image.proofs.laying.+laying.Goals as goal
 
 -- the first part begins after the row
 pub put_parts-first_base-at-requires : goal.put_parts-first_base-at-requires
-put_parts-first_base-at-requires t c =
-    let same = ap ideal_words c.requires.cut in
-    let limit = c.requires.fits.below_limit in
-    record { fits = omega arith }
+put_parts-first_base-at-requires t c = let same = ap ideal_words c.requires.cut in
+    let limit = c.requires.fits.below_limit in record { fits = omega arith }
 
 pub put_parts-loop-j-init : goal.put_parts-loop-j-init
-put_parts-loop-j-init t c =
-    let d = c.args.cut.now.degree ∙ ap degree c.requires.cut in
+put_parts-loop-j-init t c = let d = c.args.cut.now.degree ∙ ap degree c.requires.cut in
     let place = c.first_base-at.ensures.value ∙ ap (λ n. part_base c.args.base n 0) c.requires.cut in
     record {
       place = place;
@@ -38,8 +34,7 @@ part_here t c =
 
 pub put_parts-put_slot-requires : goal.put_parts-put_slot-requires
 put_parts-put_slot-requires t c =
-    let lies = part_here t (goal.at.put_parts-put_slot-requires t c).After-part-part in
-    record {
+    let lies = part_here t (goal.at.put_parts-put_slot-requires t c).After-part-part in record {
       within = c.loop-j-test.true;
       row = omega arith;
       few = lies.row;
@@ -55,21 +50,18 @@ put_parts-put_tree-at-requires t c =
 -- one slot and one part more
 pub put_parts-loop-j-preserved : goal.put_parts-loop-j-preserved
 put_parts-loop-j-preserved t c =
-    let lies = part_here t (goal.at.put_parts-loop-j-preserved t c).After-part-part in
-    record {
+    let lies = part_here t (goal.at.put_parts-loop-j-preserved t c).After-part-part in record {
       place = c.put_tree-at.ensures.end ∙ lies.next;
       start = c.part-part.ensures.part.next;
       left = part_put c.loop-j.words c.put_slot.new.words c.put_tree-at.new.words c.args.base c.args.cut.now.children
           c.loop-j.j c.loop-j.at c.put_tree-at.result c.args.pairs.now c.part-part.result.now
           (c.args.cut.now.degree ∙ ap degree c.requires.cut) lies.below lies.row c.loop-j.invariant.place
           c.part-part.ensures.part.is (c.put_slot.ensures.exact c.part-part.result.now refl)
-          c.put_tree-at.ensures.exact c.put_tree-at.ensures.end
-          ∙ c.loop-j.invariant.left;
+          c.put_tree-at.ensures.exact c.put_tree-at.ensures.end ∙ c.loop-j.invariant.left;
     }
 
 pub put_parts-returns-clause-exact : goal.put_parts-returns-clause-exact
-put_parts-returns-clause-exact t c =
-    let d = c.args.cut.now.degree ∙ ap degree c.requires.cut in
+put_parts-returns-clause-exact t c = let d = c.args.cut.now.degree ∙ ap degree c.requires.cut in
     sym (none_set c.loop-j.words c.args.base (c.args.base + 3 + c.args.cut.now.children + c.loop-j.j) c.loop-j.at c.loop-j.j
     c.args.pairs.now (omega (arith, d))) ∙ c.loop-j.invariant.left
 

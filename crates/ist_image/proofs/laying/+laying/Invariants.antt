@@ -1,6 +1,6 @@
 use Rattle.std.proofs.Common.{◌≡◌, ◌+◌, ◌*◌, length}
 use Rattle.std.proofs.lemmas.List.Edits.{sets}
-use Rattle.ist_core.specs.Arithmetic.{part_start}
+use Rattle.ist_core.specs.WordTerms.{part_start}
 use Rattle.ist_image.specs.Placing.{part_base, slot_base, slots_after, rows_after, row_words}
 use Rattle.ist_image.proofs.laying.+laying.Given as goal
 

@@ -24,8 +24,7 @@ pub returns-in-empty-clause-end : goal.returns-in-empty-clause-end
 returns-in-empty-clause-end c = none_end c.args.base (length c.args.pairs.now) c.in-empty.len_below
 
 pub returns-in-len1-up-clause-exact : goal.returns-in-len1-up-clause-exact
-returns-in-len1-up-clause-exact c =
-    let least = c.in-len1-up.len_at_least in
+returns-in-len1-up-clause-exact c = let least = c.in-len1-up.len_at_least in
     let few = c.requires.few in
     leaf_set c.args.words.now c.args.base c.args.pairs.now _ (omega arith)
 

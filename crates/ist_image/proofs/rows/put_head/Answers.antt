@@ -1,6 +1,6 @@
 use Rattle.std.proofs.Common.{◌+◌, ◌≤◌, arith, length}
 use Rattle.std.proofs.Math.ListN.{length-set}
-use Rattle.ist_core.specs.Arithmetic.{degree}
+use Rattle.ist_core.specs.WordTerms.{degree}
 use Rattle.ist_image.proofs.PlacingSizeLemmas.{head_fits}
 use Rattle.ist_image.proofs.rows.put_head.Goals.{Start}
 use Rattle.ist_image.proofs.rows.put_head.Goals as goal

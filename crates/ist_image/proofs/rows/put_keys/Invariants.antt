@@ -1,6 +1,6 @@
 use Rattle.std.proofs.Common.{◌≡◌, ◌+◌, ◌-◌}
 use Rattle.std.proofs.lemmas.List.Edits.{sets}
-use Rattle.ist_core.specs.Arithmetic.{part_start}
+use Rattle.ist_core.specs.WordTerms.{part_start}
 use Rattle.ist_image.specs.Placing.{keys_after}
 use Rattle.ist_image.proofs.rows.put_keys.Given as goal
 

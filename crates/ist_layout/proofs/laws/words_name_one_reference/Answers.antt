@@ -1,4 +1,4 @@
-use Rattle.ist_core.proofs.ReferenceLemmas.{ref_of-word_of, word_of-ref_of}
+use Rattle.ist_core.proofs.AllWordLemmas.{ref_of-word_of, word_of-ref_of}
 use Rattle.ist_layout.proofs.laws.words_name_one_reference.Goals as goal
 
 pub returns-clause-read_back : goal.returns-clause-read_back

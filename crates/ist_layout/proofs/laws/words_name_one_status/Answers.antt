@@ -1,4 +1,4 @@
-use Rattle.ist_core.proofs.StatusLemmas.{status_of-open, status_of-marked, status_of-finished_word, status_word-status_of}
+use Rattle.ist_core.proofs.AllWordLemmas.{status_of-open, status_of-marked, status_of-finished_word, status_word-status_of}
 use Rattle.ist_layout.proofs.laws.words_name_one_status.Goals as goal
 
 pub returns-clause-open : goal.returns-clause-open

@@ -18,16 +18,13 @@ returns-in-Some c =
 
 -- one without a pair, up to the end of all keys
 pub returns-then-to : goal.returns-then-to
-returns-then-to c =
-    let top = c.if-to.true in
+returns-then-to c = let top = c.if-to.true in
     let f = found_none_up _ _ _ c.args.key _ _ _ c.spans.invariant c.read_up-pair.ensures.span c.in-None.is
     (omega arith) in
     record { read = f.read; next = f.next; spans = f.spans }
 
 -- or up to where it goes on
 pub spans-preserved : goal.spans-preserved
-spans-preserved c =
-    let last = c.read_up-pair.ensures.last in
-    let other = c.if-to.false in
+spans-preserved c = let last = c.read_up-pair.ensures.last in let other = c.if-to.false in
     up_to_on _ _ _ c.args.key _ _ _ c.spans.invariant c.read_up-pair.ensures.span c.in-None.is (omega arith)
     (c.read_up-pair.ensures.edge (omega arith))

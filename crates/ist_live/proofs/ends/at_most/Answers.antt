@@ -22,7 +22,6 @@ returns-then-to-eq0 c =
 
 -- or down to where it goes on
 pub spans-preserved : goal.spans-preserved
-spans-preserved c =
-    let other = c.if-to-eq0.false in
+spans-preserved c = let other = c.if-to-eq0.false in
     down_to_on _ _ _ (c.args.key + 1) c.spans.from _ _ c.spans.invariant c.read_down-pair.ensures.span
     c.in-None.is (omega arith) (c.read_down-pair.ensures.edge (omega arith))

@@ -3,7 +3,7 @@ use Rattle.ist_live.specs.Lists.{HasListedLive}
 use Rattle.ist_live.specs.Reading.{HasOnlyRead}
 use Rattle.ist_live.proofs.ReadLemmas.{read_not}
 use Rattle.ist_live.proofs.ListLemmas.{all_live}
-use Rattle.ist_live.proofs.TurnLemmas.{in_turn}
+use Rattle.ist_live.proofs.JoinLemmas.{in_turn}
 use Rattle.ist_live.proofs.MomentLemmas.{swept_up, has_listed, none_listed}
 use Rattle.ist_live.proofs.lists.list_live.Goals as goal
 
@@ -18,15 +18,11 @@ returns-then-last-first-clause-spans c =
 
 -- all keys were swept
 pub returns : goal.returns
-returns c =
-    let e = c.in_ok-sweep.ensures in
-    let p = c.args.pass.now in
-    let q = c.sweep.new.pass in
+returns c = let e = c.in_ok-sweep.ensures in let p = c.args.pass.now in let q = c.sweep.new.pass in
     let read : HasOnlyRead p q =
     record { seen = e.seen; calls = e.calls; stamp = e.stamp; refused = e.refused } in
     let none = c.new-found.ensures.items in
-    let up = swept_up p q read c.args.first c.args.last _ _ none e.swept in
-    record {
+    let up = swept_up p q read c.args.first c.args.last _ _ none e.swept in record {
       read = read;
       live = all_live p q c.args.first c.args.last c.sweep.new.found.items up;
       in_turn = in_turn p c.args.first q (c.args.last + 1) c.sweep.new.found.items up;

@@ -1,6 +1,6 @@
 use Rattle.std.proofs.Common.{◌≡◌, None, IfSome, sym, subst, ◌∙◌}
-use Rattle.ist_core.specs.Logs.{same_log}
-use Rattle.ist_core.proofs.PrefixLemmas.{goes_on_more}
+use Rattle.ist_core.specs.LogTerms.{same_log}
+use Rattle.ist_core.proofs.AllLogLemmas.{goes_on_more}
 use Rattle.ist_map.specs.declared.hands.Hand.{Hand}
 use Rattle.ist_map.specs.Hands.{seen_by}
 use Rattle.ist_map.specs.Refusing.{IsRefusalOn}

@@ -1,7 +1,7 @@
 -- Each hand is what its work left of it.
 use Rattle.std.proofs.Common.{◌≡◌, ◌++◌, map, slice_index_or, rules, sym, ap, ◌∙◌}
-use Rattle.ist_core.specs.Resting.{told_by_call}
-use Rattle.ist_core.proofs.ElementLemmas.{map_same}
+use Rattle.ist_core.specs.TreeTerms.{told_by_call}
+use Rattle.ist_core.proofs.AllWordLemmas.{map_same}
 use Rattle.ist_map.specs.Hands.{pass_number, calls_by}
 use Rattle.ist_map.proofs.HandLemmas.{have_worked}
 use Rattle.ist_map.proofs.hands.work_all.Goals as goal

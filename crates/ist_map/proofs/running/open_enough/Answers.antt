@@ -1,6 +1,6 @@
 use Rattle.std.proofs.Common.{rules, subst}
 use Rattle.ist_reopen.specs.Reopening.{IsReopenFaultOf}
-use Rattle.ist_map.proofs.GrowLemmas.{enough_opened, not_enough_opened}
+use Rattle.ist_map.proofs.HandLemmas.{enough_opened, not_enough_opened}
 use Rattle.ist_map.proofs.running.open_enough.Goals as goal
 
 -- the tree has as many words as the pairs take

@@ -1,8 +1,8 @@
 use borrow.Author.Gap.{counting}
 use Rattle.std.proofs.Common.{arith, rules}
-use Rattle.ist_rule.proofs.KeptSearchLemmas.{keeps_more}
+use Rattle.ist_rule.proofs.ExchangeLemmas.{keeps_more}
 use Rattle.ist_mark.specs.Passing.{no_slot_yet}
-use Rattle.ist_mark.proofs.CountingLemmas.{below_called, below_under, row_counted, slot_counted, sum_low, all_counted}
+use Rattle.ist_mark.proofs.FinishLemmas.{below_called, below_under, row_counted, slot_counted, sum_low, all_counted}
 use Rattle.ist_mark.proofs.SubtreeLemmas.{mark_same, mark_more, mark_lower, mark_loads, marked_more, table_on, may_pass_on}
 use Rattle.ist_mark.proofs.counting.+marking.Goals as goal
 
@@ -13,8 +13,7 @@ count_slot-mark_and_count-requires t c =
     search (rules, counting, table_on, c.decreases, c.ranges.node.fits)
 
 pub count_slot-returns-in-Node : goal.count_slot-returns-in-Node
-count_slot-returns-in-Node t c =
-    let passed = c.in-Node.ensures.passed in
+count_slot-returns-in-Node t c = let passed = c.in-Node.ensures.passed in
     search (rules, mark_lower, below_under, row_counted)
 
 pub mark_and_count-loop-index-init : goal.mark_and_count-loop-index-init

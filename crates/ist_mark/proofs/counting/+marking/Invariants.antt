@@ -1,5 +1,5 @@
 use Rattle.std.proofs.Common.{◌+◌, ◌*◌, ◌-◌, ◌^◌}
-use Rattle.ist_rule.specs.Learning.{now}
+use Rattle.ist_rule.specs.RuleTerms.{now}
 use Rattle.ist_mark.specs.Passing.{HasMarked, AreCounted}
 use Rattle.ist_mark.proofs.counting.+marking.Given as goal
 
@@ -12,6 +12,5 @@ decreases-mark_and_count l = 2 * (2 ^ 32 - l.node) + 1
 
 -- the slots so far were passed, and count for the keys so far
 abbrev pub invariant-mark_and_count-loop-index : goal.invariant-mark_and_count-loop-index
-invariant-mark_and_count-loop-index l =
-    HasMarked l.node l.initial.token l.token
+invariant-mark_and_count-loop-index l = HasMarked l.node l.initial.token l.token
     × AreCounted (now l.token.view) l.token.view.log l.node l.index l.keys

@@ -1,4 +1,4 @@
-use Rattle.ist_rule.proofs.KeptSearchLemmas.{loaded_as_keeps}
+use Rattle.ist_rule.proofs.ExchangeLemmas.{loaded_as_keeps}
 use Rattle.ist_mark.proofs.PassLemmas.{can_look, degree_low, look_tells}
 use Rattle.ist_mark.proofs.passing.look.Goals as goal
 
@@ -15,12 +15,10 @@ load_pass-requires-clause-may_load c =
 
 -- the word tells what was done
 pub returns : goal.returns
-returns c =
-    let e = c.load_pass.ensures in
+returns c = let e = c.load_pass.ensures in
     let told = look_tells _ c.args.node c.args.degree c.args.index _ _ c.requires.may_pass.0
     c.requires.within c.slot_place-place.ensures.value _ e.seen in
-    let kept = loaded_as_keeps _ _ _ _ _ e.seen in
-    record {
+    let kept = loaded_as_keeps _ _ _ _ _ e.seen in record {
       marked = record { went = told.went; search = kept };
       change = told.change;
       frozen = told.frozen;

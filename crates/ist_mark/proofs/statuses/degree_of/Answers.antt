@@ -1,5 +1,5 @@
 use Rattle.std.proofs.Common.{arith}
-use Rattle.ist_rule.proofs.GoingOnLemmas.{looked_goes_on}
+use Rattle.ist_rule.proofs.EventLemmas.{looked_goes_on}
 use Rattle.ist_mark.proofs.MarkLemmas.{degree_tells}
 use Rattle.ist_mark.proofs.statuses.degree_of.Goals as goal
 

@@ -15,10 +15,8 @@ mark_open-requires c =
 
 -- a finished node isn't open
 pub returns-in-Some : goal.returns-in-Some
-returns-in-Some c =
-    let on = loaded (goal.at.returns-in-Some c).After-finished_keys in
-    let told = c.finished_keys.ensures.finished in
-    record {
+returns-in-Some c = let on = loaded (goal.at.returns-in-Some c).After-finished_keys in
+    let told = c.finished_keys.ensures.finished in record {
       marked = on;
       may_mark = may_mark_on c.args.node _ _ on c.requires.may_mark.0;
       closed = finished_closed _ c.args.node c.in-Some.keys (told c.in-Some.keys c.in-Some.is);
@@ -26,8 +24,7 @@ returns-in-Some c =
     }
 
 pub returns-in-None : goal.returns-in-None
-returns-in-None c =
-    let e = c.mark_open.ensures in
+returns-in-None c = let e = c.mark_open.ensures in
     let on = mark_more c.args.node _ _ _ (loaded (goal.at.returns-in-None c).After-finished_keys)
     e.marked in
     record {

@@ -8,8 +8,7 @@ pub overflow_add-looks : goal.overflow_add-looks
 overflow_add-looks c =
     let few = looks_fit c.args.keys.now c.args.x c.args.from c.loop-gallop.gallop c.loop-gallop.looks
     c.loop-gallop.invariant c.requires.within in
-    let h : c.loop-gallop.looks + 1 < 2 ^ 64 = omega arith in
-    record { fits = h }
+    let h : c.loop-gallop.looks + 1 < 2 ^ 64 = omega arith in record { fits = h }
 
 -- the look was at the probe
 pub loop-gallop-preserved : goal.loop-gallop-preserved

@@ -1,4 +1,4 @@
-use Rattle.ist_math.proofs.GuessLemmas.{guess_of-le, guess_of-between}
+use Rattle.ist_math.proofs.GallopLemmas.{guess_of-le, guess_of-between}
 use Rattle.ist_math.proofs.laws.guess_lies_within.Goals as goal
 
 pub returns-clause-within : goal.returns-clause-within

@@ -1,4 +1,4 @@
-use Rattle.ist_core.proofs.PartLemmas.{sum-part_lens, part_len-pos}
+use Rattle.ist_core.proofs.AllWordLemmas.{sum-part_lens, part_len-pos}
 use Rattle.ist_math.proofs.laws.parts_have_all_keys.Goals as goal
 
 pub returns-clause-sum : goal.returns-clause-sum

@@ -1,5 +1,5 @@
 use Rattle.std.proofs.Common.{sym}
-use Rattle.ist_core.specs.Shapes.{share_from_fits, share_from_is}
+use Rattle.ist_core.specs.WordTerms.{share_from_fits, share_from_is}
 use Rattle.ist_math.proofs.laws.shared_roots_have_several_keys.Goals as goal
 
 pub returns-clause-value : goal.returns-clause-value

@@ -1,4 +1,4 @@
-use Rattle.ist_core.proofs.RootLemmas.{square_root-le, square_root-lt, square_root_is}
+use Rattle.ist_core.proofs.AllWordLemmas.{square_root-le, square_root-lt, square_root_is}
 use Rattle.ist_math.proofs.laws.square_root_is_the_last.Goals as goal
 
 pub returns-clause-square : goal.returns-clause-square

@@ -1,4 +1,4 @@
-use Rattle.ist_core.proofs.PartLemmas.{start_at, longer_at, shorter_at}
+use Rattle.ist_core.proofs.AllWordLemmas.{start_at, longer_at, shorter_at}
 use Rattle.ist_math.proofs.shares.part.Goals as goal
 
 pub returns-then-j-left_over-clause-start : goal.returns-then-j-left_over-clause-start

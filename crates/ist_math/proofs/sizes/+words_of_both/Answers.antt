@@ -1,6 +1,6 @@
 use Rattle.std.proofs.Common.{◌+◌, ◌∙◌, ap, sym, arith}
-use Rattle.ist_core.specs.Shapes.{ideal_words}
-use Rattle.ist_core.proofs.WordLemmas.{ideal_words_none, ideal_words_one, ideal_words_two}
+use Rattle.ist_core.specs.WordTerms.{ideal_words}
+use Rattle.ist_core.proofs.AllWordLemmas.{ideal_words_none, ideal_words_one, ideal_words_two}
 use Rattle.ist_math.proofs.SizeLemmas.{shortest_fits}
 use Rattle.ist_math.proofs.sizes.+words_of_both.Goals as goal
 

@@ -1,6 +1,6 @@
 use Rattle.std.proofs.Common.{◌≡◌, ℕ, zero, suc, ◌*◌, ◌<◌, sym, arith}
-use Rattle.ist_core.specs.Shapes.{ideal_words}
-use Rattle.ist_core.proofs.WordLemmas.{ideal_words_none, ideal_words_one}
+use Rattle.ist_core.specs.WordTerms.{ideal_words}
+use Rattle.ist_core.proofs.AllWordLemmas.{ideal_words_none, ideal_words_one}
 use Rattle.ist_math.proofs.sizes.ideal_words.Goals as goal
 
 -- no key takes no word, and one key takes a leaf

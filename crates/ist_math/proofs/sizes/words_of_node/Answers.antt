@@ -1,5 +1,5 @@
 use Rattle.std.proofs.Common.{arith}
-use Rattle.ist_core.proofs.WordLemmas.{ideal_words_nine}
+use Rattle.ist_core.proofs.AllWordLemmas.{ideal_words_nine}
 use Rattle.ist_math.proofs.SizeLemmas.{words_from_both}
 use Rattle.ist_math.proofs.sizes.words_of_node.Goals as goal
 
@@ -37,8 +37,7 @@ overflow_add-result-2 c =
     omega (arith, ideal_words_nine c.args.n)
 
 pub returns-clause-value : goal.returns-clause-value
-returns-clause-value c =
-    words_from_both c.args.n c.degree-children.result c.args.shortest
+returns-clause-value c = words_from_both c.args.n c.degree-children.result c.args.shortest
     c.args.parts.first c.args.parts.second
     (omega arith) (omega arith) (omega arith) (omega arith) (omega arith) (omega arith)
 

@@ -1,5 +1,5 @@
 use Rattle.std.proofs.Common.{refl}
-use Rattle.ist_core.specs.Arithmetic.{root_up_to, square_root, degree, part_len, part_lens}
+use Rattle.ist_core.specs.WordTerms.{root_up_to, square_root, degree, part_len, part_lens}
 use Rattle.ist_math.proofs.tables.table_of_parts.Goals as goal
 
 pub returns-clause-degrees : goal.returns-clause-degrees

@@ -1,6 +1,5 @@
 use Rattle.std.proofs.Common.{refl}
-use Rattle.ist_core.specs.Arithmetic.{root_up_to, square_root, degree, part_len, part_lens}
-use Rattle.ist_core.specs.Shapes.{ideal_words_within, ideal_words, shape_within, shape, depth_within, depth}
+use Rattle.ist_core.specs.WordTerms.{root_up_to, square_root, degree, part_len, part_lens, ideal_words_within, ideal_words, shape_within, shape, depth_within, depth}
 use Rattle.ist_math.proofs.tables.table_of_words.Goals as goal
 
 pub returns-clause-words : goal.returns-clause-words

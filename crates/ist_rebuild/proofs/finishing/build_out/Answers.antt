@@ -1,9 +1,8 @@
 use Rattle.std.proofs.Common.{rules}
 use Rattle.ist_rows.proofs.GoneLemmas.{still_ready}
-use Rattle.ist_rebuild.proofs.BuiltOutLemmas.{buildable_went}
+use Rattle.ist_rebuild.proofs.RefusalLemmas.{buildable_went, answer_short, passed_on, short_refused}
 use Rattle.ist_rebuild.proofs.FewLemmas.{few_built, out_root}
-use Rattle.ist_rebuild.proofs.HelpedLemmas.{built_helped, helped_more}
-use Rattle.ist_rebuild.proofs.RefusalLemmas.{answer_short, passed_on, short_refused}
+use Rattle.ist_rebuild.proofs.EventLemmas.{built_helped, helped_more}
 use Rattle.ist_rebuild.proofs.finishing.build_out.Goals as goal
 
 -- a root that was refused
@@ -25,9 +24,7 @@ pub fill_parts-requires-clause-buildable : goal.fill_parts-requires-clause-build
 fill_parts-requires-clause-buildable c = search (rules, buildable_went)
 
 pub returns : goal.returns
-returns c =
-    let e = c.set_root.ensures in
-    let f = c.fill_parts.ensures in
+returns c = let e = c.set_root.ensures in let f = c.fill_parts.ensures in
     let root = built_helped _ _ c.requires.ready.0 e.caller e.refused e.number e.rows e.went in
     let parts = built_helped _ _ (still_ready root.on) f.caller f.refused f.number f.rows f.went in
     record {

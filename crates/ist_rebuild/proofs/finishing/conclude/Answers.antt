@@ -1,6 +1,6 @@
 use Rattle.std.proofs.Common.{refl, rules}
 use Rattle.ist_dcss.proofs.CallingLemmas.{met_change}
-use Rattle.ist_rebuild.proofs.HelpedLemmas.{helped_same, help_helped}
+use Rattle.ist_rebuild.proofs.EventLemmas.{helped_same, help_helped}
 use Rattle.laws_coming.proofs.FurtherLemmas.{helped_further}
 use Rattle.ist_rebuild.proofs.SlotLemmas.{not_itself, tells_replaced}
 use Rattle.ist_rows.proofs.FewStepLemmas.{none_same}

@@ -1,7 +1,7 @@
 use Rattle.std.proofs.Common.{Ok, ap, ◌∙◌, rules}
 use Rattle.laws_coming.proofs.FurtherLemmas.{fewer_left}
 use Rattle.ist_rebuild.proofs.FewLemmas.{few_helped, turn_first, turn_more}
-use Rattle.ist_rebuild.proofs.HelpedLemmas.{helped_more}
+use Rattle.ist_rebuild.proofs.EventLemmas.{helped_more}
 use Rattle.ist_rebuild.proofs.RefusalLemmas.{passed_more}
 use Rattle.ist_rebuild.proofs.SiteLemmas.{plan_went}
 use Rattle.ist_rebuild.proofs.finishing.finish.Goals as goal

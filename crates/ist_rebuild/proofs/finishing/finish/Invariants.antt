@@ -1,7 +1,7 @@
 use Rattle.std.proofs.Common.{◌-◌}
 use Rattle.laws_stability.specs.Progress.{most_progress, progress}
-use Rattle.ist_core.specs.RowLayout.{change_words}
-use Rattle.ist_rows.specs.Taken.{HasTakenFew}
+use Rattle.ist_core.specs.WordTerms.{change_words}
+use Rattle.ist_rows.specs.RowTerms.{HasTakenFew}
 use Rattle.ist_rebuild.specs.Helping.{HasHelped}
 use Rattle.ist_rebuild.specs.Needs.{wanting}
 use Rattle.ist_rebuild.proofs.finishing.finish.Given as goal

@@ -1,5 +1,5 @@
 use Rattle.std.proofs.Common.{ap, ◌∙◌, rules}
-use Rattle.ist_core.specs.RowLayout.{change_words}
+use Rattle.ist_core.specs.WordTerms.{change_words}
 use Rattle.ist_rule.proofs.WentOnLemmas.{goes_on_went}
 use Rattle.ist_rebuild.specs.Going.{ServesRebuild}
 use Rattle.ist_rebuild.specs.Needs.{wanting}
@@ -21,17 +21,15 @@ pub settle-requires-clause-plan : goal.settle-requires-clause-plan
 settle-requires-clause-plan c = search (rules, plan_on)
 
 pub returns-then-not-is_open : goal.returns-then-not-is_open
-returns-then-not-is_open c =
-    let e = c.settle.ensures in
-    record {
-      helped = tried_helped c.args.who.now _ c.requires.ready.0 c.is_open.ensures.seen _ e.helped;
-      few = tried_none c.args.who.now _ c.requires.ready.0 c.is_open.ensures.seen _ e.helped _ e.none;
-      held = λ is. absurd (cc);
-      replaced = search rules;
-      left = search rules;
-      further = λ is. absurd (cc);
-      full = tt;
-    }
+returns-then-not-is_open c = let e = c.settle.ensures in record {
+  helped = tried_helped c.args.who.now _ c.requires.ready.0 c.is_open.ensures.seen _ e.helped;
+  few = tried_none c.args.who.now _ c.requires.ready.0 c.is_open.ensures.seen _ e.helped _ e.none;
+  held = λ is. absurd (cc);
+  replaced = search rules;
+  left = search rules;
+  further = λ is. absurd (cc);
+  full = tt;
+}
 
 -- if it is open, no change of the caller's on it was refused
 pub prepare-requires : goal.prepare-requires
@@ -63,9 +61,7 @@ conclude-requires-clause-plan c = search (rules, plan_on, plan_went)
 
 -- the steps were steps of help; a turn that must be repeated has left the row of the change
 pub returns : goal.returns
-returns c =
-    let t = c.carry-tried.ensures in
-    let e = c.conclude.ensures in
+returns c = let t = c.carry-tried.ensures in let e = c.conclude.ensures in
     let all = tried_all c.args.who.now _ c.requires.ready.0 c.is_open.ensures.seen c.prepare.new.who
     c.prepare.ensures.helped _ _ t.helped e.helped t.none e.none
     (wanting c.args.who.now.change change_words) c.in_ok-change.ensures.few in

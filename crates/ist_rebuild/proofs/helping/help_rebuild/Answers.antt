@@ -1,8 +1,7 @@
 use Rattle.std.proofs.Common.{rules}
-use Rattle.ist_rebuild.proofs.BuiltOutLemmas.{buildable_went}
+use Rattle.ist_rebuild.proofs.RefusalLemmas.{buildable_went, passed_more}
 use Rattle.ist_rebuild.proofs.FewLemmas.{few_marked, rebuilt}
-use Rattle.ist_rebuild.proofs.HelpedLemmas.{helped_loads, helped_more, ready_loads, started_went}
-use Rattle.ist_rebuild.proofs.RefusalLemmas.{passed_more}
+use Rattle.ist_rebuild.proofs.EventLemmas.{helped_loads, helped_more, ready_loads, started_went}
 use Rattle.ist_rebuild.proofs.helping.help_rebuild.Goals as goal
 
 pub returns-in_err-build_out-clause-helped : goal.returns-in_err-build_out-clause-helped
@@ -31,8 +30,7 @@ finish-requires-clause-ready c =
 
 -- the steps were steps of help
 pub returns : goal.returns
-returns c =
-    let m = c.mark_target.ensures in
+returns c = let m = c.mark_target.ensures in
     let plan = helped_loads _ _ c.plan_of-plan.new.token c.build_out.ensures.helped c.plan_of-plan.ensures.seen in
     let i = rebuilt _ _ _ c.args.rebuild m.none m.helped c.build_out.ensures.helped c.finish.result _
     c.finish.new.who _ _ c.in_ok-build_out.ensures.few c.plan_of-plan.ensures.seen c.finish.ensures.helped

@@ -1,10 +1,10 @@
 use Rattle.std.proofs.Common.{refl, ◌∙◌}
-use Rattle.ist_dcss.proofs.TargetLemmas.{started_rebuild}
-use Rattle.ist_rebuild.proofs.BuiltOutLemmas.{has_marked, may_mark}
+use Rattle.ist_dcss.proofs.FieldLemmas.{started_rebuild}
+use Rattle.ist_rebuild.proofs.RefusalLemmas.{has_marked, may_mark}
 use Rattle.ist_rows.proofs.FewStepLemmas.{none_kept, none_loads, none_more}
 use Rattle.ist_mark.proofs.SubtreeLemmas.{marks_keep}
 use Rattle.ist_mark.specs.Marking.{Marks}
-use Rattle.ist_rule.proofs.GoingOnLemmas.{goes_on_who}
+use Rattle.ist_rule.proofs.EventLemmas.{goes_on_who}
 use Rattle.ist_rebuild.proofs.helping.mark_target.Goals as goal
 
 -- a started rebuild is published
@@ -20,12 +20,10 @@ mark_and_count_from-requires-clause-may_mark c =
 
 -- the target is then finished, and no word was taken
 pub returns : goal.returns
-returns c =
-    let who = c.args.who.now in
+returns c = let who = c.args.who.now in
     let mid = record who { token = c.target_of-target.new.token } in
     let new = record who { token = c.mark_and_count_from.new.token } in
-    let loads = c.target_of-target.ensures.seen in
-    let went = c.mark_and_count_from.ensures.went in
+    let loads = c.target_of-target.ensures.seen in let went = c.mark_and_count_from.ensures.went in
     let mine = c.requires.ready.0.caller.mine in
     let marked = has_marked who mid.token new.token c.args.rebuild _ _ c.requires.ready.0 c.requires.started
     loads c.target_of-target.ensures.target went c.mark_and_count_from.ensures.finished in

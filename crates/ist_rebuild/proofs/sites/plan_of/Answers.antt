@@ -1,5 +1,5 @@
-use Rattle.ist_rule.proofs.GoingOnLemmas.{goes_on_more}
-use Rattle.ist_dcss.proofs.TargetLemmas.{started_rebuild}
+use Rattle.ist_rule.proofs.EventLemmas.{goes_on_more}
+use Rattle.ist_dcss.proofs.FieldLemmas.{started_rebuild}
 use Rattle.ist_rebuild.proofs.SiteLemmas.{parent_small, planned}
 use Rattle.ist_rebuild.proofs.sites.plan_of.Goals as goal
 
@@ -10,15 +10,13 @@ field-parent-requires-clause-published c =
 
 -- its parent is a node
 pub overflow_cast-parent : goal.overflow_cast-parent
-overflow_cast-parent c =
-    record {
-      fits = parent_small _ c.field-parent.ensures.seen.sound c.args.rebuild _
-          c.field-parent.ensures.field;
-    }
+overflow_cast-parent c = record {
+  fits = parent_small _ c.field-parent.ensures.seen.sound c.args.rebuild _
+      c.field-parent.ensures.field;
+}
 
 pub returns-clause-seen : goal.returns-clause-seen
-returns-clause-seen c =
-    goes_on_more _ _ _
+returns-clause-seen c = goes_on_more _ _ _
     (goes_on_more _ _ _ c.field-parent.ensures.seen c.field-index.ensures.seen)
     c.field-root.ensures.seen
 

@@ -1,9 +1,9 @@
 use Rattle.std.proofs.Common.{refl, rules}
-use Rattle.ist_core.specs.Slots.{anchor_is}
+use Rattle.ist_core.specs.WordTerms.{anchor_is}
 use Rattle.laws_coming.proofs.FurtherLemmas.{fewer_left}
 use Rattle.ist_rows.proofs.FewStepLemmas.{none_same}
-use Rattle.ist_rebuild.proofs.HelpedLemmas.{helped_same}
-use Rattle.ist_rebuild.proofs.SettleLemmas.{met_further, met_helped, met_helps, met_left, met_may_help, met_none, met_replaced, met_takes, not_left, not_replaced}
+use Rattle.ist_rebuild.proofs.EventLemmas.{helped_same}
+use Rattle.ist_rebuild.proofs.PreparedLemmas.{met_further, met_helped, met_helps, met_left, met_may_help, met_none, met_replaced, met_takes, not_left, not_replaced}
 use Rattle.ist_rebuild.proofs.SiteLemmas.{plan_went}
 use Rattle.ist_rebuild.proofs.sites.settle.Goals as goal
 
@@ -34,7 +34,6 @@ returns-in-Itself c =
     search (rules, met_helped, met_none, met_left, not_replaced, c.in-Itself.ensures.itself refl)
 
 pub returns-in-Another : goal.returns-in-Another
-returns-in-Another c =
-    let no_change = c.in-Another.ensures.no_change refl in
+returns-in-Another c = let no_change = c.in-Another.ensures.no_change refl in
     let another = c.in-Another.ensures.another refl in
     search (rules, met_helped, met_none, met_replaced, not_left)

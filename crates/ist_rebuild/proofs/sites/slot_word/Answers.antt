@@ -1,6 +1,6 @@
 use Rattle.std.proofs.Common.{ap, arith, subst, sym, ◌∙◌}
 use Rattle.ist_rule.specs.declared.view.View.{View}
-use Rattle.ist_rule.proofs.GoingOnLemmas.{goes_on_more, looked_goes_on}
+use Rattle.ist_rule.proofs.EventLemmas.{goes_on_more, looked_goes_on}
 use Rattle.ist_dcss.specs.HelpEvents.{IsSlot}
 use Rattle.ist_rebuild.proofs.SiteLemmas.{parent_slot}
 use Rattle.ist_rebuild.proofs.SlotLemmas.{plan_slot_low, plan_slot_off, plan_slot_told}
@@ -20,8 +20,7 @@ load-requires-clause-within c =
     let known = c.know-2.ensures.words in
     let here = ap (λ (v : View). v.table) c.slot_at-place.ensures.seen.same
     ∙ c.requires.same_table in
-    let same = ap (λ t. t.words) here in
-    omega arith
+    let same = ap (λ t. t.words) here in omega arith
 
 pub load-requires-clause-no_walk : goal.load-requires-clause-no_walk
 load-requires-clause-no_walk c =
@@ -34,7 +33,6 @@ returns-clause-seen c =
 
 -- the word is what it holds
 pub returns-clause-holds : goal.returns-clause-holds
-returns-clause-holds c =
-    plan_slot_told _ _ c.know-2.ensures.sound c.args.plan c.requires.plan
+returns-clause-holds c = plan_slot_told _ _ c.know-2.ensures.sound c.args.plan c.requires.plan
     c.slot_at-place.ensures.seen _ _ c.from.ensures c.slot_at-place.ensures.place _ _
     c.load.ensures.looked

@@ -1,6 +1,6 @@
 use Rattle.std.proofs.Common.{sym, subst}
-use Rattle.ist_core.specs.Installing.{IsUnrefused}
-use Rattle.ist_rule.specs.Learning.{now}
+use Rattle.ist_core.specs.TreeTerms.{IsUnrefused}
+use Rattle.ist_rule.specs.RuleTerms.{now}
 use Rattle.ist_rebuild.proofs.StartOwnLemmas.{unrefused_reserving}
 use Rattle.ist_rebuild.proofs.StartReadyLemmas.{start_ready, target_good}
 use Rattle.ist_rebuild.proofs.StartReservedLemmas.{filled_reserved}
@@ -20,8 +20,7 @@ returns-clause-reserved c =
 
 -- the rows are filled, and no change on the parent was decided no
 pub returns-clause-ready : goal.returns-clause-ready
-returns-clause-ready c =
-    let r = c.in_ok-rows.ensures.reserved in
+returns-clause-ready c = let r = c.in_ok-rows.ensures.reserved in
     start_ready c.args.who.now.token.view c.args.parent c.args.index c.args.target
     c.requires.may_start c.reserve_rows.new.who c.fill_rows.new.who c.in_ok-rows.rows.rebuild
     c.in_ok-rows.rows.change c.in_ok-rows.ensures.rows r.caller r.went r.quiet

@@ -5,15 +5,13 @@ use Rattle.ist_rebuild.proofs.starting.put_in.Goals as goal
 
 -- the slot held another word: the caller only made loads
 pub returns-in-Other : goal.returns-in-Other
-returns-in-Other g c =
-    let other = c.in-Other.ensures.other c.in-Other.word refl in
-    record {
-      begun = other_begun c.args.who.now _ _ _ _ _ g.filling c.requires.1.0 c.requires.1.1
-          c.know.ensures.sound c.install.new.token other.seen;
-      none = none_loads c.args.who.now c.install.new.token c.requires.1.0.caller.mine other.seen;
-      told = other_told_of c.args.who.now _ _ _ _ _ g.filling c.requires.1.0 c.requires.1.1
-          c.know.ensures.sound c.install.new.token _ other;
-    }
+returns-in-Other g c = let other = c.in-Other.ensures.other c.in-Other.word refl in record {
+  begun = other_begun c.args.who.now _ _ _ _ _ g.filling c.requires.1.0 c.requires.1.1
+      c.know.ensures.sound c.install.new.token other.seen;
+  none = none_loads c.args.who.now c.install.new.token c.requires.1.0.caller.mine other.seen;
+  told = other_told_of c.args.who.now _ _ _ _ _ g.filling c.requires.1.0 c.requires.1.1
+      c.know.ensures.sound c.install.new.token _ other;
+}
 
 -- it was decided yes
 pub returns-in-Yes : goal.returns-in-Yes

@@ -1,9 +1,7 @@
 use Rattle.std.proofs.Common.{◌<◌, ◌^◌, length, map, sym, subst}
 use Rattle.std.specs.List.Sorted.{IsStrictlyIncreasing}
-use Rattle.ist_core.specs.Images.{IsImage}
-use Rattle.ist_core.specs.StartLayout.{start}
-use Rattle.ist_reopen.proofs.FewLemmas.{found_few, found_rise}
-use Rattle.ist_reopen.proofs.ReopenLemmas.{opens_after}
+use Rattle.ist_core.specs.WordTerms.{IsImage, start}
+use Rattle.ist_reopen.proofs.ReopenLemmas.{found_few, found_rise, opens_after}
 use Rattle.ist_reopen.proofs.reopening.open_after.Goals as goal
 
 -- the pairs that closed words hold are few, and in order
@@ -14,8 +12,7 @@ open_over-requires-clause-rising c =
     c.in_ok-pairs.ensures.of_map)
 
 pub open_over-requires-clause-few : goal.open_over-requires-clause-few
-open_over-requires-clause-few c =
-    subst (λ ps. length ps < 2 ^ 32) (sym c.deref.ensures.value)
+open_over-requires-clause-few c = subst (λ ps. length ps < 2 ^ 32) (sym c.deref.ensures.value)
     (found_few c.args.closed.now c.in_ok-pairs.pairs.items c.know.ensures.stands
     c.in_ok-pairs.ensures.of_map)
 
@@ -28,6 +25,5 @@ returns-clause-new c =
 
 -- whose words are in the memory of the image
 pub returns-clause-image : goal.returns-clause-image
-returns-clause-image c =
-    subst (λ ps. IsImage (start ps c.args.words) c.open_over.new.image)
+returns-clause-image c = subst (λ ps. IsImage (start ps c.args.words) c.open_over.new.image)
     (sym c.in_ok-open_over.ensures.new.start_is) c.in_ok-open_over.ensures.image

@@ -1,5 +1,5 @@
 use Rattle.std.proofs.Common.{◌∙◌, ap, sym}
-use Rattle.ist_tree.specs.Faces.{TreeFace}
+use Rattle.ist_tree.specs.CallTerms.{TreeFace}
 use Rattle.ist_reopen.proofs.ReopenLemmas.{follows}
 use Rattle.ist_reopen.proofs.reopening.reopen.Goals as goal
 

@@ -1,5 +1,5 @@
 use Rattle.ist_rest.specs.WordRows.{row_keys}
-use Rattle.ist_rest.proofs.ListingLemmas.{ordered}
+use Rattle.ist_rest.proofs.WholeLemmas.{ordered}
 use Rattle.ist_rest.proofs.listing.push_slots.Goals as goal
 
 -- a greater key has no earlier child

@@ -1,4 +1,4 @@
-use Rattle.ist_rest.proofs.ListingLemmas.{reads_some}
+use Rattle.ist_rest.proofs.WholeLemmas.{reads_some}
 use Rattle.ist_rest.proofs.listing.visit.Goals as goal
 
 -- a slot in good shape reads as something

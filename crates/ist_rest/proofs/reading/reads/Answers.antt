@@ -9,5 +9,4 @@ returns-clause-none g c = λ none visit same good.
     none_by (g.W.WordList.list c.args.words.now) c.args.word (ref_meant c.in-Some.found)
     (ref_meant c.in-Some-past_change.side) visit
     c.requires.used c.requires.most (sym c.in-Some.ensures.value)
-    c.in-Some-past_change.ensures.found
-    (c.past_rebuild.ensures.none none) same good
+    c.in-Some-past_change.ensures.found (c.past_rebuild.ensures.none none) same good

@@ -1,5 +1,5 @@
 use Rattle.std.proofs.Common.{◌-◌, length}
-use Rattle.ist_rest.proofs.SlotReadLemmas.{AreSettledTo}
+use Rattle.ist_rest.proofs.SettleLemmas.{AreSettledTo}
 use Rattle.ist_rest.proofs.settling.+are_settled_from.Given as goal
 
 abbrev pub decreases-are_settled_from : goal.decreases-are_settled_from

@@ -12,8 +12,7 @@ overflow_add-next g c = record { fits = next_fits _ _ _ c.turns.invariant _ c.re
 
 -- the exchange may be made, whatever others do
 pub exchange_all-found-requires : goal.exchange_all-found-requires
-exchange_all-found-requires g c =
-    let same = ap (λ t. t.words) c.requires.0 in
+exchange_all-found-requires g c = let same = ap (λ t. t.words) c.requires.0 in
     let may = may_reserve_all _ _ _ c.turns.invariant c.args.number c.requires.1.0 g.sizes c.args.asked
     c.requires.1.1.1.1.0 c.requires.1.1.1.0 c.requires.1.1.0 in
     (read_table _ _ _ c.turns.invariant ∙ c.requires.0, (omega arith, may (omega arith)))
@@ -35,6 +34,5 @@ turns-preserved g c =
     read_again _ _ _ _ _ c.turns.invariant (c.exchange_all-found.ensures.exchanged.1 c.if-found-next.false)
 
 pub turns-smaller : goal.turns-smaller
-turns-smaller g c =
-    fewer_free _ _ _ c.turns.invariant _ _
+turns-smaller g c = fewer_free _ _ _ c.turns.invariant _ _
     (c.exchange_all-found.ensures.exchanged.1 c.if-found-next.false) c.if-found-next.false

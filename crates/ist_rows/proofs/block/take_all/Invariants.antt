@@ -1,8 +1,7 @@
 use Rattle.std.proofs.Common.{◌-◌}
-use Rattle.ist_core.specs.RowLayout.{place_limit}
-use Rattle.ist_rule.specs.Watching.{number_of}
-use Rattle.ist_rows.specs.Rows.{HasReadNext}
-use Rattle.ist_rows.specs.Block.{reservings}
+use Rattle.ist_core.specs.WordTerms.{place_limit}
+use Rattle.ist_rule.specs.RuleTerms.{number_of}
+use Rattle.ist_rows.specs.RowTerms.{HasReadNext, reservings}
 use Rattle.ist_rows.proofs.block.take_all.Given as goal
 
 -- the events are the reservings of the words between

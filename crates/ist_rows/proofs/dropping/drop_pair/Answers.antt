@@ -1,5 +1,5 @@
 use Rattle.std.proofs.Common.{IfSome, refl, sym, subst, rules}
-use Rattle.ist_rows.specs.Dropping.{HasLost}
+use Rattle.ist_rows.specs.RowTerms.{HasLost}
 use Rattle.ist_rows.proofs.DropLemmas.{may_drop, has_lost, caller_dropped}
 use Rattle.ist_rows.proofs.dropping.drop_pair.Goals as goal
 
@@ -12,8 +12,7 @@ load_past-requires-clause-may_load c =
 loses : (c : goal.After-who-1)
     → HasLost c.args.who.now.token.view c.args.who.now.number c.in-Some.pair c.args.node
     c.load_past.new.token.view
-loses c =
-    has_lost c.args.who.now.token.view c.args.who.now.number c.in-Some.pair c.args.node _
+loses c = has_lost c.args.who.now.token.view c.args.who.now.number c.in-Some.pair c.args.node _
     c.load_past.result c.load_past.new.token.view c.requires.caller.0.mine refl c.load_past.ensures.seen
 
 pub returns-in-Some-clause-caller : goal.returns-in-Some-clause-caller

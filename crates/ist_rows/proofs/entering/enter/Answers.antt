@@ -4,8 +4,7 @@ use Rattle.ist_rows.proofs.entering.enter.Goals as goal
 
 -- the maker may enter a caller
 pub add-number-requires : goal.add-number-requires
-add-number-requires c =
-    let room = c.know.ensures.sound.lawful.opens.room in
+add-number-requires c = let room = c.know.ensures.sound.lawful.opens.room in
     let same = ap (λ t. t.words) c.requires.same_table in
     let can = can_enter _ c.know.ensures.sound c.requires.maker c.requires.given c.requires.few in
     (c.requires.same_table, (omega arith, can))

@@ -1,8 +1,6 @@
 use Rattle.std.proofs.Common.{refl, ap, ◌∙◌, arith}
 use Rattle.std.proofs.lemmas.List.{take_all}
-use Rattle.ist_rows.specs.declared.callers.Caller.{Caller}
-use Rattle.ist_rows.specs.Rows.{spares_of, row_of}
-use Rattle.ist_rows.specs.Filling.{filled_with}
+use Rattle.ist_rows.specs.RowTerms.{Caller, spares_of, row_of, filled_with}
 use Rattle.ist_rows.proofs.FillingLemmas.{stored_step}
 use Rattle.ist_rows.proofs.filling.fill_row.Goals as goal
 
@@ -15,8 +13,7 @@ pub loop-word-preserved : goal.loop-word-preserved
 loop-word-preserved c =
     let stored = stored_step c.args.who.now c.loop-word.who c.fill.new.who c.args.base c.loop-word.at
     c.loop-word.word-index c.args.words.now c.loop-word-test.true c.loop-word.invariant.0
-    c.loop-word.invariant.1 c.fill.ensures.stored in
-    (omega arith, stored, c.fill.ensures.caller)
+    c.loop-word.invariant.1 c.fill.ensures.stored in (omega arith, stored, c.fill.ensures.caller)
 
 -- it lies in the row of this kind
 pub fill-requires-clause-held : goal.fill-requires-clause-held
@@ -33,6 +30,5 @@ fill-requires-clause-caller c = (
 
 -- after the last one all are stored
 pub returns-clause-stored : goal.returns-clause-stored
-returns-clause-stored c =
-    c.loop-word.invariant.1
+returns-clause-stored c = c.loop-word.invariant.1
     ∙ ap {B = Caller} (filled_with c.args.who.now c.args.base) (take_all _ _ c.loop-word-test.false)

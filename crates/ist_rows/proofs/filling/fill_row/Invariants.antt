@@ -1,6 +1,5 @@
 use Rattle.std.proofs.Common.{◌≡◌, take}
-use Rattle.ist_rows.specs.Rows.{IsCaller}
-use Rattle.ist_rows.specs.Filling.{filled_with}
+use Rattle.ist_rows.specs.RowTerms.{IsCaller, filled_with}
 use Rattle.ist_rows.proofs.filling.fill_row.Given as goal
 
 -- the words so far were stored, and nothing else was done

@@ -1,8 +1,6 @@
 use Rattle.std.proofs.Common.{sym, subst, ◌∙◌, rules}
-use Rattle.ist_rule.specs.Faces.{TokenFace}
-use Rattle.ist_rows.specs.Kinds.{kind_words}
-use Rattle.ist_rows.specs.Rows.{Reserved}
-use Rattle.ist_rows.specs.Fairly.{MayTake}
+use Rattle.ist_rule.specs.RuleTerms.{TokenFace}
+use Rattle.ist_rows.specs.RowTerms.{kind_words, Reserved, MayTake}
 use Rattle.ist_rows.proofs.CallerLemmas.{may_take}
 use Rattle.ist_rows.proofs.CallerGoingLemmas.{caller_refused, caller_reserved}
 use Rattle.ist_rows.proofs.reserving.reserve.Goals as goal

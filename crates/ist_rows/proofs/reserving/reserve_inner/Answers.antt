@@ -1,5 +1,5 @@
 use Rattle.std.proofs.Common.{IfOk, sym, ap, subst, ◌∙◌}
-use Rattle.ist_rows.specs.Building.{IsNext, HasTaken}
+use Rattle.ist_rows.specs.RowTerms.{IsNext, HasTaken}
 use Rattle.std.specs.Prelude.{[], ◌∷◌}
 use Rattle.ist_rows.proofs.BuildingLemmas.{may_take_inner}
 use Rattle.ist_rows.proofs.BuildingCallLemmas.{caller_after, taken_after, refused_after}

@@ -12,8 +12,7 @@ overflow_add-next c = record { fits = next_fits _ _ _ c.turns.invariant _ c.requ
 
 -- the exchange may be made, whatever others do
 pub exchange-found-requires : goal.exchange-found-requires
-exchange-found-requires c =
-    let same = ap (λ t. t.words) c.requires.same_table in
+exchange-found-requires c = let same = ap (λ t. t.words) c.requires.same_table in
     let may = may_reserve _ _ _ c.turns.invariant c.args.number c.requires.caller c.args.size c.requires.fair in
     (read_table _ _ _ c.turns.invariant ∙ c.requires.same_table, (omega arith, may (omega arith)))
 
@@ -35,6 +34,5 @@ turns-preserved c =
 
 -- then fewer words are free
 pub turns-smaller : goal.turns-smaller
-turns-smaller c =
-    fewer_free _ _ _ c.turns.invariant _ _
+turns-smaller c = fewer_free _ _ _ c.turns.invariant _ _
     (c.exchange-found.ensures.exchanged.1 c.if-found-next.false) c.if-found-next.false

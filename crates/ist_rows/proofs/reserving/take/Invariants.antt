@@ -1,7 +1,6 @@
 use Rattle.std.proofs.Common.{◌-◌}
-use Rattle.ist_core.specs.RowLayout.{place_limit}
-use Rattle.ist_rows.specs.Fairly.{reserving}
-use Rattle.ist_rows.specs.Rows.{HasReadNext}
+use Rattle.ist_core.specs.WordTerms.{place_limit}
+use Rattle.ist_rows.specs.RowTerms.{reserving, HasReadNext}
 use Rattle.ist_rows.proofs.reserving.take.Given as goal
 
 -- the event is the reserving of the words between

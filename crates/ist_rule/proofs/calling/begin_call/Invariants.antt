@@ -1,4 +1,4 @@
-use Rattle.ist_rule.specs.Playing.{begins}
+use Rattle.ist_rule.specs.RuleTerms.{begins}
 use Rattle.ist_rule.proofs.calling.begin_call.Given as goal
 
 -- the step begins a call with the command that the caller gives

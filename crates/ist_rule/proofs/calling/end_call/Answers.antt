@@ -1,16 +1,12 @@
 use Rattle.std.proofs.Common.{sym, ap, subst, arith}
-use Rattle.ist_rule.specs.declared.view.View.{View}
-use Rattle.ist_rule.specs.Faces.{TokenFace}
-use Rattle.ist_rule.specs.Conditions.{CanEnd}
+use Rattle.ist_rule.specs.RuleTerms.{View, TokenFace, CanEnd}
 use Rattle.ist_rule.proofs.NamedLemmas.{same_id}
 use Rattle.ist_rule.proofs.CallPlayLemmas.{ends_moves}
 use Rattle.ist_rule.proofs.calling.end_call.Goals as goal
 
 -- a load that ends a call keeps the rule
 pub load-requires : goal.load-requires
-load-requires g c =
-    let i = c.table.invariant in
-    let v : View = c.token.inside.seat.me.0 in
+load-requires g c = let i = c.table.invariant in let v : View = c.token.inside.seat.me.0 in
     let can = subst (λ (x : View). CanEnd x g.call)
     (ap (λ (s : TokenFace). s.view) (sym c.token.view_is)) c.requires.1.0 in (
       same_id c.token.invariant.3 c.token.view_is c.table.view_is c.requires.0,

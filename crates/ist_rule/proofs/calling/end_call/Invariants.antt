@@ -1,4 +1,4 @@
-use Rattle.ist_rule.specs.Playing.{ends}
+use Rattle.ist_rule.specs.RuleTerms.{ends}
 use Rattle.ist_rule.proofs.calling.end_call.Given as goal
 
 -- the step ends the call that the caller shows

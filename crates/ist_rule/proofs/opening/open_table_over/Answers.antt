@@ -1,5 +1,5 @@
 use Rattle.std.proofs.Common.{refl, ap, sym, ◌∙◌, length, arith}
-use Rattle.ist_rule.specs.Playing.{Seated}
+use Rattle.ist_rule.specs.RuleTerms.{Seated}
 use Rattle.ist_rule.proofs.WhoLemmas.{maker_live}
 use Rattle.ist_rule.proofs.NamedLemmas.{seat_holds}
 use Rattle.ist_rule.proofs.OpenLemmas.{first_image, named_view, names_moves, opened_sound, opens}
@@ -19,16 +19,14 @@ load-requires c = (
 
 -- the token keeps the invariant
 pub invariant_of-result-2 : goal.invariant_of-result-2
-invariant_of-result-2 c =
-    let e = c.in_ok-table.ensures in
+invariant_of-result-2 c = let e = c.in_ok-table.ensures in
     let is = named_view record { start = c.of.result; words = length c.args.image.now } c.load.ensures.2.0
     (ap (λ (m : Seated). m.0) e.4) (ap (λ v. v.items) c.of.ensures) e.2 in
     seat_holds is (c.load.ensures.2.1 ∙ ap (λ (m : Seated). m.1) e.4) (opened_sound _ _ _ c.requires.opens) (sym e.0)
     refl (c.load.ensures.0 ∙ e.2)
 
 pub returns-clause-token : goal.returns-clause-token
-returns-clause-token c =
-    let e = c.in_ok-table.ensures in
+returns-clause-token c = let e = c.in_ok-table.ensures in
     named_view record { start = c.of.result; words = length c.args.image.now } c.load.ensures.2.0
     (ap (λ (m : Seated). m.0) e.4) (ap (λ v. v.items) c.of.ensures) e.2
 

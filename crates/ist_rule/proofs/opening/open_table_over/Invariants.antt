@@ -1,5 +1,4 @@
-use Rattle.ist_rule.specs.Faces.{name_of}
-use Rattle.ist_rule.specs.Playing.{names}
+use Rattle.ist_rule.specs.RuleTerms.{name_of, names}
 use Rattle.ist_rule.proofs.opening.open_table_over.Given as goal
 
 -- at the step the seat learns which table it is of

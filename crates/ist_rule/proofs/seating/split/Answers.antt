@@ -1,7 +1,7 @@
 use Rattle.std.proofs.Common.{◌∙◌, ap, arith}
-use Rattle.ist_rule.specs.Playing.{Seated}
+use Rattle.ist_rule.specs.RuleTerms.{Seated}
 use Rattle.ist_rule.proofs.NamedLemmas.{same_id, seat_holds}
-use Rattle.ist_rule.proofs.SplitSeatLemmas.{splits, left_sound, right_sound, left_table, right_table}
+use Rattle.ist_rule.proofs.LeavingLemmas.{splits, left_sound, right_sound, left_table, right_table}
 use Rattle.ist_rule.proofs.seating.split.Goals as goal
 
 -- a split keeps the rule
@@ -15,18 +15,14 @@ split_seat-requires c =
 
 -- the token that was split is sound
 pub invariant_of-token : goal.invariant_of-token
-invariant_of-token c =
-    let i = c.token.invariant in
-    let me = c.split_seat.ensures.2 in
+invariant_of-token c = let i = c.token.invariant in let me = c.split_seat.ensures.2 in
     let of = left_table c.token.inside.seat.me.0 in
     seat_holds (ap (λ (m : Seated). m.0) me) (ap (λ (m : Seated). m.1) me ∙ i.0) (left_sound _ i.1) (of.0 ∙ i.2)
     (of.1 ∙ i.3) c.split_seat.ensures.0
 
 -- the new token keeps the invariant too
 pub invariant_of-result : goal.invariant_of-result
-invariant_of-result c =
-    let i = c.token.invariant in
-    let me = c.split_seat.ensures.4 in
+invariant_of-result c = let i = c.token.invariant in let me = c.split_seat.ensures.4 in
     let of = right_table c.token.inside.seat.me.0 in
     seat_holds (ap (λ (m : Seated). m.0) me) (ap (λ (m : Seated). m.1) me) (right_sound _ i.1) (of.0 ∙ i.2)
     (of.1 ∙ i.3) c.split_seat.ensures.3

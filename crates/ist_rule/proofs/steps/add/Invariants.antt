@@ -1,4 +1,4 @@
-use Rattle.ist_rule.specs.Playing.{adds}
+use Rattle.ist_rule.specs.RuleTerms.{adds}
 use Rattle.ist_rule.proofs.steps.add.Given as goal
 
 -- the step is the event that the caller names for the word found

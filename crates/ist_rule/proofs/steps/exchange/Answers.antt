@@ -1,14 +1,12 @@
 use Rattle.std.proofs.Common.{refl, sym, ap, subst, ◌∙◌, arith}
-use Rattle.ist_rule.specs.Faces.{TokenFace, TableFace}
-use Rattle.ist_rule.specs.Conditions.{CanExchange}
+use Rattle.ist_rule.specs.RuleTerms.{TokenFace, TableFace, CanExchange}
 use Rattle.ist_rule.proofs.NamedLemmas.{same_id, seat_holds}
 use Rattle.ist_rule.proofs.ExchangeLemmas.{exchanges_moves, exchanged_sound}
 use Rattle.ist_rule.proofs.steps.exchange.Goals as goal
 
 -- an exchange that may be made keeps the rule
 pub compare_exchange-requires : goal.compare_exchange-requires
-compare_exchange-requires g c =
-    let w = ap (λ (t : TableFace). t.table.words) c.table.view_is in
+compare_exchange-requires g c = let w = ap (λ (t : TableFace). t.table.words) c.table.view_is in
     let p = c.requires.1.0 in
     let can = subst (λ x. CanExchange x c.args.place c.args.old c.args.new g.event)
     (ap (λ (s : TokenFace). s.view) (sym c.token.view_is)) c.requires.1.1 in (
@@ -19,8 +17,6 @@ compare_exchange-requires g c =
 
 -- the token is sound
 pub invariant_of-token : goal.invariant_of-token
-invariant_of-token g c =
-    let i = c.token.invariant in
-    let e = c.compare_exchange.ensures in
+invariant_of-token g c = let i = c.token.invariant in let e = c.compare_exchange.ensures in
     let it = exchanged_sound _ _ _ _ _ _ e.2.0 in
     seat_holds refl (e.2.1 ∙ i.0) it.0 (it.1 ∙ i.2) (it.2 ∙ i.3) e.0

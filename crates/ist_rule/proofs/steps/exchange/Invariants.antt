@@ -1,4 +1,4 @@
-use Rattle.ist_rule.specs.Playing.{exchanges}
+use Rattle.ist_rule.specs.RuleTerms.{exchanges}
 use Rattle.ist_rule.proofs.steps.exchange.Given as goal
 
 -- the step is the event that the caller names, or a load

@@ -1,4 +1,4 @@
-use Rattle.ist_rule.specs.Playing.{exchanges_or_loses}
+use Rattle.ist_rule.specs.RuleTerms.{exchanges_or_loses}
 use Rattle.ist_rule.proofs.steps.exchange_or_lose.Given as goal
 
 -- the step is one of the two events that the caller names

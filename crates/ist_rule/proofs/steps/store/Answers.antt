@@ -1,14 +1,12 @@
 use Rattle.std.proofs.Common.{sym, ap, subst, ◌∙◌, arith}
-use Rattle.ist_rule.specs.Faces.{TokenFace, TableFace}
-use Rattle.ist_rule.specs.Conditions.{IsOwn}
+use Rattle.ist_rule.specs.RuleTerms.{TokenFace, TableFace, IsOwn}
 use Rattle.ist_rule.proofs.NamedLemmas.{same_id, seat_holds}
 use Rattle.ist_rule.proofs.StoreLemmas.{stores_moves, storing_sound}
 use Rattle.ist_rule.proofs.steps.store.Goals as goal
 
 -- a store into an own row keeps the rule
 pub store-requires : goal.store-requires
-store-requires c =
-    let w = ap (λ (t : TableFace). t.table.words) c.table.view_is in
+store-requires c = let w = ap (λ (t : TableFace). t.table.words) c.table.view_is in
     let p = c.requires.within in
     let own = subst (λ x. IsOwn x c.args.place) (ap (λ (s : TokenFace). s.view) (sym c.token.view_is))
     c.requires.own in (
@@ -19,9 +17,7 @@ store-requires c =
 
 -- the token is sound
 pub invariant_of-token : goal.invariant_of-token
-invariant_of-token c =
-    let i = c.token.invariant in
-    let e = c.store.ensures in
+invariant_of-token c = let i = c.token.invariant in let e = c.store.ensures in
     let own = subst (λ x. IsOwn x c.args.place) (ap (λ (s : TokenFace). s.view) (sym c.token.view_is))
     c.requires.own in
     seat_holds e.2.0 (e.2.1 ∙ i.0)

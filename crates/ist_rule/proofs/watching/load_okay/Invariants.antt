@@ -1,4 +1,4 @@
-use Rattle.ist_rule.specs.Watching.{okay_of}
+use Rattle.ist_rule.specs.RuleTerms.{okay_of}
 use Rattle.ist_rule.proofs.watching.load_okay.Given as goal
 
 -- the event is named by the rows that are given

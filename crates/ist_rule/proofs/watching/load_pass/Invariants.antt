@@ -1,4 +1,4 @@
-use Rattle.ist_rule.specs.Watching.{pass_of}
+use Rattle.ist_rule.specs.RuleTerms.{pass_of}
 use Rattle.ist_rule.proofs.watching.load_pass.Given as goal
 
 -- the event is named by the rows that are given

@@ -1,4 +1,4 @@
-use Rattle.ist_rule.specs.Watching.{past_of}
+use Rattle.ist_rule.specs.RuleTerms.{past_of}
 use Rattle.ist_rule.proofs.watching.load_past.Given as goal
 
 -- the event is named by the rows that are given

@@ -1,13 +1,12 @@
 -- Both passes list the same shot. In each answer `p` is the taker with its note given.
 use Rattle.std.proofs.Common.{sym, subst}
-use Rattle.ist_tree.specs.Freezing.{IsFrozenFor}
+use Rattle.ist_tree.specs.CallTerms.{IsFrozenFor}
 use Rattle.ist_scan.proofs.CallerLemmas.{told_well, both_alike, both_once}
 use Rattle.ist_scan.proofs.ShotLemmas.{frozen_on}
 use Rattle.ist_scan.proofs.callers.list_by_both.Goals as goal
 
 pub list-requires-2-clause-frozen : goal.list-requires-2-clause-frozen
-list-requires-2-clause-frozen c =
-    let p = c.note-note.new.pass in
+list-requires-2-clause-frozen c = let p = c.note-note.new.pass in
     let on = told_well c.take.new.pass p c.note-note.result c.meet.new.pass c.note-note.ensures.value
     c.note-note.ensures.unchanged c.meet.ensures.learnt c.know-2.ensures.lawful in
     frozen_on p c.meet.new.pass on c.in_ok-shot.shot

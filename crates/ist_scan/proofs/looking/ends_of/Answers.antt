@@ -1,7 +1,6 @@
 use Rattle.std.proofs.Common.{◌≡◌, arith, subst, sym}
 use Rattle.ist_scan.specs.Cuts.{IsCut}
-use Rattle.ist_scan.proofs.CutLemmas.{cut_is}
-use Rattle.ist_scan.proofs.ShotLemmas.{looked_more}
+use Rattle.ist_scan.proofs.ShotLemmas.{cut_is, looked_more}
 use Rattle.ist_scan.proofs.looking.ends_of.Goals as goal
 
 pub returns-clause-looked : goal.returns-clause-looked
@@ -11,11 +10,9 @@ returns-clause-looked c =
 
 pub returns-clause-cut : goal.returns-clause-cut
 returns-clause-cut c = λ pairs h.
-    (let low = c.count_below-low.result.count in
-    let high = c.count_below-high.result.count in
+    (let low = c.count_below-low.result.count in let high = c.count_below-high.result.count in
     let it = cut_is pairs c.args.from c.args.to low high c.requires.some
     (c.count_below-low.ensures.cuts pairs h)
     (c.count_below-high.ensures.cuts pairs (c.count_below-low.ensures.looked.pairs c.args.shot pairs h)) in
-    let order = it.order in
-    let same : c.min.result ≡ low = omega (arith, c.min.ensures, order) in
+    let order = it.order in let same : c.min.result ≡ low = omega (arith, c.min.ensures, order) in
     subst (λ n. IsCut pairs c.args.from c.args.to n high) (sym same) it)

@@ -10,8 +10,7 @@ returns-clause-looked c =
 
 pub returns-clause-pair : goal.returns-clause-pair
 returns-clause-pair c = λ pairs h.
-    (let it = c.frozen_pair-pair.ensures.pair in
-    let p = c.args.pass.now in
+    (let it = c.frozen_pair-pair.ensures.pair in let p = c.args.pass.now in
     let same = frozen_pairs_are_one p.tree.start p.tree.words p.seen c.args.shot it.found pairs
     it.has h.has in
     ap (λ l. slice_get l c.args.i) (sym same) ∙ it.there)

@@ -1,7 +1,7 @@
 use Rattle.std.proofs.Common.{refl, sym}
-use Rattle.ist_core.specs.Shown.{shown_slot}
-use Rattle.ist_core.specs.Slots.{in_anchor}
-use Rattle.ist_rule.proofs.GoingOnLemmas.{looked_goes_on}
+use Rattle.ist_core.specs.LogTerms.{shown_slot}
+use Rattle.ist_core.specs.WordTerms.{in_anchor}
+use Rattle.ist_rule.proofs.EventLemmas.{looked_goes_on}
 use Rattle.ist_tree.proofs.freezing.anchor_word.Goals as goal
 
 pub returns-clause-seen : goal.returns-clause-seen

@@ -2,7 +2,7 @@
 use Rattle.std.proofs.Common.{Ok, ap, refl}
 use Rattle.ist_tree.proofs.DueLemmas.{begins_on, other_leaves, yes_leaves}
 use Rattle.ist_tree.proofs.FreezeGoingLemmas.{begins_idle, begun_of, other_reserved, other_unstarted, start_stopped}
-use Rattle.ist_core.specs.Slots.{anchor_is}
+use Rattle.ist_core.specs.WordTerms.{anchor_is}
 use Rattle.ist_rebuild.proofs.RefusalLemmas.{passed_on}
 use Rattle.ist_tree.proofs.FurtherLemmas.{slot_further}
 use Rattle.ist_tree.proofs.freezing.begin_rebuild.Goals as goal
@@ -23,8 +23,7 @@ returns-in-Yes-clause-begun c =
 
 -- another word stood there
 pub returns-in-Other-clause-begun : goal.returns-in-Other-clause-begun
-returns-in-Other-clause-begun c =
-    let s = c.start.ensures in let r = c.in_ok-rebuild.ensures in
+returns-in-Other-clause-begun c = let s = c.start.ensures in let r = c.in_ok-rebuild.ensures in
     let on = begins_on _ _ c.requires.ready.0 s.caller s.refused s.quiet s.went s.number in
     begins_idle _ _ on (λ first done. other_leaves first _ _ _ _ c.in-Other.is (r.done first done))
     (other_unstarted c.args.who.now.token.view c.start.new.who.token.view _ _ _ c.in-Other.is r.unstarted)

@@ -1,8 +1,7 @@
 use Rattle.std.proofs.Common.{subst}
 use Rattle.ist_rows.specs.declared.callers.Caller.{Caller}
-use Rattle.ist_tree.specs.FreezeSteps.{HasMet, counted_as}
-use Rattle.ist_tree.specs.Working.{Rebuilds}
-use Rattle.ist_tree.proofs.FreezeBelowLemmas.{still_frozen, target_frozen}
+use Rattle.ist_tree.specs.CallTerms.{HasMet, counted_as, Rebuilds}
+use Rattle.ist_tree.proofs.MeetingLemmas.{still_frozen, target_frozen}
 use Rattle.ist_tree.proofs.SearchCountLemmas.{few_after, froze_begun}
 use Rattle.ist_tree.proofs.freezing.freeze_below.Goals as goal
 

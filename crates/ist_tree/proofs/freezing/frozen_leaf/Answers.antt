@@ -1,8 +1,8 @@
 -- The leaf with the number: one below the row, or the leaf that the root is.
-use Rattle.ist_rule.proofs.GoingOnLemmas.{goes_on_same}
+use Rattle.ist_rule.proofs.EventLemmas.{goes_on_same}
 use Rattle.std.proofs.Common.{ap, arith}
 use Rattle.ist_layout.specs.Meanings.{ref_meant}
-use Rattle.ist_tree.proofs.FreezeReadLemmas.{leaf_itself, leaf_numbered}
+use Rattle.ist_tree.proofs.FewFreezeLemmas.{leaf_itself, leaf_numbered}
 use Rattle.ist_tree.proofs.freezing.frozen_leaf.Goals as goal
 
 pub returns-in-Inner-clause-leaf : goal.returns-in-Inner-clause-leaf

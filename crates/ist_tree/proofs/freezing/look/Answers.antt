@@ -14,8 +14,7 @@ meet-requires-clause-ready c = (
 )
 
 pub returns-clause-met : goal.returns-clause-met
-returns-clause-met c =
-    ok_map _ _ c.meet.result
+returns-clause-met c = ok_map _ _ c.meet.result
     (λ site. may_have_met_more c.args.who.now _ c.meet.new.who site
     (looked_idle c.args.who.now c.anchor_word-word.new.token c.requires.ready.0
     c.anchor_word-word.ensures.seen)) c.meet.ensures.met
@@ -25,8 +24,7 @@ returns-clause-further c is =
     after_load _ _ _ c.anchor_word-word.ensures.seen (c.meet.ensures.further is)
 
 pub returns-clause-full : goal.returns-clause-full
-returns-clause-full c =
-    err_map _ _ c.meet.result
+returns-clause-full c = err_map _ _ c.meet.result
     (λ full. stopped_more c.args.who.now _ c.meet.new.who _ full
     (looked_idle c.args.who.now c.anchor_word-word.new.token c.requires.ready.0
     c.anchor_word-word.ensures.seen)) c.meet.ensures.full

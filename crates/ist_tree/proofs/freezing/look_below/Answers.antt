@@ -30,8 +30,7 @@ returns-in-Some c =
 
 -- or nothing was met
 pub turns-preserved : goal.turns-preserved
-turns-preserved c =
-    look_on c.args.who.now c.turns.invariant c.begin_search.ensures.begun
+turns-preserved c = look_on c.args.who.now c.turns.invariant c.begin_search.ensures.begun
     (rw c.in_default.is at c.in_ok-site.ensures.met) (c.look.ensures.further (cc))
 
 pub turns-smaller : goal.turns-smaller

@@ -1,5 +1,5 @@
 use Rattle.std.proofs.Common.{subst, Ok, ap}
-use Rattle.ist_tree.specs.FreezeSteps.{HasStarted}
+use Rattle.ist_tree.specs.CallTerms.{HasStarted}
 use Rattle.ist_tree.proofs.FreezeLookLemmas.{begun_met}
 use Rattle.ist_tree.proofs.freezing.met_row.Goals as goal
 

@@ -1,5 +1,5 @@
-use Rattle.ist_rule.proofs.GoingOnLemmas.{goes_on_more}
-use Rattle.ist_tree.proofs.FreezeReadLemmas.{number_seen, numbered_pair}
+use Rattle.ist_rule.proofs.EventLemmas.{goes_on_more}
+use Rattle.ist_tree.proofs.FewFreezeLemmas.{number_seen, numbered_pair}
 use Rattle.ist_tree.proofs.freezing.pair_and_loads.Goals as goal
 
 -- the leaf is published

@@ -2,7 +2,7 @@
 use Rattle.std.proofs.Common.{sym, ◌∙◌}
 use Rattle.ist_tree.proofs.AttemptLemmas.{other_changed, other_none, other_rebuilt, other_short}
 use Rattle.ist_tree.proofs.InsteadLemmas.{names_change, names_rebuild}
-use Rattle.ist_tree.proofs.HelpedRebuildLemmas.{other_helped, other_started}
+use Rattle.ist_tree.proofs.FurtherLemmas.{other_helped, other_started}
 use Rattle.ist_tree.proofs.rebuilding.help_other.Goals as goal
 
 -- a rebuild
@@ -34,6 +34,5 @@ returns-in-Change c =
     record { helped = other_changed _ _ _ _ _ _ c.requires.ready.0 h.went is h.out.resolved }
 
 pub returns-in-Other : goal.returns-in-Other
-returns-in-Other c =
-    let is = sym c.instead_in.ensures.value ∙ c.in-Other.is in
+returns-in-Other c = let is = sym c.instead_in.ensures.value ∙ c.in-Other.is in
     record { helped = other_none _ _ _ _ c.know.ensures.sound c.requires.ready.0 is }

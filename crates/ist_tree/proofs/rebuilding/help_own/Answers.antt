@@ -7,16 +7,14 @@ pub help_rebuild-requires-clause-started : goal.help_rebuild-requires-clause-sta
 help_rebuild-requires-clause-started c = c.requires.started.started
 
 pub returns-in-Ok : goal.returns-in-Ok
-returns-in-Ok c =
-    record {
-      helped = own_helped _ _ c.args.due _ _ c.help_rebuild.ensures.helped c.requires.started
-          c.requires.ready.0 (helped_either c.in-Ok.field-0 _ _ c.in-Ok.ensures.replaced
-          c.in-Ok.ensures.parent_marked);
-    }
+returns-in-Ok c = record {
+  helped = own_helped _ _ c.args.due _ _ c.help_rebuild.ensures.helped c.requires.started
+      c.requires.ready.0 (helped_either c.in-Ok.field-0 _ _ c.in-Ok.ensures.replaced
+      c.in-Ok.ensures.parent_marked);
+}
 
 pub returns-in-Err : goal.returns-in-Err
-returns-in-Err c =
-    record {
-      helped = own_short _ _ c.args.due _ _ c.help_rebuild.ensures.helped c.requires.started _
-          c.in-Err.ensures.full;
-    }
+returns-in-Err c = record {
+  helped = own_short _ _ c.args.due _ _ c.help_rebuild.ensures.helped c.requires.started _
+      c.in-Err.ensures.full;
+}

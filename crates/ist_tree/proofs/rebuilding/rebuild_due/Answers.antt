@@ -1,10 +1,10 @@
 -- The row is rebuilt, attempt by attempt.
 use Rattle.std.proofs.Common.{Ok, ap, ◌∙◌}
 use Rattle.laws_coming.proofs.FurtherLemmas.{fewer_left}
-use Rattle.ist_tree.specs.Working.{Rebuilds}
+use Rattle.ist_tree.specs.CallTerms.{Rebuilds}
 use Rattle.ist_tree.proofs.AttemptLemmas.{rebuilt_last, rebuilt_short}
 use Rattle.ist_tree.proofs.DueLemmas.{done_more, goes_more, goes_none}
-use Rattle.ist_tree.proofs.RebuildLemmas.{may_start_went}
+use Rattle.ist_tree.proofs.FurtherLemmas.{may_start_went}
 use Rattle.ist_tree.proofs.rebuilding.rebuild_due.Goals as goal
 
 pub turns-init : goal.turns-init
@@ -15,15 +15,13 @@ try_due-requires-clause-may_start c =
     may_start_went Rebuilds _ _ c.turns.invariant.0.on.gone.went _ _ _ c.requires.may_start
 
 pub returns-in_err-try_due : goal.returns-in_err-try_due
-returns-in_err-try_due c =
-    record {
-      rebuilt = rebuilt_short _ _ _ _ _ c.turns.invariant.0 _ _ c.from_residual.ensures.1
-          c.in_err-try_due.ensures.tried;
-    }
+returns-in_err-try_due c = record {
+  rebuilt = rebuilt_short _ _ _ _ _ c.turns.invariant.0 _ _ c.from_residual.ensures.1
+      c.in_err-try_due.ensures.tried;
+}
 
 pub returns-then-branch : goal.returns-then-branch
-returns-then-branch c =
-    let so_far = c.turns.invariant in let t = c.in_ok-try_due.ensures.tried in
+returns-then-branch c = let so_far = c.turns.invariant in let t = c.in_ok-try_due.ensures.tried in
     record { rebuilt = rebuilt_last _ _ _ _ _ so_far.0 _ so_far.1 t c.if-branch.true }
 
 pub turns-preserved : goal.turns-preserved
@@ -35,6 +33,5 @@ turns-preserved c = (
 
 -- each attempt but the last saw the table make progress
 pub turns-smaller : goal.turns-smaller
-turns-smaller c =
-    fewer_left _ _ c.try_due.ensures.tried.on.on.gone.went.sound
+turns-smaller c = fewer_left _ _ c.try_due.ensures.tried.on.on.gone.went.sound
     (c.try_due.ensures.tried.further (c.in_ok-try_due.was ∙ ap Ok c.if-branch.false))

@@ -24,8 +24,7 @@ returns-in_ok-help_own-in-Yes c =
 
 -- the parent is marked
 pub returns-in-Marked : goal.returns-in-Marked
-returns-in-Marked c =
-    let r = c.in_ok-rebuild.ensures in
+returns-in-Marked c = let r = c.in_ok-rebuild.ensures in
     record { tried = marked_tried c.start_due.ensures.on c.in-Marked.is r.marked r.done }
 
 -- something else is there

@@ -1,6 +1,6 @@
 use Rattle.std.proofs.lemmas.List.Elements.{All-push}
-use Rattle.ist_core.specs.Logs.{GoesOn, same_log}
-use Rattle.ist_core.proofs.PrefixLemmas.{goes_on_more}
+use Rattle.ist_core.specs.LogTerms.{GoesOn, same_log}
+use Rattle.ist_core.proofs.AllLogLemmas.{goes_on_more}
 use Rattle.ist_tree.proofs.returning.+take_all_back.Goals as goal
 
 pub returns-in_default-clause-maker_seen : goal.returns-in_default-clause-maker_seen

@@ -1,11 +1,11 @@
 -- A put or a remove in a call of its own.
 use Rattle.std.proofs.Common.{Ok, ap, ◌∙◌, refl, sym, subst}
+use Rattle.ist_rule.specs.RuleTerms.{word_count_of}
 use Rattle.ist_rule.specs.declared.view.View.{View}
-use Rattle.ist_rule.specs.Faces.{word_count_of}
 use Rattle.ist_updates.specs.Asking.{IsAsked, command_for}
 use Rattle.ist_updates.specs.Counting.{LeavesDue}
 use Rattle.ist_updates.specs.Meeting.{due_in}
-use Rattle.ist_tree.specs.Updates.{HasUpdated}
+use Rattle.ist_tree.specs.CallTerms.{HasUpdated}
 use Rattle.ist_tree.proofs.GoingLemmas.{table_is}
 use Rattle.ist_tree.proofs.InstallLemmas.{applied_starts}
 use Rattle.ist_tree.proofs.UpdateResultLemmas.{applies_by, due_may_start, let_go}
@@ -23,8 +23,7 @@ rebuild_topmost-refused-requires-clause-may_start c =
     (sym c.due.ensures.value) c.in-Ok.ensures.due)
 
 pub end_call-requires : goal.end_call-requires
-end_call-requires c =
-    let did = c.apply.ensures in
+end_call-requires c = let did = c.apply.ensures in
     let a = subst (IsAsked c.begin.new.who) c.command.ensures.value c.begin.ensures.asked in
     let m = applies_by c.begin.new.who c.apply.new.who (command_for c.args.update.key c.args.update.value)
     c.in-Ok.outcome c.reply.result c.due.result c.reply.ensures.value c.due.ensures.value did.caller
@@ -46,8 +45,7 @@ end_call-requires c =
 ends : (c : goal.After-pass-1) → CallEnds c.args.pass.now c.rebuild_topmost-refused.new.who
     c.end_call.new.token c.or-pass-inside.result
     (command_for c.args.update.key c.args.update.value) c.reply.result
-ends c =
-    let did = c.apply.ensures in
+ends c = let did = c.apply.ensures in
     let a = subst (IsAsked c.begin.new.who) c.command.ensures.value c.begin.ensures.asked in
     let m = applies_by c.begin.new.who c.apply.new.who (command_for c.args.update.key c.args.update.value)
     c.in-Ok.outcome c.reply.result c.due.result c.reply.ensures.value c.due.ensures.value did.caller
@@ -84,9 +82,7 @@ returns-in_default-clause-always c is =
 refused : (c : After-give_up-in-Err) → CallStops c.args.pass.now c.begin.new.who
     c.apply.new.who c.give_up-in-Err.new.token c.pass.inside.refused
     (word_count_of c.tree.inside.table)
-refused c =
-    let did = c.apply.ensures in
-    let short = c.in-Err.ensures in
+refused c = let did = c.apply.ensures in let short = c.in-Err.ensures in
     let a = subst (IsAsked c.begin.new.who) c.command.ensures.value c.begin.ensures.asked in
     call_stops _ _ _ _ _ _ _
     (begins_update c.pass.inside.caller c.begin.new.who _ _ _ _ _ _ c.begin.ensures.sound
@@ -110,10 +106,7 @@ returns-in-Err-clause-turned_away c = (refused c).turned_away _ _ _ c.in-Err.ens
 
 missed : (c : After-give_up) → CallStops c.args.pass.now c.begin.new.who c.apply.new.who
     c.give_up.new.token c.pass.inside.refused (word_count_of c.tree.inside.table)
-missed c =
-    let did = c.apply.ensures in
-    let it = c.in-Ok.ensures in
-    let is = ap Ok c.in-Unmet.is in
+missed c = let did = c.apply.ensures in let it = c.in-Ok.ensures in let is = ap Ok c.in-Unmet.is in
     let a = subst (IsAsked c.begin.new.who) c.command.ensures.value c.begin.ensures.asked in
     call_stops _ _ _ _ _ _ _
     (begins_update c.pass.inside.caller c.begin.new.who _ _ _ _ _ _ c.begin.ensures.sound

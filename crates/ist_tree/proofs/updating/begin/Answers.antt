@@ -1,4 +1,4 @@
-use Rattle.ist_tree.proofs.BeginningLemmas.{begun_asked}
+use Rattle.ist_tree.proofs.UpdateKeptLemmas.{begun_asked}
 use Rattle.ist_tree.proofs.updating.begin.Goals as goal
 
 -- nothing of the call took effect yet

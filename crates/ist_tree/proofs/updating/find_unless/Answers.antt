@@ -17,14 +17,12 @@ returns-then-eq-clause-finds c =
 
 pub returns-then-eq-clause-met : goal.returns-then-eq-clause-met
 returns-then-eq-clause-met c e =
-    let same : c.begin_find-found.result.value ≡ c.args.expected = search rules in
-    rw (← same)
+    let same : c.begin_find-found.result.value ≡ c.args.expected = search rules in rw (← same)
     (stops_found c.pass.invariant c.begin_find-found.ensures.found c.pass.view_is c.give_up.ensures.given_up).met
 
 -- it met another
 pub end_call-requires : goal.end_call-requires
-end_call-requires c =
-    let all = c.pass.invariant in let it = c.begin_find-found.ensures.found in
+end_call-requires c = let all = c.pass.invariant in let it = c.begin_find-found.ensures.found in
     (found_table all it c.pass.view_is c.requires.same_tree c.tree.view_is, (may_end_found all it, search rules))
 
 pub invariant_of-pass-2 : goal.invariant_of-pass-2

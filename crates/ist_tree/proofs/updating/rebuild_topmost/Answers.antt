@@ -1,7 +1,7 @@
 -- The topmost row that an update made due is rebuilt, if there is one.
 use Rattle.std.proofs.Common.{subst}
 use Rattle.ist_rebuild.specs.Starting.{MayStart}
-use Rattle.ist_tree.specs.Working.{Applies}
+use Rattle.ist_tree.specs.CallTerms.{Applies}
 use Rattle.ist_tree.proofs.UpdateResultLemmas.{carried_none, carried_some}
 use Rattle.ist_tree.proofs.InstallLemmas.{applied_starts, carried_starts}
 use Rattle.ist_tree.proofs.ShortLemmas.{some_is}

@@ -1,7 +1,6 @@
 use Rattle.std.proofs.Common.{◌-◌, length}
-use Rattle.ist_core.specs.RowLayout.{place_limit}
-use Rattle.ist_tree.specs.Faces.{changes_seen}
-use Rattle.ist_tree.specs.Updates.{IsBetweenRounds}
+use Rattle.ist_core.specs.WordTerms.{place_limit}
+use Rattle.ist_tree.specs.CallTerms.{changes_seen, IsBetweenRounds}
 use Rattle.ist_tree.proofs.updating.run_rounds.Given as goal
 
 -- each round so far let its calls go, and the walks are paid for

@@ -21,8 +21,7 @@ help-requires-clause-may_help c =
 
 -- it was decided yes
 pub returns-in-Yes : goal.returns-in-Yes
-returns-in-Yes c =
-    let r = c.requires in let p = c.install_plan.ensures in let h = c.help.ensures in
+returns-in-Yes c = let r = c.requires in let p = c.install_plan.ensures in let h = c.help.ensures in
     record {
       carried = helped_carried _ _ _ _ r.caller.0 c.know.ensures.sound r.rows r.update r.may_install p.caller
           p.refused p.number (p.yes c.if-not-install_plan.false) h.went h.out _ (rw c.in-Yes.is at h.decided);
@@ -30,8 +29,7 @@ returns-in-Yes c =
 
 -- or no
 pub returns-in-No : goal.returns-in-No
-returns-in-No c =
-    let r = c.requires in let p = c.install_plan.ensures in let h = c.help.ensures in
+returns-in-No c = let r = c.requires in let p = c.install_plan.ensures in let h = c.help.ensures in
     record {
       carried = helped_carried _ _ _ _ r.caller.0 c.know.ensures.sound r.rows r.update r.may_install p.caller
           p.refused p.number (p.yes c.if-not-install_plan.false) h.went h.out _ (rw c.in-No.is at h.decided);

@@ -10,11 +10,10 @@ is_open-requires-clause-node c = slot_node _ c.args.aim c.requires.at_slot
 
 -- which isn't open
 pub returns-then-not-is_open : goal.returns-then-not-is_open
-returns-then-not-is_open c =
-    record {
-      changed = shut_changed _ _ _ c.requires.asked.0 _ c.is_open.ensures.seen _
-          (λ is. not_true _ c.if-not-is_open.true (c.is_open.ensures.open.1 is));
-    }
+returns-then-not-is_open c = record {
+  changed = shut_changed _ _ _ c.requires.asked.0 _ c.is_open.ensures.seen _
+      (λ is. not_true _ c.if-not-is_open.true (c.is_open.ensures.open.1 is));
+}
 
 pub change_open-requires-clause-asked : goal.change_open-requires-clause-asked
 change_open-requires-clause-asked c =
@@ -33,8 +32,7 @@ change_open-requires-clause-unrefused c =
     c.is_open.ensures.unrefused c.args.who.now.number c.if-not-is_open.false
 
 pub returns : goal.returns
-returns c =
-    record {
-      changed = loads_changed _ _ _ c.requires.asked.0 _ c.is_open.ensures.seen _ _ _ c.requires.room
-          c.change_open.ensures.changed;
-    }
+returns c = record {
+  changed = loads_changed _ _ _ c.requires.asked.0 _ c.is_open.ensures.seen _ _ _ c.requires.room
+      c.change_open.ensures.changed;
+}

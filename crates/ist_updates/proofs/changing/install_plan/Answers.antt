@@ -1,15 +1,14 @@
 use Rattle.std.proofs.Common.{subst}
 use Rattle.ist_dcss.specs.Installing.{Filling}
-use Rattle.ist_updates.proofs.GivenLemmas.{given_caller, given_refused}
+use Rattle.ist_updates.proofs.ChangedLemmas.{given_caller, given_refused}
 use Rattle.ist_rows.proofs.GoneLemmas.{loads_gone}
-use Rattle.ist_rule.specs.Learning.{now}
+use Rattle.ist_rule.specs.RuleTerms.{now}
 use Rattle.ist_updates.specs.Further.{HoldsElse}
 use Rattle.ist_updates.proofs.changing.install_plan.Goals as goal
 
 -- if it is installed
 pub returns-in-Yes-clause-yes : goal.returns-in-Yes-clause-yes
-returns-in-Yes-clause-yes g c _ =
-    rw c.give_away.ensures.same.0 (c.install.ensures.yes c.in-Yes.is)
+returns-in-Yes-clause-yes g c _ = rw c.give_away.ensures.same.0 (c.install.ensures.yes c.in-Yes.is)
 
 pub returns-in-Yes-clause-caller : goal.returns-in-Yes-clause-caller
 returns-in-Yes-clause-caller g c =

@@ -2,9 +2,8 @@ use Rattle.std.proofs.Common.{ap, ◌∙◌, inl, inr, refl, rules, arith}
 use Rattle.ist_rule.proofs.WentOnLemmas.{went_same}
 use Rattle.ist_rows.specs.declared.kinds.Kind.TheVariants as kind
 use Rattle.ist_rows.proofs.GoneLemmas.{gone_more}
-use Rattle.ist_updates.proofs.ShortLemmas.{row_refused}
+use Rattle.ist_updates.proofs.PlanLemmas.{row_refused, leaf_planned}
 use Rattle.ist_updates.proofs.PairLemmas.{taken_good}
-use Rattle.ist_updates.proofs.PlanLemmas.{leaf_planned}
 use Rattle.ist_updates.proofs.changing.plan_leaf.Goals as goal
 
 -- the leaf was refused
@@ -30,8 +29,7 @@ to_word-to-requires c =
 
 -- the plan is one for the slot
 pub returns : goal.returns
-returns c =
-    let leaf = c.in_ok-leaf.ensures in let change = c.in_ok-base.ensures in
+returns c = let leaf = c.in_ok-leaf.ensures in let change = c.in_ok-base.ensures in
     let all = gone_more _ _ _ _ leaf.gone change.gone in
     let planned = leaf_planned _ c.args.who.now c.take-2.new.who all.went c.args.aim c.requires.at_slot _
     change.held c.args.value _ _ c.requires.room (ap (λ s. s.leaf) change.rows ∙ leaf.held)

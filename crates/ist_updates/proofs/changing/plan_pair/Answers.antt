@@ -2,9 +2,8 @@ use Rattle.std.proofs.Common.{ap, ◌∙◌, inl, inr, refl, rules, arith}
 use Rattle.ist_rule.proofs.WentOnLemmas.{went_grow, went_same}
 use Rattle.ist_rows.specs.declared.kinds.Kind.TheVariants as kind
 use Rattle.ist_rows.proofs.GoneLemmas.{gone_more}
-use Rattle.ist_updates.proofs.ShortLemmas.{row_refused}
+use Rattle.ist_updates.proofs.PlanLemmas.{row_refused, slot_node, pair_planned}
 use Rattle.ist_updates.proofs.PairLemmas.{node_on, taken_good}
-use Rattle.ist_updates.proofs.PlanLemmas.{slot_node, pair_planned}
 use Rattle.ist_updates.proofs.changing.plan_pair.Goals as goal
 
 -- the node is one

@@ -1,4 +1,4 @@
-use Rattle.ist_rule.specs.Faces.{word_count_of}
+use Rattle.ist_rule.specs.RuleTerms.{word_count_of}
 use Rattle.ist_updates.proofs.TakeLemmas.{taken}
 use Rattle.ist_updates.proofs.changing.take.Goals as goal
 

@@ -1,9 +1,9 @@
 use Rattle.std.proofs.Common.{ap, ◌∙◌, ⊎_elim, rules, arith}
+use Rattle.ist_rows.specs.RowTerms.{Spares}
 use Rattle.ist_rows.specs.declared.kinds.Kind.TheVariants.{Pair}
-use Rattle.ist_rows.specs.Rows.{Spares}
 use Rattle.ist_rule.proofs.WentOnLemmas.{went_grow}
 use Rattle.ist_updates.specs.Changing.{Prepares}
-use Rattle.ist_updates.proofs.ShortLemmas.{short_after}
+use Rattle.ist_updates.proofs.PlanLemmas.{short_after}
 use Rattle.ist_rows.proofs.GoneLemmas.{gone_more}
 use Rattle.ist_updates.proofs.PairLemmas.{fresh_above, node_on, taken_good}
 use Rattle.ist_updates.proofs.changing.take_pair.Goals as goal
@@ -13,14 +13,11 @@ returns-in_err-base-clause-gone c =
     gone_more Prepares _ _ _ c.drop_below.ensures.gone c.in_err-base.ensures.gone
 
 pub returns-in_err-base-clause-full : goal.returns-in_err-base-clause-full
-returns-in_err-base-clause-full c =
-    let gone = c.drop_below.ensures.gone in
-    let full = short_after Prepares _ _ _ _ _ gone.went c.in_err-base.ensures.full in
-    search rules
+returns-in_err-base-clause-full c = let gone = c.drop_below.ensures.gone in
+    let full = short_after Prepares _ _ _ _ _ gone.went c.in_err-base.ensures.full in search rules
 
 pub returns-clause-gone : goal.returns-clause-gone
-returns-clause-gone c =
-    gone_more Prepares _ _ _ c.drop_below.ensures.gone c.in_ok-base.ensures.gone
+returns-clause-gone c = gone_more Prepares _ _ _ c.drop_below.ensures.gone c.in_ok-base.ensures.gone
 
 -- the other rows are held still
 pub returns-clause-others : goal.returns-clause-others

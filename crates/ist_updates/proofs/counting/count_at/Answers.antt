@@ -1,6 +1,6 @@
 use Rattle.std.proofs.Common.{ap, arith}
-use Rattle.ist_rule.proofs.KnownPlaceLemmas.{known_low}
-use Rattle.ist_updates.proofs.CountAtLemmas.{size_low, size_off, can_count, found_fits, all_went, counted_at}
+use Rattle.ist_rule.proofs.ExchangeLemmas.{known_low}
+use Rattle.ist_updates.proofs.AfterLemmas.{size_low, size_off, can_count, found_fits, all_went, counted_at}
 use Rattle.ist_updates.proofs.counting.count_at.Goals as goal
 
 -- the add may be the Count
@@ -23,8 +23,7 @@ load-size-requires-clause-no_walk c =
 
 -- the count is no great number
 pub overflow_add-result : goal.overflow_add-result
-overflow_add-result c =
-    let can = c.requires.may_count in
+overflow_add-result c = let can = c.requires.may_count in
     record { fits = found_fits _ c.know.ensures.sound _ can c.from-place.ensures c.add-found.ensures.added }
 
 -- the step was the Count, and a load

@@ -1,5 +1,5 @@
 use Rattle.std.proofs.Common.{◌-◌}
-use Rattle.ist_core.specs.RowLayout.{inner_count_offset}
+use Rattle.ist_core.specs.WordTerms.{inner_count_offset}
 use Rattle.ist_updates.specs.Walking.{counting}
 use Rattle.ist_updates.proofs.counting.count_at.Given as goal
 

@@ -1,4 +1,4 @@
-use Rattle.ist_updates.proofs.CountingLemmas.{counted_on, counted_due, counted_as_before}
+use Rattle.ist_updates.proofs.DescentLemmas.{counted_on, counted_due, counted_as_before}
 use Rattle.ist_updates.proofs.counting.count_update.Goals as goal
 
 -- if the row reached its limit

@@ -1,7 +1,7 @@
 use Rattle.std.proofs.Common.{arith}
-use Rattle.ist_core.specs.Pieces.{Change as ChangePiece, words_of}
+use Rattle.ist_core.specs.WordTerms.{Change as ChangePiece, words_of}
 use Rattle.ist_rows.specs.declared.kinds.Kind.TheVariants.{Change}
-use Rattle.ist_updates.proofs.StoredLemmas.{row_filled}
+use Rattle.ist_updates.proofs.PairLemmas.{row_filled}
 use Rattle.ist_updates.proofs.filling.fill_change.Goals as goal
 
 -- the words are stored in the row only

@@ -1,10 +1,9 @@
 use Rattle.std.proofs.Common.{sym, subst}
-use Rattle.ist_core.specs.Snapshots.{bases_of}
-use Rattle.ist_rule.specs.Conditions.{StoredAll}
-use Rattle.ist_rows.specs.CallerLaws.{AreBasesOf}
-use Rattle.ist_rows.specs.Rows.{spares_of}
+use Rattle.ist_core.specs.LogTerms.{bases_of}
+use Rattle.ist_rule.specs.RuleTerms.{StoredAll}
+use Rattle.ist_rows.specs.RowTerms.{AreBasesOf, spares_of}
 use Rattle.ist_updates.specs.Changing.{fresh_rows, kinds_of}
-use Rattle.ist_updates.proofs.StoredLemmas.{pair_stored}
+use Rattle.ist_updates.proofs.PairLemmas.{pair_stored}
 use Rattle.ist_updates.proofs.filling.fill_fresh.Goals as goal
 
 -- the words of both rows are stored

@@ -1,6 +1,6 @@
 use Rattle.std.proofs.Common.{[], ◌∷◌, arith}
 use Rattle.ist_rows.specs.declared.kinds.Kind.TheVariants.{Leaf}
-use Rattle.ist_updates.proofs.StoredLemmas.{row_filled}
+use Rattle.ist_updates.proofs.PairLemmas.{row_filled}
 use Rattle.ist_updates.proofs.filling.fill_leaf.Goals as goal
 
 -- the words are stored in the row only

@@ -1,4 +1,4 @@
-use Rattle.ist_updates.proofs.StoredLemmas.{fresh_kept}
+use Rattle.ist_updates.proofs.PairLemmas.{fresh_kept}
 use Rattle.ist_updates.proofs.filling.fill_rows.Goals as goal
 
 -- the words of all rows are stored

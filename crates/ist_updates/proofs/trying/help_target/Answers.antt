@@ -2,9 +2,8 @@ use Rattle.std.proofs.Common.{rules, Ok, ap, ◌∙◌}
 use Rattle.ist_rows.proofs.GoneLemmas.{gone_all}
 use Rattle.ist_rebuild.specs.Going.{ServesRebuild}
 use Rattle.ist_updates.specs.Trying.{Tries}
-use Rattle.ist_updates.proofs.AskedLemmas.{asked_served}
-use Rattle.ist_updates.proofs.StepLemmas.{serves_tries}
-use Rattle.ist_updates.proofs.HelpedLemmas.{slot_started, help_refused, refused_still}
+use Rattle.ist_updates.proofs.StepLemmas.{asked_served, serves_tries}
+use Rattle.ist_updates.proofs.ChangedLemmas.{slot_started, help_refused, refused_still}
 use Rattle.ist_updates.proofs.AfterLemmas.{after_went}
 use Rattle.ist_updates.proofs.FurtherLemmas.{target_further}
 use Rattle.ist_updates.proofs.TryResultLemmas.{again_tried, refused_tried}
@@ -18,8 +17,7 @@ help_rebuild-requires-clause-started c =
 
 -- its help was refused
 pub returns-in_err-help_rebuild-clause-tried : goal.returns-in_err-help_rebuild-clause-tried
-returns-in_err-help_rebuild-clause-tried c =
-    let on = c.help_rebuild.ensures.helped.on in
+returns-in_err-help_rebuild-clause-tried c = let on = c.help_rebuild.ensures.helped.on in
     let still = asked_served _ _ _ c.requires.asked.0 on.gone on.quiet.resolved in
     let h = refused_tried _ _ c.args.aim c.args.update.value _ _
     (gone_all ServesRebuild Tries serves_tries _ _ on.gone) (refused_still c.args.who.now c.help_rebuild.new.who c.args.aim.key c.args.update.value _ _ still
@@ -30,8 +28,7 @@ returns-in_err-help_rebuild-clause-tried c =
 
 -- or it was replaced, or its parent is marked
 pub returns-clause-tried : goal.returns-clause-tried
-returns-clause-tried c =
-    let h = c.help_rebuild.ensures in let on = h.helped.on in
+returns-clause-tried c = let h = c.help_rebuild.ensures in let on = h.helped.on in
     let was = c.in_ok-help_rebuild.was in
     again_tried _ _ c.args.aim c.args.update.value _ (gone_all ServesRebuild Tries serves_tries _ _ on.gone)
     (asked_served _ _ _ c.requires.asked.0 on.gone on.quiet.resolved)

@@ -1,15 +1,13 @@
 use Rattle.std.proofs.Common.{Some, None, refl}
-use Rattle.ist_core.specs.Installing.{same_key}
-use Rattle.ist_rule.specs.Learning.{now}
-use Rattle.ist_updates.proofs.LeafLemmas.{own_value, other_value}
+use Rattle.ist_core.specs.TreeTerms.{same_key}
+use Rattle.ist_rule.specs.RuleTerms.{now}
+use Rattle.ist_updates.proofs.AfterLemmas.{own_value, other_value}
 use Rattle.ist_updates.proofs.TryResultLemmas.{changed_tried, leaf_unchanged, pair_unchanged}
 use Rattle.ist_updates.proofs.trying.put_at.Goals as goal
 
 -- a leaf of the key leaves room
 pub change_slot-requires-clause-room : goal.change_slot-requires-clause-room
-change_slot-requires-clause-room c =
-    let row = c.args.leaf in
-    same_key c.args.base c.requires.leaf
+change_slot-requires-clause-room c = let row = c.args.leaf in same_key c.args.base c.requires.leaf
     record { row = row; published = c.requires.stands; key_is = c.if-leaf-aim.true }
 
 -- the put was over a leaf of the key

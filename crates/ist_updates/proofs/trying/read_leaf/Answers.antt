@@ -1,4 +1,4 @@
-use Rattle.ist_updates.proofs.LeafLemmas.{leaf_read}
+use Rattle.ist_updates.proofs.AfterLemmas.{leaf_read}
 use Rattle.ist_updates.proofs.trying.read_leaf.Goals as goal
 
 pub returns-clause-published : goal.returns-clause-published

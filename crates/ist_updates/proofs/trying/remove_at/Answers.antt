@@ -1,6 +1,6 @@
 use Rattle.std.proofs.Common.{Some, None, refl}
-use Rattle.ist_rule.specs.Learning.{now}
-use Rattle.ist_updates.proofs.LeafLemmas.{own_value}
+use Rattle.ist_rule.specs.RuleTerms.{now}
+use Rattle.ist_updates.proofs.AfterLemmas.{own_value}
 use Rattle.ist_updates.proofs.TriedLemmas.{found_other, found_key}
 use Rattle.ist_updates.proofs.TryResultLemmas.{changed_tried, nothing_tried, remove_unchanged}
 use Rattle.ist_updates.proofs.trying.remove_at.Goals as goal

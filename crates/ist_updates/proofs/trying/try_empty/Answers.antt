@@ -1,7 +1,7 @@
 use Rattle.std.proofs.Common.{None, ap, refl, sym}
-use Rattle.ist_core.specs.Changes.{value_at}
-use Rattle.ist_rule.specs.Learning.{now}
-use Rattle.ist_rule.proofs.GoingOnLemmas.{goes_on_same}
+use Rattle.ist_core.specs.TreeTerms.{value_at}
+use Rattle.ist_rule.specs.RuleTerms.{now}
+use Rattle.ist_rule.proofs.EventLemmas.{goes_on_same}
 use Rattle.ist_updates.specs.Asking.{command_for}
 use Rattle.ist_updates.proofs.MissLemmas.{none_missed}
 use Rattle.ist_updates.proofs.TriedLemmas.{found_nothing}
@@ -24,8 +24,7 @@ returns-in_err-taken-in-Some-clause-tried c =
     leaf_unchanged _ c.from_residual.ensures.1 c.in-Some.is c.in_err-taken-in-Some.ensures.changed
 
 pub returns-in_ok-taken-in-Some-clause-tried : goal.returns-in_ok-taken-in-Some-clause-tried
-returns-in_ok-taken-in-Some-clause-tried c =
-    changed_tried c.args.update.value c.answer.result None
+returns-in_ok-taken-in-Some-clause-tried c = changed_tried c.args.update.value c.answer.result None
     (ap (command_for c.args.aim.key) (sym c.in-Some.is)) c.in_ok-taken-in-Some.ensures.changed
     c.answer.ensures.took c.answer.ensures.again
     (ap (λ r. value_at (now c.args.who.now.token.view).pieces r c.args.aim.key) c.requires.empty)

@@ -12,10 +12,8 @@ read_leaf-leaf-requires-clause-leaf c = slot_leaf _ c.args.aim c.requires.at_slo
 
 -- the key has another value than it should
 pub returns-then-not-meets : goal.returns-then-not-meets
-returns-then-not-meets c =
-    let seen = c.read_leaf-leaf.ensures.seen in
-    let a = loads_asked _ _ c.args.aim.key c.args.update.value c.requires.asked.0 seen in
-    record {
+returns-then-not-meets c = let seen = c.read_leaf-leaf.ensures.seen in
+    let a = loads_asked _ _ c.args.aim.key c.args.update.value c.requires.asked.0 seen in record {
       tried = loads_tried c.requires.asked.0 seen refl (unmet_tried _ _ c.args.update.value _ seen.sound a);
       met = tt;
       missed = λ _. leaf_missed _ _ seen c.args.aim (slot_loads _ c.args.aim c.requires.at_slot _ seen) _ _ _

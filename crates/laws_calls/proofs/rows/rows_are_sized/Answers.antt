@@ -1,4 +1,4 @@
-use Rattle.laws_calls.proofs.SizedLemmas.{row_sized}
+use Rattle.laws_calls.proofs.UpLemmas.{row_sized}
 use Rattle.laws_calls.proofs.rows.rows_are_sized.Goals as goal
 
 pub returns : goal.returns

@@ -1,4 +1,4 @@
-use Rattle.laws_histories.proofs.RefusedExampleLemmas.{rebuild_changes}
+use Rattle.laws_histories.proofs.ReachedByKeyLemmas.{rebuild_changes}
 use Rattle.laws_histories.proofs.examples.a_rebuild_leaves_the_map.Goals as goal
 
 pub returns : goal.returns

@@ -1,4 +1,4 @@
-use Rattle.laws_histories.proofs.RefusedExampleLemmas.{refused_is_lawful, refused_changes, refused_contents}
+use Rattle.laws_histories.proofs.ReachedByKeyLemmas.{refused_is_lawful, refused_changes, refused_contents}
 use Rattle.laws_histories.proofs.examples.a_refused_put_leaves_the_map.Goals as goal
 
 pub returns : goal.returns

@@ -1,4 +1,4 @@
-use Rattle.laws_histories.proofs.CallExampleLemmas.{writer_stands, early_stands, reader_stands, late_fresh, calls_woven, history_legal}
+use Rattle.laws_histories.proofs.ContentLemmas.{writer_stands, early_stands, reader_stands, late_fresh, calls_woven, history_legal}
 use Rattle.laws_histories.proofs.examples.two_passes_are_woven.Goals as goal
 
 pub returns : goal.returns

@@ -1,4 +1,4 @@
-use Rattle.laws_histories.proofs.PositionOnLemmas.{position_on}
+use Rattle.laws_histories.proofs.ChangeLemmas.{position_on}
 use Rattle.laws_histories.proofs.laws.positions_go_on.Goals as goal
 
 pub returns : goal.returns

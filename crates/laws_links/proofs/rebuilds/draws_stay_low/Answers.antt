@@ -1,4 +1,4 @@
-use Rattle.laws_links.proofs.DrawWordLemmas.{draw_low}
+use Rattle.laws_links.proofs.ResolvedLemmas.{draw_low}
 use Rattle.laws_links.proofs.rebuilds.draws_stay_low.Goals as goal
 
 pub returns : goal.returns

@@ -1,5 +1,5 @@
 use Rattle.std.proofs.Common.{false, IsTrue, length, arith}
-use Rattle.ist_core.proofs.WordLemmas.{ideal_words_is}
+use Rattle.ist_core.proofs.AllWordLemmas.{ideal_words_is}
 use Rattle.log_check.proofs.logs.may_open.Goals as goal
 use Rattle.log_check.proofs.logs.may_open.Goals.{then-count-words-via-then-count-words, then-count-words-via-else-count-words+then-from-ideal_words}
 

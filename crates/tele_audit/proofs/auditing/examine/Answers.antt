@@ -1,5 +1,4 @@
-use Rattle.tele_audit.proofs.ClaimLemmas.{fails_first}
-use Rattle.tele_audit.proofs.ExamineLemmas.{leaf_passes, leaf_fails, reads_meant, row_passes, row_fails}
+use Rattle.tele_audit.proofs.ClaimLemmas.{fails_first, leaf_passes, leaf_fails, reads_meant, row_passes, row_fails}
 use Rattle.tele_audit.proofs.auditing.examine.Goals as goal
 
 pub returns-in_default-clause-failed : goal.returns-in_default-clause-failed

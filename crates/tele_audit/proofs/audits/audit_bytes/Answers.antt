@@ -5,8 +5,7 @@ use Rattle.tele_audit.proofs.audits.audit_bytes.Goals.{After-know_fit}
 
 -- the words that were read are those that the bytes encode
 read : (c : After-know_fit) → AreRead c.args.bytes.items c.number_at-used.result c.of-words.result
-read c =
-    words_read _ _ _ _ c.requires.head c.requires.whole c.as_slice-2.ensures.value
+read c = words_read _ _ _ _ c.requires.head c.requires.whole c.as_slice-2.ensures.value
     c.number_at-used.ensures.value c.of-words.ensures.value
 
 pub word-requires : goal.word-requires
@@ -25,8 +24,7 @@ of-requires c = record {
 }
 
 pub returns-in-Ok-Ok-clause-lawful : goal.returns-in-Ok-Ok-clause-lawful
-returns-in-Ok-Ok-clause-lawful c =
-    let here = goal.at.returns-in-Ok-Ok-clause-lawful c in
+returns-in-Ok-Ok-clause-lawful c = let here = goal.at.returns-in-Ok-Ok-clause-lawful c in
     read_lawfully (read here.After-know_fit) c.zeros_change_nothing.ensures.nothing
     (rw c.as_slice-3.ensures.value at c.know_bytes.ensures.bytes) c.know_fit.ensures.fit _ _
     (rw c.as_slice.ensures.value at c.number_at-count.ensures.value)

@@ -27,13 +27,11 @@ returns-in-Some-clause-flaw g c flaw e =
 
 -- what was taken is all
 pub returns-in-None : goal.returns-in-None
-returns-in-None g c =
-    let h = reaches g (goal.at.returns-in-None g c).After-length_flaw in
-    record {
-      lawful = if_ok_so _ _ c.audit_bytes.result
-          (λ told. reached_so h (λ xs. IsLawfulDump xs told) c.in-None.is) c.audit_bytes.ensures.lawful;
-      whole = at_ok c.audit_bytes.result (reached_end h c.in-None.is);
-      flaw = λ f e. reached_so h (λ xs. IsFirstFlaw xs f) c.in-None.is (c.audit_bytes.ensures.flaw f e);
-      failed = search rules;
-      counted = search rules;
-    }
+returns-in-None g c = let h = reaches g (goal.at.returns-in-None g c).After-length_flaw in record {
+  lawful = if_ok_so _ _ c.audit_bytes.result
+      (λ told. reached_so h (λ xs. IsLawfulDump xs told) c.in-None.is) c.audit_bytes.ensures.lawful;
+  whole = at_ok c.audit_bytes.result (reached_end h c.in-None.is);
+  flaw = λ f e. reached_so h (λ xs. IsFirstFlaw xs f) c.in-None.is (c.audit_bytes.ensures.flaw f e);
+  failed = search rules;
+  counted = search rules;
+}

@@ -20,16 +20,12 @@ returns-in-Ok-lay-clause-part g c =
 
 -- the bad line was named
 pub returns-in-Ok-print_bad-clause-text : goal.returns-in-Ok-print_bad-clause-text
-returns-in-Ok-print_bad-clause-text g c =
-    let bad = c.in-Err-Bad in
-    writes_if Pack _ _ _ BAD_LINE _
+returns-in-Ok-print_bad-clause-text g c = let bad = c.in-Err-Bad in writes_if Pack _ _ _ BAD_LINE _
     (bad_due _ bad.line bad.cause (bad.ensures.bad bad.line bad.cause (ap Err bad.field-0-is)))
     (same_bad _ _ _ bad.line _ bad.cause bad.line-is bad.cause-is c.in-Ok-print_bad.ensures.printed)
 
 -- or a part of its name
 pub returns-in-Err-Bad-clause-part : goal.returns-in-Err-Bad-clause-part
-returns-in-Err-Bad-clause-part g c =
-    let bad = c.in-Err-Bad in
-    part_if Pack _ _ _ BAD_LINE _
+returns-in-Err-Bad-clause-part g c = let bad = c.in-Err-Bad in part_if Pack _ _ _ BAD_LINE _
     (bad_due _ bad.line bad.cause (bad.ensures.bad bad.line bad.cause (ap Err bad.field-0-is)))
     (same_bad_part _ _ _ bad.line _ bad.cause bad.line-is bad.cause-is c.in-Err-print_bad.ensures.part)

@@ -1,4 +1,4 @@
-use Rattle.ist_core.specs.Map.{map_of}
+use Rattle.ist_core.specs.TreeTerms.{map_of}
 use Rattle.tele_audit.proofs.PackLemmas.{point_few}
 use Rattle.tele_audit.proofs.packing.take.Goals as goal
 

@@ -7,8 +7,7 @@ use Rattle.tele_audit.proofs.runs.tell.Goals as goal
 
 -- a part of the answer was written
 pub returns-in-Ok-clause-part : goal.returns-in-Ok-clause-part
-returns-in-Ok-clause-part g c =
-    part_if (Tell c.args.question) (g.O.Sink.written c.args.out.now)
+returns-in-Ok-clause-part g c = part_if (Tell c.args.question) (g.O.Sink.written c.args.out.now)
     (g.O.Sink.written c.write_answer.new.out) _ DONE (g.S.Source.left c.args.source.now)
     (answer_due (g.S.Source.left c.args.source.now) c.args.question c.in-Ok.told
     c.in-Ok.ensures.lawful)
@@ -16,8 +15,7 @@ returns-in-Ok-clause-part g c =
 
 -- the flaw was named
 pub returns-in-Ok-write_flaw-clause-text : goal.returns-in-Ok-write_flaw-clause-text
-returns-in-Ok-write_flaw-clause-text g c =
-    let bad = c.in-Err-Bad in
+returns-in-Ok-write_flaw-clause-text g c = let bad = c.in-Err-Bad in
     writes_if (Tell c.args.question) (g.O.Sink.written c.args.out.now)
     (g.O.Sink.written c.write_flaw.new.out) (flaw_text bad.flaw) FLAWED
     (g.S.Source.left c.args.source.now)
@@ -27,8 +25,7 @@ returns-in-Ok-write_flaw-clause-text g c =
 
 -- or a part of its name
 pub returns-in-Err-Bad-clause-part : goal.returns-in-Err-Bad-clause-part
-returns-in-Err-Bad-clause-part g c =
-    let bad = c.in-Err-Bad in
+returns-in-Err-Bad-clause-part g c = let bad = c.in-Err-Bad in
     part_if (Tell c.args.question) (g.O.Sink.written c.args.out.now)
     (g.O.Sink.written c.write_flaw.new.out) (flaw_text bad.flaw) FLAWED
     (g.S.Source.left c.args.source.now)

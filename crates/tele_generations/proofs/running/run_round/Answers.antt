@@ -11,14 +11,11 @@ use Rattle.tele_generations.proofs.running.run_round.Goals as goal
 
 -- before the first table
 pub loop-way-init : goal.loop-way-init
-loop-way-init g c =
-    let e = c.in_ok-way.ensures in
-    let lanes = lane_count c.args.workers c.args.steal in
-    let words = c.in_ok-way.way.words in
+loop-way-init g c = let e = c.in_ok-way.ensures in
+    let lanes = lane_count c.args.workers c.args.steal in let words = c.in_ok-way.way.words in
     let first = first_words c.args.words c.args.workers (length c.args.pairs.now)
     (length c.args.tasks.now) in
-    let kept = g.H.Shelf.kept c.args.shelf.now in
-    record {
+    let kept = g.H.Shelf.kept c.args.shelf.now in record {
       tables = rw (e.fulls, e.pairs, e.left)
           (tables_begin lanes first c.args.pairs.now c.args.tasks.now kept words kept refl e.words);
       on = rw (e.fulls, e.answers, e.pairs, e.left)
@@ -57,8 +54,7 @@ returns-in_default-clause-answers g c =
     same c.finish.ensures.answers_rise
 
 pub returns-in_default-clause-generations : goal.returns-in_default-clause-generations
-returns-in_default-clause-generations g c =
-    let was = c.loop-way.invariant in
+returns-in_default-clause-generations g c = let was = c.loop-way.invariant in
     let last = last_table c.in_ok-made.made.closed was.tables was.on c.in_ok-made.ensures.ran
     c.in_default.is in
     IfOk-both c.finish.result _ _ _ (λ v closed fulls. ends_with last closed fulls)
@@ -79,11 +75,8 @@ loop-way-smaller g c =
     omega arith
 
 pub loop-way-preserved : goal.loop-way-preserved
-loop-way-preserved g c =
-    let was = c.loop-way.invariant in
-    let r = c.in_ok-made.ensures.ran in
-    let h = c.in_ok-pairs.ensures.of_map in
-    record {
+loop-way-preserved g c = let was = c.loop-way.invariant in let r = c.in_ok-made.ensures.ran in
+    let h = c.in_ok-pairs.ensures.of_map in record {
       tables = tables_go_on c.in_ok-made.made.closed c.in_ok-way-2.ensures.on was.tables was.on r h
           c.in-Some.is c.keep.ensures.kept;
       on = (way_goes_on c.in_ok-way-2.ensures.on was.on r h c.in-Some.is).on;

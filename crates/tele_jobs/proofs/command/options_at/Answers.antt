@@ -26,9 +26,7 @@ in_rows : (f : Found) (name : List ℕ) (o : Option ℕ) → o ≡ option_map nu
 in_rows f name o is = is ∙ ap (option_map number_said) (first_value-rows f name)
 
 pub returns-clause-value : goal.returns-clause-value
-returns-clause-value c =
-    let f = found_of c.args.matches.now in
-    same_options _ _ _ _ _ _ _ _ _ _
+returns-clause-value c = let f = found_of c.args.matches.now in same_options _ _ _ _ _ _ _ _ _ _
     (c.unwrap_or.ensures ∙ ap (λ o. unwrap_or o 4)
     (in_rows f (codes "workers") _ c.number.ensures.value))
     (c.unwrap_or-2.ensures ∙ ap (λ o. unwrap_or o 33554432)

@@ -6,14 +6,12 @@ use Rattle.tele_jobs.proofs.jobs.read_plan.Goals as goal
 
 -- the command line is accepted
 pub returns-in-Some-clause-value : goal.returns-in-Some-clause-value
-returns-in-Some-clause-value c =
-    let met = c.in-Ok.ensures in
+returns-in-Some-clause-value c = let met = c.in-Ok.ensures in
     ap (λ (p : Plan). p.job) c.plan_for.ensures.value
     ∙ makes _ c.in-Ok.options c.in-Some.count (met.taken refl) met.values c.in-Some.is
 
 pub returns-in-None-clause-value : goal.returns-in-None-clause-value
-returns-in-None-clause-value c =
-    let met = c.in-Ok.ensures in
+returns-in-None-clause-value c = let met = c.in-Ok.ensures in
     ap (λ (p : Plan). p.job) c.plan_for-in-None.ensures.value
     ∙ reads _ c.in-Ok.options (met.taken refl) met.values c.in-None.is
 

@@ -14,8 +14,7 @@ not_cut status is (inr wanting) = omega (arith, is, wanting)
 
 -- a part of the summary was written
 pub returns-clause-part : goal.returns-clause-part
-returns-clause-part g c cut =
-    let was_cut = subst IsCutShort c.ended.ensures.status cut in
+returns-clause-part g c cut = let was_cut = subst IsCutShort c.ended.ensures.status cut in
     let text = summary_text (summary_of c.args.count c.args.seed) in
     let before = g.O.Sink.written c.args.out.now in
     elim c.match-summarize.branch [
@@ -25,7 +24,6 @@ returns-clause-part g c cut =
           (subst (λ s. AppendsPart before (g.O.Sink.written w.end_with_summary.new.out)
           (summary_text s))
           w.in-Ok.ensures.value w.in-Err-end_with_summary.ensures.part)
-      | in-Err w ↦
-          subst (λ out. AppendsPart before (g.O.Sink.written out) text) (sym w.out-is)
+      | in-Err w ↦ subst (λ out. AppendsPart before (g.O.Sink.written out) text) (sym w.out-is)
           (AppendsPart-nothing before text)
     ]

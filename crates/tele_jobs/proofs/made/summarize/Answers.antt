@@ -22,9 +22,7 @@ answer_made-requires-clause-rising g c κs within =
 
 -- one more line, and the round is answered if it ends there
 pub loop-line-preserved : goal.loop-line-preserved
-loop-line-preserved g c =
-    let asks = c.in_ok-ask.ensures in
-    let was = c.loop-line.invariant in
+loop-line-preserved g c = let asks = c.in_ok-ask.ensures in let was = c.loop-line.invariant in
     let before = g.H.Shelf.kept c.args.shelf.now in
     let sums = sums_asked _ _ c.loop-line.line _ c.make.new.self _ c.loop-line.round c.ask.new.self
     _ c.loop-line-test.true
@@ -35,10 +33,8 @@ loop-line-preserved g c =
     c.args.round.now.words c.args.count c.args.seed
     (c.loop-line.line + 1) c.make.new.self before kept now in
     elim c.if-is_full.branch [
-      | then-is_full+in_ok-found w ↦
-          let met = w.in_ok-found.ensures in
-          let new = w.answer_made.new.round in
-          record {
+      | then-is_full+in_ok-found w ↦ let met = w.in_ok-found.ensures in
+          let new = w.answer_made.new.round in record {
             sums = subst (S c.if-is_full.found) (sym w.round-is)
                 (sums_closed _ _ _ _ _ w.in_ok-found.field-0 _ c.ask.new.self new met.found met.few
                 met.following met.none
@@ -50,39 +46,32 @@ loop-line-preserved g c =
                 c.make.ensures.value c.make.ensures.next asks.asked was.runs new _
                 (c.is_full.ensures.value.0 w.if-is_full.true) met.ran met.none met.few_pairs));
           }
-      | else-is_full w ↦
-          let mid = c.ask.new.self in
-          record {
-            sums = subst (S c.if-is_full.found) (sym w.round-is) (subst (λ f. S f mid) (sym
-                w.found-is) sums);
-            runs = subst (R (g.H.Shelf.kept c.if-is_full.shelf)) (sym w.round-is) (subst (λ k. R k
-                mid) (ap g.H.Shelf.kept (sym w.shelf-is))
-                (made_asked _ _ _ _ before c.loop-line.line _ _ _ c.loop-line.round mid _
-                c.loop-line-test.true refl
-                c.make.ensures.value c.make.ensures.next asks.asked was.runs
-                (still_few c.loop-line.round mid _ _ asks.asked was.runs.few
-                c.is_full.ensures.value.1 w.if-is_full.false)));
-          }
+      | else-is_full w ↦ let mid = c.ask.new.self in record {
+        sums = subst (S c.if-is_full.found) (sym w.round-is) (subst (λ f. S f mid) (sym
+            w.found-is) sums);
+        runs = subst (R (g.H.Shelf.kept c.if-is_full.shelf)) (sym w.round-is) (subst (λ k. R k
+            mid) (ap g.H.Shelf.kept (sym w.shelf-is))
+            (made_asked _ _ _ _ before c.loop-line.line _ _ _ c.loop-line.round mid _
+            c.loop-line-test.true refl c.make.ensures.value c.make.ensures.next asks.asked was.runs
+            (still_few c.loop-line.round mid _ _ asks.asked was.runs.few
+            c.is_full.ensures.value.1 w.if-is_full.false)));
+      }
     ]
 
 -- all rounds
 pub returns-clause-ran : goal.returns-clause-ran
 returns-clause-ran g c =
     made_last _ _ c.args.count c.args.seed _ c.loop-line.line _ _ c.loop-line.round _ _
-    c.loop-line-test.false
-    c.loop-line.invariant.runs c.in_ok-found-2.ensures.ran
+    c.loop-line-test.false c.loop-line.invariant.runs c.in_ok-found-2.ensures.ran
 
 -- the summary
 pub returns-clause-value : goal.returns-clause-value
-returns-clause-value g c =
-    let met = c.in_ok-found-2.ensures in
-    let last = c.answer_made-2.new.round in
-    let line = c.loop-line.line in
+returns-clause-value g c = let met = c.in_ok-found-2.ensures in
+    let last = c.answer_made-2.new.round in let line = c.loop-line.line in
     let sums = sums_closed c.args.count c.args.seed line c.loop-line.maker _ c.in_ok-found-2.field-0
     _ c.loop-line.round last
     met.found met.few met.following met.none refl c.loop-line.invariant.sums in
     let all = sums_last c.args.count c.args.seed line c.loop-line.maker _ last
     c.loop-line-test.false met.none sums in
     summary_is c.args.count c.args.seed _ _ _ (map_in last) all.1 (ap length c.pairs.ensures.value)
-    all.0
-    (c.sum_of.ensures.value ∙ ap value_sum c.pairs-2.ensures.value)
+    all.0 (c.sum_of.ensures.value ∙ ap value_sum c.pairs-2.ensures.value)

@@ -9,8 +9,7 @@ returns-clause-printed g c =
     at_ok c.pass_on.result (appends_keeps _ _ _ _ c.in_ok-write_whole.ensures.whole c.pass_on.ensures.same)
 
 pub returns-clause-part : goal.returns-clause-part
-returns-clause-part g c =
-    at_refusal c.pass_on.result
+returns-clause-part g c = at_refusal c.pass_on.result
     (part_passed _ _ _ _ c.in_ok-write_whole.ensures.whole c.pass_on.ensures.same)
 
 -- if printing fails, a part was printed

@@ -5,8 +5,7 @@ use Rattle.tele_jobs.proofs.replies.print_answers.Goals as goal
 
 -- a part of one more answer
 pub returns-in_err-print_answer-clause-part : goal.returns-in_err-print_answer-clause-part
-returns-in_err-print_answer-clause-part g c =
-    at_refusal c.from_residual.result
+returns-in_err-print_answer-clause-part g c = at_refusal c.from_residual.result
     (part_printed c.args.version _ _ _ c.args.answers.now _ _ _
     (drop-cons c.args.answers.now c.loop-answer.answer-index _ c.loop-answer-test.true)
     c.loop-answer.invariant.printed c.in_err-print_answer.ensures.part)

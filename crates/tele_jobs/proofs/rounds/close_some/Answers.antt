@@ -1,7 +1,7 @@
 use Rattle.std.proofs.Common.{◌∙◌, ap, sym, subst, refl, length, ◌<◌}
-use Rattle.ist_core.specs.Map.{map_of}
+use Rattle.ist_core.specs.TreeTerms.{map_of}
 use Rattle.tele_jobs.specs.Open.{Open}
-use Rattle.tele_jobs.proofs.AfterLemmas.{after_map, after_rises, after_few}
+use Rattle.tele_jobs.proofs.MadeLemmas.{after_map, after_rises, after_few}
 use Rattle.tele_jobs.proofs.RanLemmas.{closes_from, closes_round, runs_from, runs_round, few_from}
 use Rattle.tele_jobs.proofs.rounds.close_some.Goals as goal
 

@@ -8,9 +8,7 @@ use Rattle.tele_jobs.proofs.steps.answer.Goals as goal
 
 -- the round was closed, whether its answers are printed or not; their text is that of the lines
 pub returns-in-Ok : goal.returns-in-Ok
-returns-in-Ok g c =
-    let closed = c.in-Ok.ensures in
-    let print = c.print_answers.ensures in
+returns-in-Ok g c = let closed = c.in-Ok.ensures in let print = c.print_answers.ensures in
     let result = c.print_answers.result in
     let text = ap (answers_text c.args.version) c.answers.ensures.value
     ∙ text-answered c.args.version (map_in c.args.round.now) _ c.close.new.round.answers

@@ -10,27 +10,23 @@ use Rattle.tele_jobs.proofs.steps.step.Goals as goal
 
 -- the lines before have lower numbers
 pub take-requires-clause-before : goal.take-requires-clause-before
-take-requires-clause-before g c =
-    let b = c.requires.before in
+take-requires-clause-before g c = let b = c.requires.before in
     let past = (rw c.in-Ok-Some.field-0-is at c.in-Ok-Some.ensures.number).0 in
     record { rises = b.rises; below = each_below _ _ _ (omega arith) b.below; few = omega (arith, b.few) }
 
 -- a line was taken
 pub returns-in-Ok-clause-goes_on : goal.returns-in-Ok-clause-goes_on
-returns-in-Ok-clause-goes_on g c =
-    let next = c.in-Ok-Some.ensures in
+returns-in-Ok-clause-goes_on g c = let next = c.in-Ok-Some.ensures in
     let v = c.version.ensures.value in
     let goes = rw (← v) at (rw c.in-Ok-Some.field-0-is at next.line) in
     let number = rw c.in-Ok-Some.field-0-is at next.number in
-    let mode = rw c.in-Ok-Some.field-0-is at next.chosen in
-    let took = c.in-Ok.ensures in
+    let mode = rw c.in-Ok-Some.field-0-is at next.chosen in let took = c.in-Ok.ensures in
     line_taken _ _ _ _ v c.requires.chosen next.steady c.in-Ok-Some.line.number
     c.in-Ok-Some.line.item goes took.taken took.ran took.passed_on next.going number.0 number.1
     took.open (subst IsSome (sym mode) refl) took.before
 
 pub returns-in-Err-clause-ends : goal.returns-in-Err-clause-ends
-returns-in-Err-clause-ends g c =
-    let next = c.in-Ok-Some.ensures in
+returns-in-Err-clause-ends g c = let next = c.in-Ok-Some.ensures in
     let v = c.version.ensures.value in
     let goes = rw (← v) at (rw c.in-Ok-Some.field-0-is at next.line) in
     line_cut _ _ _ _ v c.requires.chosen next.steady c.in-Ok-Some.line.number
@@ -38,21 +34,17 @@ returns-in-Err-clause-ends g c =
 
 -- the input has ended, and the open round was answered
 pub returns-in-Ok-end_round-clause-ends : goal.returns-in-Ok-end_round-clause-ends
-returns-in-Ok-end_round-clause-ends g c =
-    let next = c.in-Ok-None.ensures in
+returns-in-Ok-end_round-clause-ends g c = let next = c.in-Ok-None.ensures in
     let v = c.version-in-Ok-None.ensures.value in
     let reads = rw c.in-Ok-None.field-0-is at next.none in
-    let done = rw c.in-Ok-None.field-0-is at next.done in
-    let met = c.in-Ok-end_round.ensures in
+    let done = rw c.in-Ok-None.field-0-is at next.done in let met = c.in-Ok-end_round.ensures in
     input_done _ _ _ _ v c.requires.chosen next.steady reads c.requires.open met.printed met.ran
     met.passed_on done.ended
 
 pub returns-in-Err-end_round-clause-ends : goal.returns-in-Err-end_round-clause-ends
-returns-in-Err-end_round-clause-ends g c =
-    let next = c.in-Ok-None.ensures in
+returns-in-Err-end_round-clause-ends g c = let next = c.in-Ok-None.ensures in
     let v = c.version-in-Ok-None.ensures.value in
-    let reads = rw c.in-Ok-None.field-0-is at next.none in
-    let tasks = c.args.round.now.tasks in
+    let reads = rw c.in-Ok-None.field-0-is at next.none in let tasks = c.args.round.now.tasks in
     last_cut _ _ _ _ v c.requires.chosen next.steady [] reads _
     c.refused-in-Err-end_round.ensures.other
     (subst (AppendsPart _ _) (at_end c.version-in-Ok-None.result (map_in c.args.round.now) tasks)
@@ -60,33 +52,25 @@ returns-in-Err-end_round-clause-ends g c =
 
 -- a bad line was named
 pub returns-in-Ok-name-clause-ends : goal.returns-in-Ok-name-clause-ends
-returns-in-Ok-name-clause-ends g c =
-    let next = c.in-Err-Bad.ensures in
-    let v = c.version-in-Err-Bad.ensures.value in
-    let n = c.in-Err-Bad.line in
-    let cause = c.in-Err-Bad.cause in
-    let is = ap Err c.in-Err-Bad.field-0-is in
-    let going = c.requires.going in
-    let met = c.in-Ok-name.ensures in
+returns-in-Ok-name-clause-ends g c = let next = c.in-Err-Bad.ensures in
+    let v = c.version-in-Err-Bad.ensures.value in let n = c.in-Err-Bad.line in
+    let cause = c.in-Err-Bad.cause in let is = ap Err c.in-Err-Bad.field-0-is in
+    let going = c.requires.going in let met = c.in-Ok-name.ensures in
     bad_done _ _ _ _ v c.requires.chosen next.steady n cause (next.bad n cause is going)
     c.requires.open met.printed met.ran met.passed_on (next.skipped n cause is going)
     (next.shown n cause is going)
 
 pub returns-in-Err-name-clause-ends : goal.returns-in-Err-name-clause-ends
-returns-in-Err-name-clause-ends g c =
-    let next = c.in-Err-Bad.ensures in
-    let v = c.version-in-Err-Bad.ensures.value in
-    let n = c.in-Err-Bad.line in
-    let cause = c.in-Err-Bad.cause in
-    let is = ap Err c.in-Err-Bad.field-0-is in
+returns-in-Err-name-clause-ends g c = let next = c.in-Err-Bad.ensures in
+    let v = c.version-in-Err-Bad.ensures.value in let n = c.in-Err-Bad.line in
+    let cause = c.in-Err-Bad.cause in let is = ap Err c.in-Err-Bad.field-0-is in
     last_cut _ _ _ _ v c.requires.chosen next.steady (Bad n cause ∷ [])
     (next.bad n cause is c.requires.going) _ c.refused-in-Err-name.ensures.other
     c.in-Err-name.ensures.part
 
 -- the source failed, and nothing was written
 pub returns-in-Ok-pass_on-clause-ends : goal.returns-in-Ok-pass_on-clause-ends
-returns-in-Ok-pass_on-clause-ends g c =
-    let next = c.in-Err-Read.ensures in
+returns-in-Ok-pass_on-clause-ends g c = let next = c.in-Err-Read.ensures in
     let is = ap Err c.in-Err-Read.field-0-is in
     read_done _ _ _ _ refl c.requires.chosen next.steady refl (next.passed is)
     c.pass_on.ensures.same (next.waiting is) c.in-Ok-pass_on.ensures.none

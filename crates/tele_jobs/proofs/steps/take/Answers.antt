@@ -10,16 +10,14 @@ use Rattle.tele_jobs.proofs.steps.take.Goals as goal
 -- a part of the round before an interval line was answered
 pub returns-in_err-answer-in-Interval-clause-part
     : goal.returns-in_err-answer-in-Interval-clause-part
-returns-in_err-answer-in-Interval-clause-part g c =
-    at_refusal c.from_residual.result
+returns-in_err-answer-in-Interval-clause-part g c = at_refusal c.from_residual.result
     (part_before c.args.version (map_in c.args.round.now) c.args.round.now.tasks
     (Good c.args.line.number c.args.version c.args.line.item ∷ []) _ _
     c.in_err-answer-in-Interval.ensures.part)
 
 -- a point line fills the round
 pub returns-then-is_full-clause-taken : goal.returns-then-is_full-clause-taken
-returns-then-is_full-clause-taken g c =
-    let asks = c.in_default.ensures.asked in
+returns-then-is_full-clause-taken g c = let asks = c.in_default.ensures.asked in
     let met = c.end_round.ensures in
     on_ok3 c.end_round.result met.printed met.following met.none (taken_full c.args.version
     (map_in c.args.round.now) c.args.round.now.tasks c.args.line.number c.args.line.item
@@ -28,8 +26,7 @@ returns-then-is_full-clause-taken g c =
     (ap map_in asks) (c.is_full.ensures.value.0 c.if-is_full.true))
 
 pub returns-then-is_full-clause-part : goal.returns-then-is_full-clause-part
-returns-then-is_full-clause-part g c =
-    let asks = c.in_default.ensures.asked in
+returns-then-is_full-clause-part g c = let asks = c.in_default.ensures.asked in
     on_err c.end_round.result c.end_round.ensures.part (taken_part c.args.version
     (map_in c.args.round.now) c.args.round.now.tasks c.args.line.number c.args.line.item
     c.in-Point.command c.ask.new.self.tasks c.in-Point.is (ap (λ (o : Open). o.tasks) asks)
@@ -37,8 +34,7 @@ returns-then-is_full-clause-part g c =
 
 -- a point line leaves the round open
 pub returns-else-is_full-clause-taken : goal.returns-else-is_full-clause-taken
-returns-else-is_full-clause-taken g c =
-    let asks = c.in_default.ensures.asked in
+returns-else-is_full-clause-taken g c = let asks = c.in_default.ensures.asked in
     taken_open c.args.version (map_in c.args.round.now) c.args.round.now.tasks c.args.line.number
     c.args.line.item c.in-Point.command c.ask.new.self.tasks c.in-Point.is
     (ap (λ (o : Open). o.tasks) asks) (map_in c.ask.new.self) _ (ap map_in asks)
@@ -46,8 +42,7 @@ returns-else-is_full-clause-taken g c =
 -- an interval line ends the round
 pub returns-in_ok-answer-in-Interval-clause-taken
     : goal.returns-in_ok-answer-in-Interval-clause-taken
-returns-in_ok-answer-in-Interval-clause-taken g c =
-    let met = c.in_ok-answer-in-Interval.ensures in
+returns-in_ok-answer-in-Interval-clause-taken g c = let met = c.in_ok-answer-in-Interval.ensures in
     on_ok c.end_with_pairs.result c.end_with_pairs.ensures.printed
     (taken_interval c.args.version (map_in c.args.round.now) c.args.round.now.tasks
     c.args.line.number c.in-Interval.first c.in-Interval.last c.args.line.item c.in-Interval.is
@@ -55,8 +50,7 @@ returns-in_ok-answer-in-Interval-clause-taken g c =
     c.answer.new.round.tasks _ _ _ c.requires.open met.none met.printed)
 
 pub returns-in_ok-answer-in-Interval-clause-part : goal.returns-in_ok-answer-in-Interval-clause-part
-returns-in_ok-answer-in-Interval-clause-part g c =
-    let met = c.in_ok-answer-in-Interval.ensures in
+returns-in_ok-answer-in-Interval-clause-part g c = let met = c.in_ok-answer-in-Interval.ensures in
     on_err c.end_with_pairs.result c.end_with_pairs.ensures.part
     (interval_part c.args.version (map_in c.args.round.now) c.args.round.now.tasks
     c.args.line.number c.in-Interval.first c.in-Interval.last c.args.line.item c.in-Interval.is
@@ -90,8 +84,7 @@ returns-else-is_full-clause-before g c =
 
 -- the round that an interval line ends is run
 pub returns-in_ok-answer-in-Interval-clause-ran : goal.returns-in_ok-answer-in-Interval-clause-ran
-returns-in_ok-answer-in-Interval-clause-ran g c =
-    let met = c.in_ok-answer-in-Interval.ensures in
+returns-in_ok-answer-in-Interval-clause-ran g c = let met = c.in_ok-answer-in-Interval.ensures in
     at_ok c.end_with_pairs.result
     (rounds_interval c.args.version c.args.line.number c.args.line.item c.args.round.now
     (g.H.Shelf.kept c.args.shelf.now) c.in-Interval.first c.in-Interval.last c.in-Interval.is

@@ -14,13 +14,10 @@ use Rattle.tele_jobs.proofs.works.answer_all.Goals as goal
 
 -- all is due
 pub loop-status-init : goal.loop-status-init
-loop-status-init g c =
-    let new = c.new-lines.ensures in
-    let o = c.args.round in
+loop-status-init g c = let new = c.new-lines.ensures in let o = c.args.round in
     let fresh = c.requires.fresh in
     let first = at_first o.team o.words c.new-lines.result o new.place fresh in
-    let none : length o.tasks ≡ 0 = ap (λ (x : Open). length x.tasks) fresh in
-    record {
+    let none : length o.tasks ≡ 0 = ap (λ (x : Open). length x.tasks) fresh in record {
       due = all_due _ _ _ _ _ new.fresh new.unended first;
       ran = rounds_first o.team o.words _ _ _ _ _ o new.fresh new.unended first fresh;
       sparing = reads_none _;
@@ -38,11 +35,8 @@ loop-status-init g c =
 
 -- a line was answered
 pub loop-status-preserved : goal.loop-status-preserved
-loop-status-preserved g c =
-    let next = c.in_default.ensures in
-    let on = next.goes_on in
-    let was = c.loop-status.invariant in
-    record {
+loop-status-preserved g c = let next = c.in_default.ensures in let on = next.goes_on in
+    let was = c.loop-status.invariant in record {
       due = on_and_on_if _ _ _ _ _ _ _ _ _ _ next.ended was.due on.text;
       ran = rounds_on_if c.args.round.team c.args.round.words _ c.loop-status.round _ _ _ _ _ _ _
           _ was.ran on.rounds;
@@ -61,10 +55,8 @@ loop-status-preserved g c =
 
 -- the answer was written, or as much of it as the status says
 pub returns-in-Some-clause-lines : goal.returns-in-Some-clause-lines
-returns-in-Some-clause-lines g c =
-    let last = c.in-Some.ensures in
-    let was = c.loop-status.invariant in
-    subst (AnswersLines _ _ _ _) (sym c.ended.ensures.status)
+returns-in-Some-clause-lines g c = let last = c.in-Some.ensures in
+    let was = c.loop-status.invariant in subst (AnswersLines _ _ _ _) (sym c.ended.ensures.status)
     (lines_answered _ _ _ _ _ _ was.due was.sparing was.end was.few last.ends last.sparing last.end
     last.ended)
 
@@ -75,8 +67,7 @@ returns-in-Some-clause-passed_on g c whole = c.in-Some.ensures.ends.passed_on
 
 -- the rounds of all lines were run
 pub returns-in-Some-clause-last : goal.returns-in-Some-clause-last
-returns-in-Some-clause-last g c is =
-    let answers = subst IsAnswer c.ended.ensures.status is in
+returns-in-Some-clause-last g c is = let answers = subst IsAnswer c.ended.ensures.status is in
     rounds_end_if c.args.round.team c.args.round.words _ c.loop-status.round _ _ c.step.new.round _
     _ _ _ _ (c.ended.ensures.last answers) (c.ended.ensures.fulls answers)
     c.loop-status.invariant.ran (c.in-Some.ensures.ends.rounds answers)

@@ -7,8 +7,7 @@ use Rattle.tele_lanes.proofs.gathering.gather.Goals as goal
 
 -- after the loop the answers of all lanes follow one another
 pub returns : goal.returns
-returns g c =
-    let lanes = c.args.lanes.now in
+returns g c = let lanes = c.args.lanes.now in
     let all = c.loop-lane.invariant
     ∙ ap (flat_map (λ l. l.answers.list)) (take_all c.loop-lane.lane-index lanes (omega arith)) in
     let same = subst (λ xs. IfOk c.sort_answers.result (λ v. IsPermutation xs v.items)) all

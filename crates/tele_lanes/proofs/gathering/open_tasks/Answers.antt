@@ -8,8 +8,7 @@ use Rattle.tele_lanes.proofs.gathering.open_tasks.Goals as goal
 
 -- after the loop the tasks that the lanes left follow one another
 pub returns : goal.returns
-returns g c =
-    let lanes = c.args.lanes.now in
+returns g c = let lanes = c.args.lanes.now in
     let all = c.loop-lane.invariant
     ∙ ap (flat_map (λ l. unanswered l.tasks l.answers.list))
     (take_all c.loop-lane.lane-index lanes (omega arith)) in

@@ -1,6 +1,6 @@
 -- Each lane is what its run left of it.
 use Rattle.std.proofs.Common.{◌≡◌, ◌∙◌, rules, sym, ap}
-use Rattle.ist_core.proofs.ElementLemmas.{map_same}
+use Rattle.ist_core.proofs.AllWordLemmas.{map_same}
 use Rattle.tele_lanes.proofs.lanes.run_lanes.Goals as goal
 
 -- what the lanes were given they keep

@@ -1,7 +1,6 @@
 use Rattle.std.proofs.Common.{sym, subst, refl}
 use Rattle.tele_lanes.specs.Lanes.{ArePlainAnswers, InLineOrder}
-use Rattle.tele_lanes.proofs.AloneLemmas.{ArePlainAnswers-answered, answered-from_ArePlainAnswers}
-use Rattle.tele_lanes.proofs.LawLemmas.{InLineOrder-answered, InLineOrder-one, get-replay_lane}
+use Rattle.tele_lanes.proofs.AloneLemmas.{ArePlainAnswers-answered, answered-from_ArePlainAnswers, InLineOrder-answered, InLineOrder-one, get-replay_lane}
 use Rattle.tele_lanes.proofs.laws.lanes_answer_as_one.Goals as goal
 
 -- one thread's answers are in line order, and lists have one line order

@@ -14,8 +14,7 @@ returns-in_err-write_whole-clause-part g c =
 
 -- one more pair
 pub loop-pair-preserved : goal.loop-pair-preserved
-loop-pair-preserved g c =
-    let e = c.as_slice.ensures.value ∙ c.pair_line-text.ensures.value in
+loop-pair-preserved g c = let e = c.as_slice.ensures.value ∙ c.pair_line-text.ensures.value in
     record {
       printed = rw add-one (one_printed c.args.version _ _ _ c.args.pairs.now _ _ _
           (drop-cons c.args.pairs.now c.loop-pair.pair-index _ c.loop-pair-test.true)

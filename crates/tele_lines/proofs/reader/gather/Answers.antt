@@ -10,8 +10,7 @@ use Rattle.tele_lines.proofs.reader.gather.Goals.{then-is_some-via-then-is_some,
 
 -- a newline was found, or the input has ended, or the line is too long
 pub returns-then-is_some-clause-ends : goal.returns-then-is_some-clause-ends
-returns-then-is_some-clause-ends g c =
-    let here = c.bytes-bytes.ensures.value in
+returns-then-is_some-clause-ends g c = let here = c.bytes-bytes.ensures.value in
     subst (λ bytes. EndsAt bytes c.loop-bytes.ended c.memchr-found.result) here
     (ends_at c.bytes-bytes.result.now c.loop-bytes.ended c.memchr-found.result
     c.memchr-found.ensures
@@ -38,9 +37,7 @@ returns-in_err-fill-clause-waiting g c =
 
 -- no newline was in the buffer when the source was read
 pub loop-bytes-preserved : goal.loop-bytes-preserved
-loop-bytes-preserved g c =
-    let before = c.loop-bytes.invariant in
-    let read = c.in_ok-fill.ensures in
+loop-bytes-preserved g c = let before = c.loop-bytes.invariant in let read = c.in_ok-fill.ensures in
     let found = subst (λ bytes. IsUnbroken bytes) c.bytes-bytes.ensures.value
     (unbroken c.bytes-bytes.result.now c.memchr-found.result c.memchr-found.ensures
     (sym c.is_some.ensures ∙ c.if-is_some.false)) in
@@ -55,8 +52,7 @@ loop-bytes-preserved g c =
     }
 
 pub loop-bytes-preserved-then-branch-eq0 : goal.loop-bytes-preserved-then-branch-eq0
-loop-bytes-preserved-then-branch-eq0 g c =
-    let before = c.loop-bytes.invariant in
+loop-bytes-preserved-then-branch-eq0 g c = let before = c.loop-bytes.invariant in
     let read = c.in_ok-fill.ensures in
     let found = subst (λ bytes. IsUnbroken bytes) c.bytes-bytes.ensures.value
     (unbroken c.bytes-bytes.result.now c.memchr-found.result c.memchr-found.ensures

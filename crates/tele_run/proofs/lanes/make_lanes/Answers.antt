@@ -28,10 +28,8 @@ make_lane-requires-clause-few c =
 -- one more lane was made
 pub loop-mine-preserved : goal.loop-mine-preserved
 loop-mine-preserved c =
-    let lane = c.in_ok-make_lane.ensures in let items = c.in_ok-push.ensures.items in
-    record {
-      tasks = let next = c.in-Some.ensures.steps.0 in
-          rw (items, map_push, lane.tasks, append_assoc)
+    let lane = c.in_ok-make_lane.ensures in let items = c.in_ok-push.ensures.items in record {
+      tasks = let next = c.in-Some.ensures.steps.0 in rw (items, map_push, lane.tasks, append_assoc)
           (ap (λ ts. map (λ (l : TreeLane). l.tasks) c.loop-mine.lanes.items ++ ts) (sym next)
           ∙ c.loop-mine.invariant.tasks);
       made = rw items (one_made _ _ _ _ _ _ c.loop-mine.invariant.made

@@ -5,7 +5,7 @@ use Rattle.tele_lanes.specs.Lanes.{HaveOwnLines}
 use Rattle.tele_lanes.proofs.SplitLemmas.{length-all_lane_tasks}
 use Rattle.tele_run.specs.Ends.{TreeLane}
 use Rattle.tele_run.proofs.LaneLemmas.{numbers_rise}
-use Rattle.tele_run.proofs.RunLaneLemmas.{own_lines, its_tree, came_to}
+use Rattle.tele_run.proofs.PutLemmas.{own_lines, its_tree, came_to}
 use Rattle.tele_run.proofs.trees.run_tree.Goals as goal
 
 -- the numbers of the lanes are strictly increasing, and there are no more than may be stolen
@@ -23,16 +23,14 @@ run_team-requires-clause-few g c κs within =
 
 -- lanes that were split share no line
 pub gather_all-came-requires-clause-own_lines : goal.gather_all-came-requires-clause-own_lines
-gather_all-came-requires-clause-own_lines g c =
-    let ran = c.in_ok-lanes.ensures in
+gather_all-came-requires-clause-own_lines g c = let ran = c.in_ok-lanes.ensures in
     let made = c.in_ok-fresh.ensures in
     subst HaveOwnLines (sym (ap (map (λ (l : TreeLane). l.tasks)) c.deref.ensures.value))
     (own_lines _ _ _ c.args.maker.now _ _ _ _ made.made made.tasks ran.tasks ran.ties c.requires.rising)
 
 -- the passes are still of the tree
 pub take_all_back-requires-clause-trees : goal.take_all_back-requires-clause-trees
-take_all_back-requires-clause-trees g c =
-    let ran = c.in_ok-lanes.ensures in
+take_all_back-requires-clause-trees g c = let ran = c.in_ok-lanes.ensures in
     let made = c.in_ok-fresh.ensures in
     its_tree _ _ _ c.args.maker.now _ _ _ _ made.made made.tasks ran.tasks ran.ties
 
@@ -44,13 +42,9 @@ from_three (Err e) p q r f = tt
 
 -- how the lanes ended
 pub returns : goal.returns
-returns g c =
-    let made = c.in_ok-fresh.ensures in
-    let ran = c.in_ok-lanes.ensures in
-    let count = c.lane_count.ensures.value in
-    let back = c.take_all_back.ensures in
-    let gathered = c.gather_all-came.ensures in
-    record {
+returns g c = let made = c.in_ok-fresh.ensures in let ran = c.in_ok-lanes.ensures in
+    let count = c.lane_count.ensures.value in let back = c.take_all_back.ensures in
+    let gathered = c.gather_all-came.ensures in record {
       came = rw (← count) (from_three c.gather_all-came.result gathered.answers gathered.left
           gathered.full (λ came answers left full.
           came_to _ _ _ _ _ _ _ _ made.made made.tasks ran.tasks ran.ties _ c.deref.ensures.value

@@ -22,14 +22,10 @@ run_into-requires-clause-room g c =
 
 -- one more lane came back
 pub loop-preserved : goal.loop-preserved
-loop-preserved g c =
-    let old = c.loop.invariant in
-    let drawn = c.in-Some-draw.ensures.drawn in
-    let now = c.run_into.ensures in
-    let t = ticket g.P.Port.tie in
+loop-preserved g c = let old = c.loop.invariant in let drawn = c.in-Some-draw.ensures.drawn in
+    let now = c.run_into.ensures in let t = ticket g.P.Port.tie in
     let room = room_after _ _ _ _ _ old.owner drawn in
-    let grown = same_length t c.loop.lanes.items c.run_into.new.bag.items _ now.tickets in
-    record {
+    let grown = same_length t c.loop.lanes.items c.run_into.new.bag.items _ now.tickets in record {
       same = search (arith, rules);
       owner = draw_step _ _ _ _ old.owner drawn.tally;
       tickets = λ kept before. following t t _ _ kept _ _ _ now.tickets (old.tickets kept before)

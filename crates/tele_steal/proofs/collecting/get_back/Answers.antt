@@ -11,14 +11,11 @@ use Rattle.tele_steal.proofs.collecting.get_back.Goals as goal
 
 -- the last hand is a worker's of this deque, and its bag has what it took and ran
 pub take_hand-bag-requires : goal.take_hand-bag-requires
-take_hand-bag-requires g c =
-    let H = DequeHand g.row.P.Denot g.row.P-Tie.Denot in
-    let t = ticket g.P.Port.tie in
-    let old = c.loop-hand.invariant in
+take_hand-bag-requires g c = let H = DequeHand g.row.P.Denot g.row.P-Tie.Denot in
+    let t = ticket g.P.Port.tie in let old = c.loop-hand.invariant in
     let last : (Fits : H → Type 0) → All Fits c.loop-hand.hands.items → Fits c.in-Some.hand =
     λ Fits all. All-last Fits _ _ _ c.in-Some.ensures.items all in
-    let put = ap (λ v. length v.put) old.owner in
-    record {
+    let put = ap (λ v. length v.put) old.owner in record {
       owner = is_owners _ _ _ _ old.owner;
       table = subst (λ d. IsPassOf d c.in-Some.hand.pass) (sym old.same.0)
           (last (λ h. IsPassOf (worker_deque c.args.owner.now) h.pass) old.tables);
@@ -30,24 +27,17 @@ take_hand-bag-requires g c =
 
 -- one more hand was taken back
 pub loop-hand-preserved : goal.loop-hand-preserved
-loop-hand-preserved g c =
-    let H = DequeHand g.row.P.Denot g.row.P-Tie.Denot in
-    let L = Lane g.row.P.Denot g.row.P-Tie.Denot in
-    let old = c.loop-hand.invariant in
-    let now = c.take_hand-bag.ensures in
-    let popped = c.in-Some.ensures.items in
-    let pushed = c.push_reserved.ensures.items in
-    let shorter = length_more _ _ _ popped in
-    let longer = length_more _ _ _ pushed in
-    let t = ticket g.P.Port.tie in
+loop-hand-preserved g c = let H = DequeHand g.row.P.Denot g.row.P-Tie.Denot in
+    let L = Lane g.row.P.Denot g.row.P-Tie.Denot in let old = c.loop-hand.invariant in
+    let now = c.take_hand-bag.ensures in let popped = c.in-Some.ensures.items in
+    let pushed = c.push_reserved.ensures.items in let shorter = length_more _ _ _ popped in
+    let longer = length_more _ _ _ pushed in let t = ticket g.P.Port.tie in
     let taken = taken_by (view c.in-Some.hand.pass) in
     let grown = same_length t c.loop-hand.lanes.items c.take_hand-bag.new.lanes.items
     (map t taken) now.tickets in
-    let back = ap (λ v. v.back) now.owner in
-    let sum = ap length back ∙ length-append _ taken in
+    let back = ap (λ v. v.back) now.owner in let sum = ap length back ∙ length-append _ taken in
     let counted = length-map taken t in
-    let last = All-last (λ (h : H). 64 ≤ vec_capacity h.bag) _ _ _ popped old.wide in
-    record {
+    let last = All-last (λ (h : H). 64 ≤ vec_capacity h.bag) _ _ _ popped old.wide in record {
       same = search (arith, rules);
       owner = owner_step _ _ _ _ _ taken old.owner now.owner shorter;
       lanes_tickets = following t t _ _ _ _ taken _ now.tickets old.lanes_tickets back;

@@ -10,14 +10,10 @@ use Rattle.tele_steal.proofs.collecting.hire_all.Goals as goal
 
 -- one more bag became a hand
 pub loop-bag-preserved : goal.loop-bag-preserved
-loop-bag-preserved g c =
-    let L = Lane g.row.P.Denot g.row.P-Tie.Denot in
-    let old = c.loop-bag.invariant in
-    let now = c.hire-pass.ensures in
-    let pushed = c.push_reserved.ensures.items in
-    let popped = c.in-Some.ensures.items in
-    let longer = length_more _ _ _ pushed in
-    let shorter = length_more _ _ _ popped in
+loop-bag-preserved g c = let L = Lane g.row.P.Denot g.row.P-Tie.Denot in
+    let old = c.loop-bag.invariant in let now = c.hire-pass.ensures in
+    let pushed = c.push_reserved.ensures.items in let popped = c.in-Some.ensures.items in
+    let longer = length_more _ _ _ pushed in let shorter = length_more _ _ _ popped in
     let more : (Fits : DequeHand g.row.P.Denot g.row.P-Tie.Denot → Type 0) → All Fits c.loop-bag.hands.items
     → Fits (record { pass = c.hire-pass.result; bag = c.in-Some.bag })
     → All Fits c.push_reserved.new.self.items = λ Fits all one. All-more Fits _ _ _ pushed all one in

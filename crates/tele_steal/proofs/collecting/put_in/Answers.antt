@@ -12,12 +12,8 @@ put_or_keep-requires-clause-fresh g c =
 
 -- one more lane is in the deque, or kept
 pub loop-lane-preserved : goal.loop-lane-preserved
-loop-lane-preserved g c =
-    let old = c.loop-lane.invariant in
-    let now = c.put_or_keep.ensures in
-    let popped = c.in-Some.ensures.items in
-    let shorter = length_more _ _ _ popped in
-    record {
+loop-lane-preserved g c = let old = c.loop-lane.invariant in let now = c.put_or_keep.ensures in
+    let popped = c.in-Some.ensures.items in let shorter = length_more _ _ _ popped in record {
       same = search (arith, rules);
       owner = search rules;
       shared = one_over _ _ _ _ _ _ old.shared popped now.shared;

@@ -11,11 +11,8 @@ run_into-requires-clause-fresh g c κs within =
 
 -- one more kept lane was run
 pub loop-lane-preserved : goal.loop-lane-preserved
-loop-lane-preserved g c =
-    let old = c.loop-lane.invariant in
-    let now = c.run_into.ensures in
-    let popped = c.in-Some.ensures.items in
-    let shorter = length_more _ _ _ popped in
+loop-lane-preserved g c = let old = c.loop-lane.invariant in let now = c.run_into.ensures in
+    let popped = c.in-Some.ensures.items in let shorter = length_more _ _ _ popped in
     let t = ticket g.P.Port.tie in
     let longer = same_length t c.loop-lane.lanes.items c.run_into.new.bag.items
     (t c.in-Some.lane ∷ []) now.tickets in

@@ -10,6 +10,5 @@ absorb-requires-clause-rule g c =
 
 -- the rule says how much came back
 pub len_as-requires : goal.len_as-requires
-len_as-requires g c =
-    counts (IsNewLane g.P.Port.calls g.P.Port.refused) _ _
+len_as-requires g c = counts (IsNewLane g.P.Port.calls g.P.Port.refused) _ _
     (is_owners _ _ _ _ c.absorb.ensures.rule)

@@ -44,14 +44,9 @@ get_back-requires-clause-lane_room g c =
 
 -- the yard is ready again
 pub returns-clause-ready : goal.returns-clause-ready
-returns-clause-ready g c =
-    let was = c.requires.ready in
-    let hired = c.hire_all.ensures in
-    let put = c.put_in.ensures in
-    let worked = c.work_all.ensures in
-    let got = c.get_back.ensures in
-    let bags = got.bags ∙ worked.count ∙ hired.count in
-    record {
+returns-clause-ready g c = let was = c.requires.ready in let hired = c.hire_all.ensures in
+    let put = c.put_in.ensures in let worked = c.work_all.ensures in let got = c.get_back.ensures in
+    let bags = got.bags ∙ worked.count ∙ hired.count in record {
       same = was.same ∙ sym (got.same.0 ∙ put.same.0 ∙ hired.same.0);
       owner_first = got.same.1 ∙ put.same.1 ∙ hired.same.1 ∙ was.owner_first;
       thief_first = was.thief_first;
@@ -70,10 +65,8 @@ returns-clause-ready g c =
 
 -- all came back
 pub returns-clause-tickets : goal.returns-clause-tickets
-returns-clause-tickets g c =
-    let put = (worker_view c.put_in.new.owner).put in
-    let kept = c.put_in.new.kept.items in
-    all_home (ticket g.P.Port.tie) c.args.lanes.items put kept
+returns-clause-tickets g c = let put = (worker_view c.put_in.new.owner).put in
+    let kept = c.put_in.new.kept.items in all_home (ticket g.P.Port.tie) c.args.lanes.items put kept
     (worker_view c.get_back.new.owner).back c.run_kept.new.lanes.items c.get_back.new.lanes.items
     (subst (λ z. IsPermutation (z ++ c.args.lanes.items) (put ++ kept))
     (ap (λ v. v.put) c.hire_all.ensures.owner) c.put_in.ensures.shared)

@@ -15,9 +15,7 @@ run_shared-shared-requires-clause-fresh g c κs within k d h = record {
 
 -- each lane came back to its place, and was run
 pub returns : goal.returns
-returns g c =
-    let tie = g.P.Port.tie in
-    let old = c.args.lanes.items in
+returns g c = let tie = g.P.Port.tie in let old = c.args.lanes.items in
     let new = c.in_order.result.items in
     let home = at_home tie old c.run_shared-shared.result.items new c.requires.numbers
     c.run_shared-shared.ensures.tickets c.in_order.ensures.same c.in_order.ensures.rising in

@@ -6,8 +6,7 @@ use Rattle.tele_steal.proofs.teams.run_apart.Goals as goal
 
 -- the ports keep their ties
 pub returns-clause-ties : goal.returns-clause-ties
-returns-clause-ties g c =
-    let lent = c.deref_mut.ensures.value in
+returns-clause-ties g c = let lent = c.deref_mut.ensures.value in
     let tied = map (λ (l : Lane g.row.P.Denot g.row.P-Tie.Denot). g.P.Port.tie l.port) in
     ap tied (written_back c.args.lanes.len c.run_lanes.new.lanes c.args.lanes.items
     c.args.lanes.ok.0 (omega (arith, c.run_lanes.auto.lanes, ap length lent)))
@@ -15,8 +14,7 @@ returns-clause-ties g c =
 
 -- each lane was run
 pub returns-clause-ran : goal.returns-clause-ran
-returns-clause-ran g c =
-    let ran = c.run_lanes.ensures in
+returns-clause-ran g c = let ran = c.run_lanes.ensures in
     let all : All (IsRunLane g.P.Port.calls g.P.Port.refused) c.run_lanes.new.lanes
     = λ k d h. record {
       calls = ran.calls k d h;

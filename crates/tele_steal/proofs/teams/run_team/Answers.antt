@@ -15,13 +15,11 @@ run_stolen-requires-clause-unrefused g c κs within k d h = (c.requires.fresh k 
 
 -- each was run
 pub returns-in_ok-yard-clause-ran : goal.returns-in_ok-yard-clause-ran
-returns-in_ok-yard-clause-ran g c k d h =
-    let ran = c.run_stolen.ensures in
-    record {
-      calls = ran.calls k d h;
-      answers = ran.answers k d h;
-      replies = ran.replies k d h;
-      stopped = ran.stopped k d h;
-      refused = ran.refused k d h;
-      whole = ran.whole k d h;
-    }
+returns-in_ok-yard-clause-ran g c k d h = let ran = c.run_stolen.ensures in record {
+  calls = ran.calls k d h;
+  answers = ran.answers k d h;
+  replies = ran.replies k d h;
+  stopped = ran.stopped k d h;
+  refused = ran.refused k d h;
+  whole = ran.whole k d h;
+}

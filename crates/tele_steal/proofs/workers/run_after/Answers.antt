@@ -7,11 +7,9 @@ use Rattle.tele_steal.proofs.workers.run_after.Goals as goal
 
 -- the lanes before stay, and the lanes from there on keep their tickets
 pub returns-clause-tickets : goal.returns-clause-tickets
-returns-clause-tickets g c =
-    let ran = c.run_lanes.ensures in
+returns-clause-tickets g c = let ran = c.run_lanes.ensures in
     let front = c.split_at_mut-following.result.0.now in
-    let old = c.split_at_mut-following.result.1.now in
-    let new = c.run_lanes.new.lanes in
+    let old = c.split_at_mut-following.result.1.now in let new = c.run_lanes.new.lanes in
     map-append (ticket g.P.Port.tie) front new
     ∙ ap (λ z. map (ticket g.P.Port.tie) front ++ z)
     (same_tickets g.P.Port.tie old new ran.numbers ran.tasks ran.ties)
@@ -20,9 +18,7 @@ returns-clause-tickets g c =
 
 -- each lane from there on was run
 pub returns-clause-ran : goal.returns-clause-ran
-returns-clause-ran g c =
-    let ran = c.run_lanes.ensures in
-    let new = c.run_lanes.new.lanes in
+returns-clause-ran g c = let ran = c.run_lanes.ensures in let new = c.run_lanes.new.lanes in
     let all : All (IsRunLane g.P.Port.calls g.P.Port.refused) new = λ k d h. record {
       calls = ran.calls k d h;
       answers = ran.answers k d h;

@@ -9,5 +9,4 @@ returns-clause-ran g c before =
     put_back (IsRunLane g.P.Port.calls g.P.Port.refused) c.args.bag.now.items _
     c.push_reserved.new.self.items
     c.run_after.new.lanes _ _ (search rules) c.push_reserved.ensures.items (search rules)
-    (search rules)
-    (search rules) before c.run_after.ensures.ran
+    (search rules) (search rules) before c.run_after.ensures.ran

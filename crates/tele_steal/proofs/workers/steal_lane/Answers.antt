@@ -13,6 +13,5 @@ steal_as-requires-clause-takes g c = takes _ _ _ (search rules)
 pub steal_as-requires-clause-empty : goal.steal_as-requires-clause-empty
 steal_as-requires-clause-empty g c items views few b at =
     let none : items ≡ [] = nil_from_length items
-    (let first = c.requires.first_in in omega (arith, few, first)) in
-    c.requires.lesson views _ _
+    (let first = c.requires.first_in in omega (arith, few, first)) in c.requires.lesson views _ _
     (subst (λ z. Balances (IsNewLane g.P.Port.calls g.P.Port.refused) z views) none b) at

@@ -9,9 +9,7 @@ abbrev Given : Type 0
 Given = Lane Recorder (Unit {0})
 
 pub loop-count-preserved : goal.loop-count-preserved
-loop-count-preserved c =
-    let old = c.loop-count.invariant in
-    let made = c.in_ok-one_lane.ensures in
+loop-count-preserved c = let old = c.loop-count.invariant in let made = c.in_ok-one_lane.ensures in
     record {
       len = search rules;
       numbers = rw c.in_ok-push.ensures.items
@@ -27,6 +25,5 @@ loop-count-preserved c =
     }
 
 pub returns-clause-numbers : goal.returns-clause-numbers
-returns-clause-numbers c =
-    rw c.loop-count.invariant.numbers
+returns-clause-numbers c = rw c.loop-count.invariant.numbers
     (IsStrictlyIncreasing-from_0 (length c.loop-count.lanes.items))

@@ -1,11 +1,11 @@
 use Rattle.std.proofs.Common.{◌∙◌, ap, rules}
 use Rattle.ist_rule.specs.declared.view.View.{View}
-use Rattle.ist_rule.proofs.GoingOnLemmas.{looked_goes_on}
+use Rattle.ist_rule.proofs.EventLemmas.{looked_goes_on}
 use Rattle.ist_rule.proofs.WentOnLemmas.{went_all}
-use Rattle.ist_rows.specs.Rows.{IsCaller}
+use Rattle.ist_rows.specs.RowTerms.{IsCaller}
 use Rattle.ist_rows.proofs.CallerGoingLemmas.{caller_goes_on}
 use Rattle.ist_rows.proofs.CallerLawLemmas.{caller_went, caller_begun}
-use Rattle.ist_dcss.proofs.HelperLemmas.{serves_keep}
+use Rattle.ist_dcss.proofs.ResolvedLemmas.{serves_keep}
 use Rattle.test_parts.proofs.PutLemmas.{put_met}
 use Rattle.test_parts.proofs.helping.help_met.Goals as goal
 use Rattle.test_parts.proofs.helping.help_met.Goals.{After-load_top-met}
@@ -35,6 +35,5 @@ returns-then-met-to_word-clause-caller c = (
 )
 
 pub returns-clause-in_same_call : goal.returns-clause-in_same_call
-returns-clause-in_same_call c =
-    ap (λ (v : View). v.pending) c.load_top-met.ensures.looked.view
+returns-clause-in_same_call c = ap (λ (v : View). v.pending) c.load_top-met.ensures.looked.view
     ∙ ap (λ (v : View). v.pending) c.begin_search.ensures.begun.view

@@ -1,11 +1,9 @@
 use Rattle.std.proofs.Common.{◌∷◌, [], refl}
-use Rattle.ist_core.specs.Arithmetic.{degree, square_root, root_up_to, part_len, part_lens}
-use Rattle.ist_core.specs.Shapes.{ideal_words, ideal_words_within}
+use Rattle.ist_core.specs.WordTerms.{degree, square_root, root_up_to, part_len, part_lens, ideal_words, ideal_words_within, rows_within}
 use Rattle.ist_core.specs.ExampleTables.{two_pairs}
-use Rattle.ist_core.specs.StartLayout.{rows_within}
 use Rattle.ist_image.proofs.RisingLemmas.{two_open}
+use Rattle.ist_rule.specs.RuleTerms.{opened_view}
 use Rattle.ist_rule.specs.declared.view.TableName.{TableName}
-use Rattle.ist_rule.specs.Rule.{opened_view}
 use Rattle.ist_find.specs.Searches.{IsRow}
 use Rattle.test_parts.proofs.searches.found_in_two.Goals as goal
 

@@ -2,8 +2,8 @@ use Rattle.std.proofs.Common.{zero, suc, map, ap, arith}
 use Rattle.std.proofs.lemmas.Result.{IfOk-weaker}
 use Rattle.std.specs.List.Sorted.{IsStrictlyIncreasing}
 use Rattle.ist_core.specs.ExampleTables.{ten_pairs}
-use Rattle.ist_core.specs.Lawful.{CanOpen}
-use Rattle.ist_core.proofs.WordLemmas.{ideal_words_nine}
+use Rattle.ist_core.specs.LogTerms.{CanOpen}
+use Rattle.ist_core.proofs.AllWordLemmas.{ideal_words_nine}
 use Rattle.ist_rule.specs.declared.view.View.{View}
 use Rattle.test_parts.proofs.searches.ten_pairs.Goals as goal
 

@@ -1,5 +1,5 @@
 use Rattle.ist_rebuild.specs.Going.{ServesRebuild}
-use Rattle.ist_rebuild.proofs.HelpedLemmas.{started_went}
+use Rattle.ist_rebuild.proofs.EventLemmas.{started_went}
 use Rattle.test_rebuilds.proofs.callers.help_on.Goals as goal
 
 pub returns-clause-started : goal.returns-clause-started

@@ -1,7 +1,7 @@
 use Rattle.std.proofs.Common.{rules}
-use Rattle.ist_dcss.proofs.TargetLemmas.{started_rebuild}
+use Rattle.ist_dcss.proofs.FieldLemmas.{started_rebuild}
 use Rattle.test_rebuilds.proofs.ReadyLemmas.{is_marked}
-use Rattle.ist_rebuild.proofs.BuiltOutLemmas.{HasMarkedForBuild, has_marked, may_mark}
+use Rattle.ist_rebuild.proofs.RefusalLemmas.{HasMarkedForBuild, has_marked, may_mark}
 use Rattle.ist_rows.proofs.GoneLemmas.{still_ready}
 use Rattle.test_rebuilds.proofs.callers.mark.Goals as goal
 
@@ -19,8 +19,7 @@ mark_and_count-keys-requires-clause-may_mark c =
 -- and is finished then
 marked : (c : goal.After-mark_and_count-keys)
     → HasMarkedForBuild c.args.who.now c.mark_and_count-keys.new.token c.args.rebuild
-marked c =
-    has_marked c.args.who.now c.target_of-target.new.token _ _ _ _ c.requires.ready.0
+marked c = has_marked c.args.who.now c.target_of-target.new.token _ _ _ _ c.requires.ready.0
     c.requires.started c.target_of-target.ensures.seen c.target_of-target.ensures.target
     c.mark_and_count-keys.ensures.went c.mark_and_count-keys.ensures.finished
 

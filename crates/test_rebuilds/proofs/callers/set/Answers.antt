@@ -1,7 +1,7 @@
 use Rattle.std.proofs.Common.{rules}
 use Rattle.ist_build.specs.Calls.{Builds}
-use Rattle.ist_rebuild.proofs.HelpedLemmas.{built_helped}
-use Rattle.ist_rebuild.proofs.BuiltOutLemmas.{buildable_went}
+use Rattle.ist_rebuild.proofs.EventLemmas.{built_helped}
+use Rattle.ist_rebuild.proofs.RefusalLemmas.{buildable_went}
 use Rattle.ist_rows.proofs.GoneLemmas.{still_ready}
 use Rattle.test_rebuilds.proofs.callers.set.Goals as goal
 

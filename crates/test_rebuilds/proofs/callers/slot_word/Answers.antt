@@ -1,8 +1,8 @@
 use Rattle.std.proofs.Common.{rules, refl, sym}
-use Rattle.ist_core.specs.Shown.{shown_slot}
-use Rattle.ist_core.specs.Slots.{in_anchor}
-use Rattle.ist_rebuild.proofs.HelpedLemmas.{loads_helped}
-use Rattle.ist_rule.proofs.GoingOnLemmas.{looked_goes_on}
+use Rattle.ist_core.specs.LogTerms.{shown_slot}
+use Rattle.ist_core.specs.WordTerms.{in_anchor}
+use Rattle.ist_rebuild.proofs.EventLemmas.{loads_helped}
+use Rattle.ist_rule.proofs.EventLemmas.{looked_goes_on}
 use Rattle.ist_rows.proofs.GoneLemmas.{still_ready}
 use Rattle.ist_tree.proofs.FreezeGoingLemmas.{idle_same}
 use Rattle.ist_tree.proofs.SearchCountLemmas.{idle_begun}

@@ -1,6 +1,6 @@
 use Rattle.std.proofs.Common.{rules}
-use Rattle.ist_rule.proofs.GoingOnLemmas.{looked_goes_on}
-use Rattle.ist_rows.specs.Rows.{IsCaller}
+use Rattle.ist_rule.proofs.EventLemmas.{looked_goes_on}
+use Rattle.ist_rows.specs.RowTerms.{IsCaller}
 use Rattle.ist_rows.proofs.CallerGoingLemmas.{caller_goes_on}
 use Rattle.ist_rows.proofs.CallerLawLemmas.{caller_begun}
 use Rattle.test_rebuilds.proofs.DroppedLemmas.{below_row_in_slot}

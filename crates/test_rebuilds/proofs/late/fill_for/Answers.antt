@@ -14,8 +14,7 @@ is_open-requires-clause-node c = slot_node _ _ c.requires.at_slot
 pub plan-requires-clause-caller : goal.plan-requires-clause-caller
 plan-requires-clause-caller c =
     let gone = loads_gone Prepares c.args.who.now c.is_open.new.token c.requires.asked.0.caller
-    c.requires.asked.0.refused c.is_open.ensures.seen in
-    (gone.caller, search rules)
+    c.requires.asked.0.refused c.is_open.ensures.seen in (gone.caller, search rules)
 
 pub plan-requires-clause-refused : goal.plan-requires-clause-refused
 plan-requires-clause-refused c =

@@ -7,16 +7,13 @@ use Rattle.test_rebuilds.proofs.late.plan.Goals as goal
 
 -- the leaf lies at a good base
 pub to_word-requires : goal.to_word-requires
-to_word-requires c =
-    let gone = c.in_ok-leaf.ensures.gone in
-    record {
-      good = row_good _ gone.went.sound gone.caller kind.Leaf c.in_ok-leaf.leaf
-          c.in_ok-leaf.ensures.held (omega arith);
-    }
+to_word-requires c = let gone = c.in_ok-leaf.ensures.gone in record {
+  good = row_good _ gone.went.sound gone.caller kind.Leaf c.in_ok-leaf.leaf
+      c.in_ok-leaf.ensures.held (omega arith);
+}
 
 pub returns-clause-good : goal.returns-clause-good
-returns-clause-good c =
-    let gone = c.in_ok-leaf.ensures.gone in
+returns-clause-good c = let gone = c.in_ok-leaf.ensures.gone in
     row_good _ gone.went.sound gone.caller kind.Leaf c.in_ok-leaf.leaf c.in_ok-leaf.ensures.held
     (omega arith)
 

@@ -1,6 +1,6 @@
 use Rattle.std.proofs.Common.{rules}
 use Rattle.ist_rule.proofs.WentOnLemmas.{goes_on_went}
-use Rattle.ist_updates.proofs.AskedStillLemmas.{NoEvent, asked_searched, asked_went}
+use Rattle.ist_updates.proofs.WayLemmas.{NoEvent, asked_searched, asked_went}
 use Rattle.test_rebuilds.proofs.late.prepare.Goals as goal
 
 -- the walk and the look at the leaf are loads

@@ -1,6 +1,6 @@
 use Rattle.std.proofs.Common.{rules}
 use Rattle.test_rebuilds.proofs.ReadyLemmas.{marked_loads}
-use Rattle.ist_rebuild.proofs.HelpedLemmas.{loads_helped}
+use Rattle.ist_rebuild.proofs.EventLemmas.{loads_helped}
 use Rattle.ist_rows.proofs.GoneLemmas.{still_ready}
 use Rattle.test_rebuilds.proofs.loads.loads_to.Goals as goal
 

@@ -1,6 +1,6 @@
 use Rattle.std.proofs.Common.{◌+◌, ap, ◌∙◌, arith, rules}
-use Rattle.ist_core.specs.References.{ref_of}
-use Rattle.ist_core.proofs.ReferenceLemmas.{ref_of-word_of}
+use Rattle.ist_core.specs.WordTerms.{ref_of}
+use Rattle.ist_core.proofs.AllWordLemmas.{ref_of-word_of}
 use Rattle.test_rebuilds.specs.Races.{HasLaid}
 use Rattle.test_rebuilds.proofs.RaceLemmas.{may_build, has_laid, has_built}
 use Rattle.test_rebuilds.proofs.ReadyLemmas.{laid_above, laid_low}
@@ -13,8 +13,7 @@ build_part-requires-clause-share c = may_build _ _ _ _ c.if-marked-ne2.false c.r
 -- what was built is a root for it
 laid : (c : After-know-2) → HasLaid c.build_part.new.who.token.view c.build_part.new.who.number
     c.args.rebuild c.to_word-word.result
-laid c =
-    has_laid c.args.who.now c.build_part.new.who c.args.rebuild c.args.marked.target _ _ _
+laid c = has_laid c.args.who.now c.build_part.new.who c.args.rebuild c.args.marked.target _ _ _
     c.if-marked-ne2.false c.know.ensures.sound c.requires.marked c.requires.ready.0.caller.mine
     c.build_part.ensures.number c.build_part.ensures.went c.in-Ok.ensures.laid
     (ap ref_of c.to_word-word.ensures.value ∙ ref_of-word_of _ c.in-Ok.ensures.good)

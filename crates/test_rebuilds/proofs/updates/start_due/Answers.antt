@@ -3,8 +3,7 @@ use Rattle.test_rebuilds.proofs.updates.start_due.Goals as goal
 
 -- the caller may help
 pub returns-clause-ready : goal.returns-clause-ready
-returns-clause-ready c =
-    let it = c.start.ensures in
+returns-clause-ready c = let it = c.start.ensures in
     (record { caller = it.caller; refused = it.refused c.requires.due.0.refused; quiet = it.quiet }, search rules)
 
 -- what it has started

@@ -1,5 +1,5 @@
-use Rattle.ist_rows.specs.Rows.{IsAtTable}
-use Rattle.ist_tree.specs.Insides.{IsPass}
+use Rattle.ist_rows.specs.RowTerms.{IsAtTable}
+use Rattle.ist_tree.specs.CallTerms.{IsPass}
 use Rattle.test_rebuilds.proofs.updates.update_all.Given as goal
 
 -- the caller is of the table, and in no call

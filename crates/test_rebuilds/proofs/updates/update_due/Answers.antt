@@ -5,11 +5,9 @@ use Rattle.test_rebuilds.proofs.updates.update_due.Goals as goal
 
 -- the row that it made due may be rebuilt
 pub returns-in-Ok : goal.returns-in-Ok
-returns-in-Ok c =
-    let done = c.in-Ok.ensures in
-    record {
-      due = made_due c.ask.new.who c.apply.new.who c.args.table.now c.due.result done.caller done.refused
-          done.quiet
-          (subst (LeavesDue c.ask.new.who.token.view c.apply.new.who.token.view c.ask.new.who.number)
-          (sym c.due.ensures.value) done.due) (search rules);
-    }
+returns-in-Ok c = let done = c.in-Ok.ensures in record {
+  due = made_due c.ask.new.who c.apply.new.who c.args.table.now c.due.result done.caller done.refused
+      done.quiet
+      (subst (LeavesDue c.ask.new.who.token.view c.apply.new.who.token.view c.ask.new.who.number)
+      (sym c.due.ensures.value) done.due) (search rules);
+}

@@ -3,8 +3,7 @@ use Rattle.ist_scan.proofs.ShotLemmas.{GoesOnWell, frozen_on}
 use Rattle.test_trees.proofs.shots.put_beside.Goals as goal
 
 pub returns-clause-frozen : goal.returns-clause-frozen
-returns-clause-frozen c =
-    let pass = c.args.pass.now in
+returns-clause-frozen c = let pass = c.args.pass.now in
     let seen = c.put-reply.ensures.worked.seen in
     let on : GoesOnWell pass c.put-reply.new.pass
     = record { tree = seen.tree; seen = seen.seen; lawful = c.know.ensures.lawful } in

@@ -1,5 +1,5 @@
 use Rattle.std.proofs.Common.{◌≡◌}
-use Rattle.ist_tree.specs.Freezing.{IsFrozenFor}
+use Rattle.ist_tree.specs.CallTerms.{IsFrozenFor}
 use Rattle.ist_scan.specs.Walks.{IsWalkOfPass}
 use Rattle.test_trees.proofs.shots.walk_all.Given as goal
 

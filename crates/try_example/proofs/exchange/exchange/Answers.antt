@@ -1,14 +1,12 @@
 use Rattle.std.proofs.Common.{◌∷◌, ◌∙◌, ap, arith}
-use Rattle.ist_tree.specs.Faces.{MakerFace, PassFace, calls_in}
+use Rattle.ist_tree.specs.CallTerms.{MakerFace, PassFace, calls_in}
 use Rattle.try_example.proofs.ExchangeLemmas.{both_find}
 use Rattle.try_example.proofs.exchange.exchange.Goals as goal
 
 pub returns : goal.returns
-returns g c =
-    let new = c.in_ok-tree.ensures.new in
+returns g c = let new = c.in_ok-tree.ensures.new in
     let made = ap (λ (m : MakerFace). m.made) c.pass-one.ensures.maker in
-    let one = c.find_both-one.result.0 in
-    let two = c.find_both-one.result.1 in
+    let one = c.find_both-one.result.0 in let two = c.find_both-one.result.1 in
     let first_taken = ap (λ (m : MakerFace). m.taken) c.take_back.ensures.maker.same
     ∙ ap (λ t. calls_in one.pass ∷ t)
     (ap (λ (m : MakerFace). m.taken) c.pass-two.ensures.maker

@@ -8,23 +8,19 @@ pairs-init c = read_to_none c.args.pass.now c.args.first c.args.last _ c.new-pai
 
 -- there is no pair from there on
 pub returns-in_default : goal.returns-in_default
-returns-in_default c =
-    let fits = c.ranges.last.fits in
-    record {
-      read = read_on _ _ _ _ _ _ _ c.pairs.invariant c.at_least.ensures.read;
-      piece = piece_ends _ _ _ _ _ _ _ c.pairs.invariant c.at_least.ensures.read
-          (λ k low high. c.in_default.ensures.next k low (omega arith));
-    }
+returns-in_default c = let fits = c.ranges.last.fits in record {
+  read = read_on _ _ _ _ _ _ _ c.pairs.invariant c.at_least.ensures.read;
+  piece = piece_ends _ _ _ _ _ _ _ c.pairs.invariant c.at_least.ensures.read
+      (λ k low high. c.in_default.ensures.next k low (omega arith));
+}
 
 -- or only beyond the last key
 pub returns-then-last-pair : goal.returns-then-last-pair
-returns-then-last-pair c =
-    let far = c.if-last-pair.true in
-    record {
-      read = read_on _ _ _ _ _ _ _ c.pairs.invariant c.at_least.ensures.read;
-      piece = piece_ends _ _ _ _ _ _ _ c.pairs.invariant c.at_least.ensures.read
-          (λ k low high. c.in-Some.ensures.next.2 k low (omega arith));
-    }
+returns-then-last-pair c = let far = c.if-last-pair.true in record {
+  read = read_on _ _ _ _ _ _ _ c.pairs.invariant c.at_least.ensures.read;
+  piece = piece_ends _ _ _ _ _ _ _ c.pairs.invariant c.at_least.ensures.read
+      (λ k low high. c.in-Some.ensures.next.2 k low (omega arith));
+}
 
 pub returns-in_err-push-clause-read : goal.returns-in_err-push-clause-read
 returns-in_err-push-clause-read c = read_on _ _ _ _ _ _ _ c.pairs.invariant c.at_least.ensures.read
@@ -39,9 +35,7 @@ returns-then-pair-last c = record {
 
 -- the piece is full
 pub returns-then-len-ge-PAIRS : goal.returns-then-len-ge-PAIRS
-returns-then-len-ge-PAIRS c =
-    let near = c.if-last-pair.false in
-    let other = c.if-pair-last.false in
+returns-then-len-ge-PAIRS c = let near = c.if-last-pair.false in let other = c.if-pair-last.false in
     record {
       read = read_on _ _ _ _ _ _ _ c.pairs.invariant c.at_least.ensures.read;
       piece = piece_goes_on _ _ _ _ _ _ _ c.pairs.invariant c.at_least.ensures.read c.in-Some.pair
@@ -50,8 +44,6 @@ returns-then-len-ge-PAIRS c =
 
 -- it goes on after the pair
 pub pairs-preserved : goal.pairs-preserved
-pairs-preserved c =
-    let near = c.if-last-pair.false in
-    let other = c.if-pair-last.false in
+pairs-preserved c = let near = c.if-last-pair.false in let other = c.if-pair-last.false in
     read_to_more _ _ _ _ _ _ _ c.pairs.invariant c.at_least.ensures.read c.in-Some.pair c.in-Some.ensures.next _
     c.in_ok-push.ensures.items (omega arith)

@@ -1,17 +1,15 @@
 use Rattle.std.proofs.Common.{◌≡◌, ◌≤◌, [], ◌∷◌, length, All, ap, ◌∙◌, sym, subst, arith, length-append}
 use Rattle.std.proofs.lemmas.List.Elements.{All-push}
-use Rattle.ist_tree.specs.Faces.{MakerFace, PassFace}
+use Rattle.ist_tree.specs.CallTerms.{MakerFace, PassFace}
 use Rattle.try_stress.specs.declared.workers.Worker.{Worker}
 use Rattle.try_stress.proofs.rounds.make_workers.Goals as goal
 
 -- one more worker has a pass on the tree
 pub loop-number-preserved : goal.loop-number-preserved
-loop-number-preserved c =
-    let old = c.loop-number.invariant in
+loop-number-preserved c = let old = c.loop-number.invariant in
     let items = c.in_ok-push.ensures.items in
     let long = ap length items ∙ length-append c.loop-number.workers.items (c.new.result ∷ []) in
-    let made = ap (λ (m : MakerFace). m.made) c.pass-pass.ensures.maker in
-    record {
+    let made = ap (λ (m : MakerFace). m.made) c.pass-pass.ensures.maker in record {
       trees = subst (All (λ (w : Worker). w.pass.tree ≡ c.args.tree.now)) (sym items)
           (All-push (λ (w : Worker). w.pass.tree ≡ c.args.tree.now) c.loop-number.workers.items
           c.new.result old.trees

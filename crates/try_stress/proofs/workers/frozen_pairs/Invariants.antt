@@ -1,5 +1,5 @@
 use Rattle.std.proofs.Common.{◌≡◌}
-use Rattle.ist_tree.specs.Freezing.{IsFrozenFor}
+use Rattle.ist_tree.specs.CallTerms.{IsFrozenFor}
 use Rattle.try_stress.proofs.workers.frozen_pairs.Given as goal
 
 -- the tree stays frozen

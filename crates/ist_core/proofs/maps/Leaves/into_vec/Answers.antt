@@ -5,6 +5,5 @@ use Rattle.ist_core.proofs.maps.Leaves.into_vec.Goals as goal
 
 pub returns : goal.returns
 returns c = record {
-  value = sym (entries-from_sorted _ c.self.invariant) ∙ ap fin.entries
-      c.self.view_is;
+  value = sym (entries-from_sorted _ c.self.invariant) ∙ ap fin.entries c.self.view_is;
 }

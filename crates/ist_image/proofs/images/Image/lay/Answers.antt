@@ -1,5 +1,5 @@
 use Rattle.std.proofs.Common.{arith, length}
-use Rattle.ist_core.specs.RowLayout.{first_row}
+use Rattle.ist_core.specs.WordTerms.{first_row}
 use Rattle.ist_image.proofs.PlacingSizeLemmas.{few_fit, opens_fit}
 use Rattle.ist_image.proofs.images.Image.lay.Goals as goal
 

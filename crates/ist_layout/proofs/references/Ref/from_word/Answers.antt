@@ -1,6 +1,6 @@
 use Rattle.std.proofs.Common.{◌∙◌, sym, ap, arith}
-use Rattle.ist_core.specs.References.{ref_of}
-use Rattle.ist_core.proofs.ReferenceLemmas.{ref_of-empty, ref_of-unset, ref_of-row}
+use Rattle.ist_core.specs.WordTerms.{ref_of}
+use Rattle.ist_core.proofs.AllWordLemmas.{ref_of-empty, ref_of-unset, ref_of-row}
 use Rattle.ist_layout.proofs.references.Ref.from_word.Goals as goal
 
 pub returns-in-0-clause-value : goal.returns-in-0-clause-value

@@ -1,6 +1,6 @@
 use Rattle.std.proofs.Common.{◌∙◌, sym, ap, arith}
-use Rattle.ist_core.specs.Statuses.{status_of}
-use Rattle.ist_core.proofs.StatusLemmas.{status_of-open, status_of-marked, status_of-finished, status_of-none}
+use Rattle.ist_core.specs.WordTerms.{status_of}
+use Rattle.ist_core.proofs.AllWordLemmas.{status_of-open, status_of-marked, status_of-finished, status_of-none}
 use Rattle.ist_layout.proofs.statuses.Status.from_word.Goals as goal
 
 pub returns-in-0-clause-value : goal.returns-in-0-clause-value

@@ -1,7 +1,7 @@
 use Rattle.std.proofs.Common.{◌∙◌, map, IfSome, sym, ap, subst}
 use Rattle.std.proofs.lemmas.List.Elements.{All-map}
 use Rattle.ist_rest.specs.RestingWords.{HoldPairs}
-use Rattle.ist_tree.specs.Faces.{TreeFace}
+use Rattle.ist_tree.specs.CallTerms.{TreeFace}
 use Rattle.ist_map.specs.Growing.{words_for_tree}
 use Rattle.ist_map.specs.Hands.{calls_by, first_stop}
 use Rattle.ist_map.specs.Refusing.{WasRefusedOn}
@@ -12,11 +12,8 @@ use Rattle.ist_map.proofs.running.Map.run_once.Goals as goal
 
 -- the workers ran on one tree, which was opened over the words and closed with its maker
 pub returns-clause-ran : goal.returns-clause-ran
-returns-clause-ran g c =
-    let opened = c.in_ok-tree.ensures.new in
-    let new = opened.opens.new in
-    let hired = c.hire_all.ensures in
-    let left = c.dismiss_all.ensures in
+returns-clause-ran g c = let opened = c.in_ok-tree.ensures.new in let new = opened.opens.new in
+    let hired = c.hire_all.ensures in let left = c.dismiss_all.ensures in
     let same_tree = left.same_tree ∙ hired.same_tree ∙ new.same_tree in
     run_one _ _ _ _ _ _ _ c.dismiss_all.new.maker
     (subst (λ (t : TreeFace). HoldPairs c.args.self.now.closed t.start) (sym same_tree) opened.opens.holds)
@@ -33,6 +30,5 @@ returns-clause-ran g c =
 
 -- none stopped by a handle by which no stop is requested
 pub returns-clause-unasked : goal.returns-clause-unasked
-returns-clause-unasked g c never =
-    ap first_stop c.dismiss_all.ensures.left
+returns-clause-unasked g c never = ap first_stop c.dismiss_all.ensures.left
     ∙ none_asked (λ h. h.stopped) c.work_all.new.hands c.work_all.ensures.unasked never

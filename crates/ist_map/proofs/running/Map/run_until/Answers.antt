@@ -1,6 +1,5 @@
 use Rattle.std.proofs.Common.{◌≡◌, ◌∙◌, None, All, rules, refl, sym, arith}
-use Rattle.ist_map.proofs.GrowLemmas.{any_refused, passed_on, stops, stops_here}
-use Rattle.ist_map.proofs.HandLemmas.{all_unasked, one_asked}
+use Rattle.ist_map.proofs.HandLemmas.{any_refused, passed_on, stops, stops_here, all_unasked, one_asked}
 use Rattle.ist_map.proofs.RunLemmas.{run_none, one_more, underway_more}
 use Rattle.ist_map.proofs.running.Map.run_until.Goals as goal
 
@@ -59,11 +58,9 @@ returns-in_err-words-clause-ran g c =
 
 -- the next tree has more words, and the last one no more than the most
 pub loop-hands-smaller : goal.loop-hands-smaller
-loop-hands-smaller g c =
-    let more = c.in_ok-run_once.ensures.more in
+loop-hands-smaller g c = let more = c.in_ok-run_once.ensures.more in
     let within = c.in_ok-run_once.ensures.within in
-    let less = c.in_ok-words.ensures.more c.in_ok-run_once.ensures.some in
-    omega arith
+    let less = c.in_ok-words.ensures.more c.in_ok-run_once.ensures.some in omega arith
 
 pub loop-hands-preserved : goal.loop-hands-preserved
 loop-hands-preserved g c = record {

@@ -1,6 +1,6 @@
 use Rattle.std.proofs.Common.{◌≤◌, ◌-◌, ◌*◌, length, map}
-use Rattle.ist_core.specs.Enabled.{caller_limit}
-use Rattle.ist_core.specs.RowLayout.{place_limit}
+use Rattle.ist_core.specs.LogTerms.{caller_limit}
+use Rattle.ist_core.specs.WordTerms.{place_limit}
 use Rattle.ist_map.specs.Running.{IsUnderway}
 use Rattle.ist_map.proofs.running.Map.run_until.Given as goal
 

@@ -1,6 +1,6 @@
 use Rattle.std.proofs.Common.{rules}
 use Rattle.ist_tree.proofs.HeardLemmas.{seen_more_then, seen_same}
-use Rattle.ist_map.proofs.GrowLemmas.{passed_on}
+use Rattle.ist_map.proofs.HandLemmas.{passed_on}
 use Rattle.ist_map.proofs.RefusalLemmas.{refused_now, kept_now}
 use Rattle.ist_map.proofs.ScriptLemmas.{told_more}
 use Rattle.ist_map.proofs.scripts.ScriptWorker.work.Goals as goal

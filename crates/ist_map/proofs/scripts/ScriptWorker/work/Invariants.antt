@@ -1,6 +1,6 @@
 use Rattle.std.proofs.Common.{◌≡◌, ◌≤◌, ◌-◌, ◌++◌, length, map, None, vec_capacity}
-use Rattle.ist_core.specs.Resting.{told_by_call}
-use Rattle.ist_tree.specs.Calls.{HasSeenMore}
+use Rattle.ist_core.specs.TreeTerms.{told_by_call}
+use Rattle.ist_tree.specs.CallTerms.{HasSeenMore}
 use Rattle.ist_map.specs.Scripts.{told_in}
 use Rattle.ist_map.proofs.scripts.ScriptWorker.work.Given as goal
 
@@ -17,5 +17,4 @@ invariant-loop-self l = record {
 }
 
 abbrev pub decreases-loop-self : goal.decreases-loop-self
-decreases-loop-self l =
-    length l.self-inside.commands.items - length l.self-inside.replies.items
+decreases-loop-self l = length l.self-inside.commands.items - length l.self-inside.replies.items

@@ -1,12 +1,10 @@
 use Rattle.std.proofs.Common.{◌≡◌, List, length}
 use Rattle.ist_core.specs.declared.pairs.Pair.{Pair}
-use Rattle.ist_core.specs.Map.{listed}
-use Rattle.ist_core.specs.Replies.{Answered}
-use Rattle.ist_core.specs.Resting.{StandsFor}
+use Rattle.ist_core.specs.TreeTerms.{listed, StandsFor}
+use Rattle.ist_core.specs.LogTerms.{Answered}
 use Rattle.laws_histories.specs.Telling.{map_now}
 use Rattle.ist_rest.specs.RestingWords.{AreListed}
-use Rattle.ist_rest.proofs.WholeLemmas.{if_ok_so}
-use Rattle.ist_rest.proofs.MapLemmas.{stand_hold, listed_of_map}
+use Rattle.ist_rest.proofs.WholeLemmas.{if_ok_so, stand_hold, listed_of_map}
 use Rattle.ist_rest.proofs.closed.Closed.list.Goals as goal
 
 -- standing words hold pairs
@@ -15,9 +13,7 @@ list_words-requires c = record { hold = stand_hold c.args.self.now c.know.ensure
 
 -- and the pairs of the interval are the map's
 pub returns-clause-of_map : goal.returns-clause-of_map
-returns-clause-of_map c =
-    let first = c.args.first in
-    let last = c.args.last in
+returns-clause-of_map c = let first = c.args.first in let last = c.args.last in
     if_ok_so (λ found. AreListed c.args.self.now first last found.items)
     (λ found. (pairs : List Pair) → (told : List (List Answered))
     → (s : StandsFor c.args.self.now pairs told)

@@ -1,12 +1,10 @@
 use Rattle.std.proofs.Common.{◌≡◌, List, length}
 use Rattle.ist_core.specs.declared.pairs.Pair.{Pair}
-use Rattle.ist_core.specs.Map.{pairs_of}
-use Rattle.ist_core.specs.Replies.{Answered}
-use Rattle.ist_core.specs.Resting.{StandsFor}
+use Rattle.ist_core.specs.TreeTerms.{pairs_of, StandsFor}
+use Rattle.ist_core.specs.LogTerms.{Answered}
 use Rattle.laws_histories.specs.Telling.{map_now}
 use Rattle.ist_rest.specs.RestingWords.{HoldPairs}
-use Rattle.ist_rest.proofs.WholeLemmas.{if_ok_so}
-use Rattle.ist_rest.proofs.MapLemmas.{stand_hold, pairs_of_map}
+use Rattle.ist_rest.proofs.WholeLemmas.{if_ok_so, stand_hold, pairs_of_map}
 use Rattle.ist_rest.proofs.closed.Closed.pairs.Goals as goal
 
 -- standing words hold pairs
@@ -15,8 +13,7 @@ all_words-requires c = record { hold = stand_hold c.args.self.now c.know.ensures
 
 -- and these are the map's
 pub returns-clause-of_map : goal.returns-clause-of_map
-returns-clause-of_map c =
-    if_ok_so (λ found. HoldPairs c.args.self.now found.items)
+returns-clause-of_map c = if_ok_so (λ found. HoldPairs c.args.self.now found.items)
     (λ found. (pairs : List Pair) → (told : List (List Answered))
     → (s : StandsFor c.args.self.now pairs told)
     → found.items ≡ pairs_of (map_now pairs (length c.args.self.now) s.log))

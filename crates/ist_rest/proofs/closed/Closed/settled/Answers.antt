@@ -1,4 +1,4 @@
-use Rattle.ist_rest.proofs.MapLemmas.{stand_hold, stood}
+use Rattle.ist_rest.proofs.WholeLemmas.{stand_hold, stood}
 use Rattle.ist_rest.proofs.SettledLemmas.{settled_words}
 use Rattle.ist_rest.proofs.closed.Closed.settled.Goals as goal
 

@@ -1,10 +1,9 @@
 use Rattle.std.proofs.Common.{List, ◌≡◌, ◌+◌, ap, ◌∙◌, subst, sym}
 use Rattle.std.proofs.lemmas.Result.{IfOk-weaker}
 use Rattle.ist_core.specs.declared.pairs.Pair.{Pair}
-use Rattle.ist_core.specs.Map.{pairs_of, pairs_between}
+use Rattle.ist_core.specs.TreeTerms.{pairs_of, pairs_between}
 use Rattle.ist_scan.specs.Shots.{ArePairsOf, map_seen}
-use Rattle.ist_scan.proofs.CutLemmas.{between_is, none_between}
-use Rattle.ist_scan.proofs.ShotLemmas.{looked_not, looked_more, of_pairs}
+use Rattle.ist_scan.proofs.ShotLemmas.{between_is, none_between, looked_not, looked_more, of_pairs}
 use Rattle.ist_scan.proofs.shots.Shot.list.Goals as goal
 
 -- there is nothing to list

@@ -1,17 +1,15 @@
 use Rattle.std.proofs.Common.{◌≡◌, ◌+◌, ap, ◌∙◌, subst, sym}
-use Rattle.ist_core.specs.Map.{pairs_of}
+use Rattle.ist_core.specs.TreeTerms.{pairs_of}
 use Rattle.ist_scan.specs.Shots.{ArePairsOf, map_seen}
 use Rattle.ist_scan.specs.Totals.{total_of}
-use Rattle.ist_scan.proofs.CutLemmas.{between_is, none_between}
-use Rattle.ist_scan.proofs.ShotLemmas.{looked_not, looked_more, of_pairs}
+use Rattle.ist_scan.proofs.ShotLemmas.{between_is, none_between, looked_not, looked_more, of_pairs}
 use Rattle.ist_scan.proofs.shots.Shot.total.Goals as goal
 
 pub returns-then-first-last-clause-looked : goal.returns-then-first-last-clause-looked
 returns-then-first-last-clause-looked c = looked_not c.args.pass.now
 
 pub returns-then-first-last-clause-by_pairs : goal.returns-then-first-last-clause-by_pairs
-returns-then-first-last-clause-by_pairs c = λ pairs k.
-    c.of_none.ensures.value
+returns-then-first-last-clause-by_pairs c = λ pairs k. c.of_none.ensures.value
     ∙ ap total_of (sym (none_between pairs c.args.first c.args.last c.if-first-last.true))
 
 pub returns-then-first-last-clause-total : goal.returns-then-first-last-clause-total
@@ -20,8 +18,7 @@ returns-then-first-last-clause-total c = λ position o.
     (of_pairs c.args.pass.now position c.args.self.now c.know.ensures.lawful o)
 
 pub returns-clause-looked : goal.returns-clause-looked
-returns-clause-looked c =
-    looked_more c.args.pass.now c.ends_of-ends.new.pass c.total_at.new.pass
+returns-clause-looked c = looked_more c.args.pass.now c.ends_of-ends.new.pass c.total_at.new.pass
     c.ends_of-ends.ensures.looked c.total_at.ensures.looked
 
 pub returns-clause-by_pairs : goal.returns-clause-by_pairs

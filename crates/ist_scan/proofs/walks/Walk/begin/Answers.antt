@@ -13,9 +13,7 @@ returns-then-self-clause-way c =
 
 -- its first pair is where its first key cuts the pairs of the shot
 pub returns-clause-way : goal.returns-clause-way
-returns-clause-way c =
-    let pass = c.args.pass.now in
-    let next = c.count_below-cut.result.count in
+returns-clause-way c = let pass = c.args.pass.now in let next = c.count_below-cut.result.count in
     let it = some_pairs pass c.args.shot c.know.ensures.lawful c.requires.frozen in
     let fresh = c.requires.way.fresh (ap (λ w. w.begun) (sym c.self.view_is) ∙ c.if-self.false) in
     let given : c.self.inside.given ≡ 0 = ap (λ w. w.given) c.self.view_is ∙ fresh in

@@ -17,8 +17,7 @@ pub returns-then-pair-self-clause-looked : goal.returns-then-pair-self-clause-lo
 returns-then-pair-self-clause-looked c = looked_more _ _ _ c.begin.ensures.looked c.pair_at-pair.ensures.looked
 
 pub returns-then-pair-self-clause-by_pairs : goal.returns-then-pair-self-clause-by_pairs
-returns-then-pair-self-clause-by_pairs c pairs k =
-    let b = c.begin.ensures in
+returns-then-pair-self-clause-by_pairs c pairs k = let b = c.begin.ensures in
     ends_above _ _ _ _ _ b.looked b.way b.one_walk b.given c.requires.its_shot pairs k _ _ _ c.self.view_is
     c.frozen-frozen.ensures.value c.pair_at-pair.ensures.pair c.if-pair-self.true
 
@@ -31,8 +30,7 @@ pub returns-clause-looked : goal.returns-clause-looked
 returns-clause-looked c = looked_more _ _ _ c.begin.ensures.looked c.pair_at-pair.ensures.looked
 
 pub returns-clause-by_pairs : goal.returns-clause-by_pairs
-returns-clause-by_pairs c pairs k =
-    let b = c.begin.ensures in
+returns-clause-by_pairs c pairs k = let b = c.begin.ensures in
     comes _ _ _ _ _ b.looked b.way b.one_walk b.given c.requires.its_shot pairs k _ _ _ c.self.view_is
     c.frozen-frozen.ensures.value c.pair_at-pair.ensures.pair c.if-pair-self.false
 

@@ -1,9 +1,7 @@
 -- The last words are the words of a table whose maker took all passes back.
 use Rattle.std.proofs.Common.{◌≡◌, subst, sym, length}
-use Rattle.ist_tree.specs.Faces.{MakerFace}
-use Rattle.ist_tree.specs.Closing.{ClosesWith}
-use Rattle.ist_tree.proofs.ClosingLemmas.{closes_with}
-use Rattle.ist_tree.specs.RealTime.{ClosesInTime}
+use Rattle.ist_tree.specs.CallTerms.{MakerFace, ClosesWith, ClosesInTime}
+use Rattle.ist_tree.proofs.RealTimeLemmas.{closes_with}
 use Rattle.ist_tree.proofs.trees.Tree.close.Goals as goal
 
 pub new-requires-clause-stands : goal.new-requires-clause-stands

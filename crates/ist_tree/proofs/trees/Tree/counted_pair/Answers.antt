@@ -1,8 +1,8 @@
 -- A pair is read only by loads.
 use Rattle.std.proofs.Common.{ap, ◌∙◌, arith}
 use Rattle.ist_rule.specs.declared.view.View.{View}
-use Rattle.ist_tree.specs.Faces.{PassFace}
-use Rattle.ist_tree.proofs.FreezeReadLemmas.{ReadEnds, read_ends}
+use Rattle.ist_tree.specs.CallTerms.{PassFace}
+use Rattle.ist_tree.proofs.FewFreezeLemmas.{ReadEnds, read_ends}
 use Rattle.ist_tree.proofs.trees.Tree.counted_pair.Goals as goal
 use Rattle.ist_tree.proofs.trees.Tree.counted_pair.Goals.{After-pair_and_loads}
 
@@ -26,12 +26,9 @@ pub returns-clause-still : goal.returns-clause-still
 returns-clause-still c = (ends c).still
 
 pub returns-clause-counted : goal.returns-clause-counted
-returns-clause-counted c =
-    let before = ap (λ (it : PassFace). it.loaded) c.pass.view_is in
-    let counted = c.pair_and_loads.ensures.counted in
-    omega arith
+returns-clause-counted c = let before = ap (λ (it : PassFace). it.loaded) c.pass.view_is in
+    let counted = c.pair_and_loads.ensures.counted in omega arith
 
 pub returns-clause-no_walk : goal.returns-clause-no_walk
-returns-clause-no_walk c =
-    ap (λ (y : View). y.searches) c.pair_and_loads.ensures.seen.same
+returns-clause-no_walk c = ap (λ (y : View). y.searches) c.pair_and_loads.ensures.seen.same
     ∙ ap (λ (it : PassFace). it.searches) c.pass.view_is

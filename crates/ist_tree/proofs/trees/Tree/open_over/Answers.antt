@@ -1,13 +1,12 @@
 use Rattle.std.proofs.Common.{rules, ◌≡◌, ◌≤◌, ◌∙◌, length, ap}
-use Rattle.ist_rule.specs.Rule.{opened_view}
-use Rattle.ist_tree.specs.Opening.{words_for}
+use Rattle.ist_rule.specs.RuleTerms.{opened_view}
+use Rattle.ist_tree.specs.CallTerms.{words_for}
 use Rattle.ist_tree.proofs.OpeningLemmas.{new_tree}
 use Rattle.ist_tree.proofs.trees.Tree.open_over.Goals as goal
 
 -- the tree is a new one of the pairs, of which the table has a copy
 pub returns-clause-new : goal.returns-clause-new
-returns-clause-new c =
-    let t = c.in_ok-table in
+returns-clause-new c = let t = c.in_ok-table in
     let kept : c.in_ok-kept.kept.items ≡ c.args.pairs.now = search rules in
     let size : length c.words.result.now ≡ c.args.words = search rules in
     let room : words_for c.args.pairs.now ≤ c.args.words = search rules in

@@ -1,13 +1,12 @@
 -- A new pass is a caller that was entered now.
 use Rattle.std.proofs.Common.{◌+◌, subst, arith}
-use Rattle.ist_core.specs.Logs.{GoesOn}
-use Rattle.ist_tree.specs.Faces.{MakerFace}
+use Rattle.ist_core.specs.LogTerms.{GoesOn}
+use Rattle.ist_tree.specs.CallTerms.{MakerFace}
 use Rattle.ist_tree.proofs.TokenLemmas.{new_pass_with, entered_goes_on, entered_counted}
 use Rattle.ist_tree.proofs.trees.Tree.pass.Goals as goal
 
 pub invariant_of-result : goal.invariant_of-result
-invariant_of-result c =
-    new_pass_with c.enter-caller.result c.enter-caller.ensures.caller.0
+invariant_of-result c = new_pass_with c.enter-caller.result c.enter-caller.ensures.caller.0
     c.enter-caller.ensures.holds_none c.enter-caller.ensures.in_none c.know.ensures.sound
     c.enter-caller.ensures.idle
 

@@ -1,7 +1,6 @@
 use Rattle.std.proofs.Common.{refl, subst, sym}
 use Rattle.ist_core.specs.declared.commands.Command.TheVariants.{Put}
-use Rattle.ist_tree.specs.RealTime.{ReturnsInTime}
-use Rattle.ist_tree.specs.Updates.{HasUpdated}
+use Rattle.ist_tree.specs.CallTerms.{ReturnsInTime, HasUpdated}
 use Rattle.ist_tree.proofs.trees.Tree.put.Goals as goal
 
 -- an update that should take effect at any value did

@@ -1,5 +1,5 @@
 -- A span is read by a search in no call.
-use Rattle.ist_tree.proofs.SpanLemmas.{SpanEnds, read_begun, span_ends}
+use Rattle.ist_tree.proofs.ReadLemmas.{SpanEnds, read_begun, span_ends}
 use Rattle.ist_tree.proofs.trees.Tree.span.Goals as goal
 use Rattle.ist_tree.proofs.trees.Tree.span.Goals.{After-find_span}
 

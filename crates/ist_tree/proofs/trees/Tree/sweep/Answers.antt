@@ -1,5 +1,5 @@
 -- A range is swept in no call.
-use Rattle.ist_tree.proofs.SweepLemmas.{SweepEnds, sweep_ends}
+use Rattle.ist_tree.proofs.ShortLemmas.{SweepEnds, sweep_ends}
 use Rattle.ist_tree.proofs.trees.Tree.sweep.Goals as goal
 use Rattle.ist_tree.proofs.trees.Tree.sweep.Goals.{After-sweep}
 
@@ -7,8 +7,7 @@ use Rattle.ist_tree.proofs.trees.Tree.sweep.Goals.{After-sweep}
 ends : (c : After-sweep) → SweepEnds c.args.pass.now c.pass.inside.caller c.pass.inside.refused
     c.sweep.new.token c.args.first c.args.last c.args.found.now.items c.sweep.new.found.items
     c.sweep.result
-ends c =
-    sweep_ends c.pass.inside.caller c.pass.inside.refused _ c.sweep.new.token c.pass.invariant
+ends c = sweep_ends c.pass.inside.caller c.pass.inside.refused _ c.sweep.new.token c.pass.invariant
     c.begin_read.ensures.begun c.sweep.ensures.seen
     c.args.first c.args.last c.args.found.now.items c.sweep.new.found.items c.sweep.result
     c.sweep.ensures.swept c.args.pass.now c.pass.view_is

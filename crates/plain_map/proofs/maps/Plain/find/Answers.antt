@@ -5,8 +5,7 @@ use Rattle.plain_map.proofs.maps.Plain.find.Goals as goal
 
 -- the closure gives a pair's key, and the slice is the map's pairs
 pub returns : goal.returns
-returns c =
-    let facts = c.binary_search_by_key.ensures in
+returns c = let facts = c.binary_search_by_key.ensures in
     let by_key =
     facts.position (λ p. p.key) (answers_always _ _ _ (λ f a r g called. search rules)) in
     rw (← c.self.view_is, ← c.deref.ensures.value)

@@ -1,7 +1,7 @@
 use Rattle.std.proofs.Common.{sym, subst, arith}
 use Rattle.std.proofs.lemmas.List.{get_or_default}
 use Rattle.plain_map.specs.Rising.{IsRising}
-use Rattle.plain_map.proofs.ValueLemmas.{no_pair}
+use Rattle.plain_map.proofs.RisingLemmas.{no_pair}
 use Rattle.plain_map.proofs.PlaceLemmas.{get_at, get_in_gap}
 use Rattle.plain_map.proofs.maps.Plain.get.Goals as goal
 

@@ -1,19 +1,16 @@
 use Rattle.std.proofs.Common.{rules, nat_lt, nat_le, drop, sym, ap, subst, ◌∙◌}
 use Rattle.std.proofs.lemmas.List.{take_rest}
 use Rattle.std.proofs.lemmas.List.Sorted.{IsPartitionPoint-from_clause}
-use Rattle.ist_core.specs.Map.{pairs_between}
-use Rattle.plain_map.proofs.ListingLemmas.{slice_between, below_first, up_to_first, rising_drop}
-use Rattle.plain_map.proofs.EntriesLemmas.{pairs_of-map_of}
+use Rattle.ist_core.specs.TreeTerms.{pairs_between}
+use Rattle.plain_map.proofs.RisingLemmas.{slice_between, below_first, up_to_first, rising_drop}
+use Rattle.plain_map.proofs.PlaceLemmas.{pairs_of-map_of}
 use Rattle.plain_map.specs.Rising.{IsRising}
 use Rattle.plain_map.proofs.maps.Plain.list.Goals as goal
 
 -- each closure tests the key, and both slices are of the map's pairs
 pub returns-clause-between : goal.returns-clause-between
-returns-clause-between c =
-    let first = c.args.first in
-    let last = c.args.last in
-    let pairs = c.self.inside.pairs.items in
-    let n = c.partition_point-from.result in
+returns-clause-between c = let first = c.args.first in let last = c.args.last in
+    let pairs = c.self.inside.pairs.items in let n = c.partition_point-from.result in
     let parted = rw (← c.deref.ensures.value) at (below_first pairs c.self.invariant first) in
     let from =
     IsPartitionPoint-from_clause

@@ -1,6 +1,6 @@
 use Rattle.std.proofs.Common.{sym, subst}
 use Rattle.plain_map.specs.Rising.{IsRising}
-use Rattle.plain_map.proofs.EntriesLemmas.{pairs_of-map_of}
+use Rattle.plain_map.proofs.PlaceLemmas.{pairs_of-map_of}
 use Rattle.plain_map.proofs.maps.Plain.pairs.Goals as goal
 
 -- the keys of the list are strictly increasing, so it is the list of its map

@@ -1,7 +1,7 @@
 use Rattle.std.proofs.Common.{sym, subst, arith}
 use Rattle.std.proofs.lemmas.List.{get_or_default}
 use Rattle.plain_map.specs.Rising.{IsRising}
-use Rattle.plain_map.proofs.ValueLemmas.{no_pair}
+use Rattle.plain_map.proofs.RisingLemmas.{no_pair}
 use Rattle.plain_map.proofs.PlaceLemmas.{get_at, map_of-set, rising_set, get_in_gap, map_of-insert, rising_insert}
 use Rattle.plain_map.proofs.maps.Plain.put.Goals as goal
 
@@ -17,8 +17,7 @@ returns-in-Ok-clause-reply c =
     grind (arith, c.self.view_is)
 
 pub returns-in-Ok-clause-after : goal.returns-in-Ok-clause-after
-returns-in-Ok-clause-after c =
-    rw c.self.view_is
+returns-in-Ok-clause-after c = rw c.self.view_is
     (map_of-set _ (subst IsRising c.self.view_is c.self.invariant) _ _ c.in-Ok.ensures.found _)
 
 -- the pair is added in the gap

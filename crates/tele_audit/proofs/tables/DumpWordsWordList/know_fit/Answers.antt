@@ -7,17 +7,13 @@ use Rattle.tele_audit.proofs.tables.DumpWordsWordList.know_fit.Goals as goal
 pub word-word-requires : goal.word-word-requires
 word-word-requires c =
     let n = length_numbers_in c.self.inside.used (drop 16 c.self.inside.bytes.items) in
-    let e = ap length c.self.view_is in
-    let less = c.loop-place-test.true in
+    let e = ap length c.self.view_is in let less = c.loop-place-test.true in
     record { within = omega arith }
 
 -- a word past the end is 0
 pub returns : goal.returns
-returns c =
-    let n = length_numbers_in c.self.inside.used (drop 16 c.self.inside.bytes.items) in
-    let e = ap length c.self.view_is in
-    let all = c.loop-place-test.false in
-    record {
+returns c = let n = length_numbers_in c.self.inside.used (drop 16 c.self.inside.bytes.items) in
+    let e = ap length c.self.view_is in let all = c.loop-place-test.false in record {
       fit = λ place. ⊎_elim
           (λ h. let past = get_or_past c.args.self.now place 0 (let m = h.1 in omega arith) in
           omega arith)

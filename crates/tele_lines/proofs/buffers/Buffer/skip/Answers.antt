@@ -4,8 +4,7 @@ use Rattle.tele_lines.proofs.buffers.Buffer.skip.Goals as goal
 
 -- the bytes begin later
 pub returns : goal.returns
-returns c =
-    let b = c.self.inside in
+returns c = let b = c.self.inside in
     let fits : c.args.count ≤ length (slice_range b.bytes b.start b.end) =
     subst (λ xs. c.args.count ≤ length xs) (sym c.self.view_is) c.requires.within in
     let within : b.start + c.args.count ≤ b.end =

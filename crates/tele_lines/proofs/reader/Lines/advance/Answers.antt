@@ -12,8 +12,7 @@ from_both (Some x) p q f = f x p q
 
 -- a line was read, and the reading continues after it
 pub returns-in-Ok-clause-line : goal.returns-in-Ok-clause-line
-returns-in-Ok-clause-line g c =
-    from_both c.cut.result c.cut.ensures.line c.cut.ensures.place
+returns-in-Ok-clause-line g c = from_both c.cut.result c.cut.ensures.line c.cut.ensures.place
     (λ said line place goes_on. one_after _ _ said _ _ _ _ c.in-Ok.ensures.kept (place goes_on) goes_on (line goes_on _))
 
 -- the end of the line has not been read yet

@@ -1,7 +1,6 @@
 use Rattle.std.proofs.Common.{ap, length}
-use Rattle.tele_lines.proofs.CutterLemmas.{line_at, line_last, first_at, first_last}
+use Rattle.tele_lines.proofs.PlaceLemmas.{line_at, line_last, first_at, first_last, shown_at, shown_last}
 use Rattle.tele_lines.specs.Progress.{place_of}
-use Rattle.tele_lines.proofs.ShownLemmas.{shown_at, shown_last}
 use Rattle.tele_lines.proofs.reader.Lines.cut.Goals as goal
 
 -- the line ends at the newline
@@ -16,8 +15,7 @@ returns-in-Some-clause-first c left =
 
 -- the line is all that there is
 pub returns-else-len-eq0-clause-line : goal.returns-else-len-eq0-clause-line
-returns-else-len-eq0-clause-line c =
-    let read = c.read-else-len-eq0 in
+returns-else-len-eq0-clause-line c = let read = c.read-else-len-eq0 in
     line_last c.args.self.now read.new.self _ read.result (ap length c.bytes-len.ensures.value) c.if-len-eq0.false
     (rw c.in-None.is at c.requires.there) read.ensures.value read.ensures.rest read.ensures.ended
 

@@ -2,20 +2,17 @@ use Rattle.std.proofs.Common.{◌∙◌, ap, arith}
 use Rattle.std.specs.Prelude.{Some, Ok}
 use Rattle.tele_lines.specs.declared.items.Said.TheVariants.{Skips, Chooses}
 use Rattle.tele_lines.specs.Progress.{Place, place_of}
-use Rattle.tele_lines.proofs.PlaceLemmas.{goes_on_if, reads_if, item_if, bad_if}
-use Rattle.tele_lines.proofs.ShownLemmas.{skipped_if}
+use Rattle.tele_lines.proofs.PlaceLemmas.{goes_on_if, reads_if, item_if, bad_if, skipped_if}
 use Rattle.tele_lines.proofs.SkippedLemmas.{skipped_more, skipped_sparing}
 use Rattle.tele_lines.proofs.reader.Lines.next.Goals as goal
 
 -- a line that says nothing was skipped
 pub loop-item-preserved-in-Ok-Some-Skips : goal.loop-item-preserved-in-Ok-Some-Skips
-loop-item-preserved-in-Ok-Some-Skips g c =
-    let met = c.in-Ok-Some-Skips.ensures in
+loop-item-preserved-in-Ok-Some-Skips g c = let met = c.in-Ok-Some-Skips.ensures in
     let line = rw c.in-Ok-Some-Skips.field-0-0-is at (rw c.in-Ok-Some-Skips.field-0-is at met.line) in
     let place = rw c.in-Ok-Some-Skips.field-0-0-is at (rw c.in-Ok-Some-Skips.field-0-is at met.place) in
     let going = rw c.in-Ok-Some-Skips.field-0-0-is at (rw c.in-Ok-Some-Skips.field-0-is at met.going) in
-    let before = c.loop-item.invariant in
-    record {
+    let before = c.loop-item.invariant in record {
       skipped = skipped_more _ _ _ _ _ before.skipped _ Skips (line tt) (place tt) (going tt)
           met.end met.ended met.limit met.steady met.sparing;
       again = λ done. absurd (cc (met.again (before.again done).0).0);
@@ -24,13 +21,11 @@ loop-item-preserved-in-Ok-Some-Skips g c =
 
 -- a line that chooses a version was skipped
 pub loop-item-preserved : goal.loop-item-preserved
-loop-item-preserved g c =
-    let met = c.in-Ok-Some-Chooses.ensures in
+loop-item-preserved g c = let met = c.in-Ok-Some-Chooses.ensures in
     let line = rw c.in-Ok-Some-Chooses.field-0-0-is at (rw c.in-Ok-Some-Chooses.field-0-is at met.line) in
     let place = rw c.in-Ok-Some-Chooses.field-0-0-is at (rw c.in-Ok-Some-Chooses.field-0-is at met.place) in
     let going = rw c.in-Ok-Some-Chooses.field-0-0-is at (rw c.in-Ok-Some-Chooses.field-0-is at met.going) in
-    let before = c.loop-item.invariant in
-    record {
+    let before = c.loop-item.invariant in record {
       skipped = skipped_more _ _ _ _ _ before.skipped _ (Chooses _) (line tt) (place tt) (going tt)
           met.end met.ended met.limit met.steady met.sparing;
       again = λ done. absurd (cc (met.again (before.again done).0).0);
@@ -39,8 +34,7 @@ loop-item-preserved g c =
 
 -- a line asks for something
 pub returns-in-Ok-Some-Asks-clause-line : goal.returns-in-Ok-Some-Asks-clause-line
-returns-in-Ok-Some-Asks-clause-line g c =
-    let met = c.in-Ok-Some-Asks.ensures in
+returns-in-Ok-Some-Asks-clause-line g c = let met = c.in-Ok-Some-Asks.ensures in
     let line = rw c.in-Ok-Some-Asks.field-0-0-is at (rw c.in-Ok-Some-Asks.field-0-is at met.line) in
     let place = rw c.in-Ok-Some-Asks.field-0-0-is at (rw c.in-Ok-Some-Asks.field-0-is at met.place) in
     let before = c.loop-item.invariant in
