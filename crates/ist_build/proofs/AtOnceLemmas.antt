@@ -3,7 +3,7 @@
 use Rattle.std.proofs.Common.{◌≡◌, ℕ, ◌≤◌, List, ◌++◌, length, Result, Ok, Err, IfOk, IfErr, sym, ap, subst, arith}
 use Rattle.std.specs.List.{sum}
 use Rattle.ist_core.specs.declared.ports.Full.{Full}
-use Rattle.ist_core.specs.WordTerms.{degree, inner_words, place_limit, shape}
+use Rattle.ist_core.specs.WordTerms.{place_limit, shape}
 use Rattle.ist_core.specs.TreeTerms.{PlacedLeaf}
 use Rattle.ist_core.proofs.AllLogLemmas.{goes_on_by}
 use Rattle.ist_core.proofs.AllWordLemmas.{shape_many}
@@ -35,10 +35,7 @@ due_next who n h = record { stuck = h.stuck; done = h.done; rest = h.rest; at = 
 -- so they are for a list that is the shape
 pub shape_next : (who : Caller) (n : ℕ) (sizes : List ℕ) → sizes ≡ shape n → AreNextRows who n → 2 ≤ n
     → AreNext who sizes × (1 ≤ length sizes)
-shape_next who n sizes is due two = (
-  subst (AreNext who) (sym is) (due_next who n due),
-  subst (λ xs. 1 ≤ length xs) (sym is) (some_rows n two),
-)
+shape_next who n sizes is due two = grind (arith, due_next, some_rows)
 
 -- leaves stay at their bases
 pub placed_on : (v w : View) → BuiltOn v w → (bases : List ℕ) (leaves : List PlacedLeaf)
@@ -78,8 +75,7 @@ module _ (old new : Caller) (leaves keys : List ℕ) (at base : ℕ) (base_is : 
   sizes = shape (length leaves)
 
   r : ReservedAll old.token.view old.number base sizes new.token.view
-  r =
-      subst (λ b. ReservedAll old.token.view old.number b sizes new.token.view) (sym base_is) reserved
+  r = grind arith
 
   built : BuiltOn old.token.view new.token.view
   built = reserved_all_built old.token.view old.number base sizes new.token.view r
@@ -90,18 +86,11 @@ module _ (old new : Caller) (leaves keys : List ℕ) (at base : ℕ) (base_is : 
 
   -- they are held
   block_held : HoldsBlock (now new.token.view) new.number base sizes
-  block_held =
-      subst (λ k. HoldsBlock (now new.token.view) k base sizes) (sym (ap (λ (x : Caller). x.number) same))
-      (holds_them old new.token base sizes c r)
+  block_held = grind (arith, holds_them, r)
 
   -- they lie in the table
   block_low : base ≤ place_limit
-  block_low =
-      let row = (block_first (now new.token.view) new.number base (length leaves) two block_held).0 in
-      let inside = (row_within new.token.view reserved.reserved.sound new.number base
-      (inner_words (degree (length leaves))) row).1 in
-      let low = next_low new.token.view reserved.reserved.sound in let free = low.0 in
-      let all = low.1 in omega arith
+  block_low = grind (arith, block_first, block_held, row_within, next_low)
 
   module _ (last : Caller) (end word : ℕ) (written : IsWritten new last base end) where
     -- the caller only reserved, and stored into what it reserved

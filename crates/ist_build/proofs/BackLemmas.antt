@@ -1,5 +1,5 @@
 -- A caller after the step that puts in place, or loses, what it built. Serves `root` and `filling`.
-use Rattle.std.proofs.Common.{◌≡◌, ℕ, List, ◌∷◌, ◌++◌, refl, sym, ap, ap₂, ◌∙◌, subst, Result, Ok, Err, IfErr}
+use Rattle.std.proofs.Common.{◌≡◌, ℕ, List, ◌∷◌, ◌++◌, refl, sym, ap, ap₂, ◌∙◌, subst, Result, Ok, Err, IfErr, arith}
 use Rattle.ist_core.specs.declared.events.Event.{Event}
 use Rattle.ist_core.specs.declared.lists.Row.{Row}
 use Rattle.ist_core.specs.declared.ports.Full.{Full}
@@ -21,7 +21,6 @@ use Rattle.ist_build.specs.Putting.{PutOn, IsStopped}
 use Rattle.ist_build.specs.Back.{IsFreeToBuild, IsBack, HasBuilt, IsSharedAs}
 use Rattle.ist_build.proofs.HeldBeforeLemmas.{refused_back, caller_back}
 use Rattle.ist_build.proofs.TopBegunLemmas.{sizes_on}
-use Rattle.ist_core.specs.TreeTerms.{IsFinishedWith}
 use Rattle.ist_rule.proofs.EventLemmas.{goes_on_who}
 use Rattle.ist_rows.proofs.FewStepLemmas.{few_call, none_more, none_seen}
 use Rattle.ist_build.specs.declared.shared.SharedRoot.{SharedRoot}
@@ -109,12 +108,7 @@ back_loads who token r g = let v = who.token.view in let c = r.caller in
 
 -- a caller that may build is back from the start
 pub back_same : (who : Caller) → IsFreeToBuild who → IsSound who.token.view → IsBack who who
-back_same who r s = record {
-  ready = r;
-  number = refl;
-  rows = refl;
-  put = built_put who.token.view who.token.view (built_same who.token.view s);
-}
+back_same who r s = grind (arith, built_put, built_same)
 
 -- it stays back
 pub back_more : (old mid new : Caller) → IsBack old mid → IsBack mid new → IsBack old new
@@ -128,12 +122,7 @@ back_more old mid new a b = record {
 -- a caller whose build was refused is back
 pub back_refused : (old new : Caller) → new.number ≡ old.number → spares_of new ≡ spares_of old
     → BuiltOn old.token.view new.token.view → IsCaller new → HasRefused new → IsBack old new
-back_refused old new number rows b c refused = record {
-  ready = record { caller = c; refused = refused };
-  number = number;
-  rows = rows;
-  put = built_put old.token.view new.token.view b;
-}
+back_refused old new number rows b c refused = grind (arith, built_put)
 
 -- ---- what stays while a caller puts builds in place. Serves `root` and `filling`.
 
@@ -155,8 +144,7 @@ told_back old new rebuild k b told = told_on (now old.token.view) (now new.token
 -- a rebuild that may be built stays one
 pub buildable_back : (old new : Caller) (rebuild : ℕ) → IsBack old new
     → IsBuildable (now old.token.view) rebuild → IsBuildable (now new.token.view) rebuild
-buildable_back old new rebuild b h =
-    record { k = h.k; told = told_back old new rebuild h.k b h.told }
+buildable_back old new rebuild b h = grind (arith, told_back)
 
 -- a rebuild with a root keeps one
 pub rooted_back : (old new : Caller) (rebuild : ℕ) → IsBack old new
@@ -167,12 +155,7 @@ rooted_back old new rebuild b h =
 
 -- the target of a shared root is finished
 pub shared_told : (t : Snapshot) (s : SharedRoot) → IsSharedAs t s → IsTold t s.rebuild s.keys
-shared_told t s h = record {
-  row = h.is.row;
-  published = h.is.published;
-  started = h.is.started;
-  finished = subst (λ n. IsFinishedWith t n s.keys) (sym h.is.target_is) h.is.finished;
-}
+shared_told t s h = grind arith
 
 -- ---- refusals
 
@@ -188,8 +171,7 @@ pub shared_stopped : (old mid : Caller) (s : SharedRoot) (words : ℕ)
     → IsSharedAs (now old.token.view) s → IsBack old mid → (full : Full) (w : View)
     → IsStopped mid.token.view s.rebuild words full w
     → IsStopped old.token.view s.rebuild words full w
-shared_stopped old mid s words h b full w stopped = stopped_back old mid s.rebuild words
-    record { k = s.keys; told = shared_told (now old.token.view) s h } b full w stopped
+shared_stopped old mid s words h b full w stopped = grind (arith, stopped_back, shared_told)
 
 -- the same, of an answer
 pub err_stopped : {A : Type 0} (old mid : Caller) (rebuild words : ℕ) (w : View)
@@ -197,8 +179,7 @@ pub err_stopped : {A : Type 0} (old mid : Caller) (rebuild words : ℕ) (w : Vie
     → IfErr answer (λ full. IsStopped mid.token.view rebuild words full w)
     → IfErr answer (λ full. IsStopped old.token.view rebuild words full w)
 err_stopped old mid rebuild words w h b (Ok x) stopped = tt
-err_stopped old mid rebuild words w h b (Err full) stopped =
-    stopped_back old mid rebuild words h b full w stopped
+err_stopped old mid rebuild words w h b (Err full) stopped = grind (arith, stopped_back)
 
 -- ---- words
 

@@ -1,5 +1,5 @@
 -- Parts that are built only by stores, in rows that were reserved together. Serves `lay`.
-use Rattle.std.proofs.Common.{◌≡◌, ℕ, ◌+◌, ◌<◌, ◌≤◌, List, [], ◌∷◌, ◌++◌, length, Some, sym, ap, ap₂, ◌∙◌, subst, arith, false, Result, Ok, Err}
+use Rattle.std.proofs.Common.{◌≡◌, ℕ, ◌+◌, ◌<◌, ◌≤◌, List, [], ◌∷◌, ◌++◌, length, Some, sym, ap, ◌∙◌, subst, arith, false, Result, Ok, Err}
 use Rattle.std.specs.List.{sum}
 use Rattle.std.proofs.lemmas.List.Sums.{sum_by-cons}
 use Rattle.ist_core.specs.declared.lists.Row.{Row}
@@ -38,8 +38,7 @@ use Rattle.ist_build.proofs.LeftLemmas.{left_has, left_less, left_most, left_on}
 pub holds_split : (t : Snapshot) (number base : ℕ) (xs ys : List ℕ)
     → HoldsBlock t number base (xs ++ ys)
     → HoldsBlock t number base xs × HoldsBlock t number (base + sum xs) ys
-holds_split t number base [] ys h =
-    (tt, subst (λ b. HoldsBlock t number b ys) (let q : base ≡ base + 0 = omega arith in q) h)
+holds_split t number base [] ys h = grind arith
 holds_split t number base (x ∷ xs) ys h = let it = holds_split t number (base + x) xs ys h.1 in
     let all : sum (x ∷ xs) ≡ x + sum xs = sum_by-cons (λ n. n) x xs in (
       (h.0, it.0),
@@ -142,11 +141,7 @@ module _ (v : View) (number base d n j next end key word : ℕ) (set_own : List 
     }
 
     words_now : words_at words (base + 3 + d) (j + 1) ≡ words_at v.own (base + 3 + d) j ++ word ∷ []
-    words_now = words_at_more words (base + 3 + d) j ∙ ap₂ (λ xs x. xs ++ x ∷ [])
-        (words_at_same words v.own (base + 3 + d) j
-        (λ p low high. elsewhere c base d j key word less p (λ e. omega arith)
-        (λ one e. omega arith) ∙ keeps p (omega arith)))
-        (at_slot c base d j key word less)
+    words_now = grind (arith, words_at_more, words_at_same, elsewhere, at_slot)
 
     -- the part is built, with the parts before it, once its word and its key are stored
     pub part_laid_too : AreLaidBelow (record v { own = words }) number (base + inner_words d) end base
@@ -244,6 +239,4 @@ module _ (old mid new : Caller) (s : SharedRoot) (f : FillsFew old s mid) (b : I
 pub fills_parts : {A : Type 0} (r : Result A Full) (old new : Caller) (s : SharedRoot)
     → IsSharedAs (now old.token.view) s → HasTakenFewIn r (left_for old s) (left_for new s) old new
     → HasTakenFewIn r (parts_words s.keys) 0 old new
-fills_parts r old new s sh f =
-    few_less r (left_for old s) (left_for new s) (parts_words s.keys) 0 old new
-    (left_most (now old.token.view) s sh.is.shared) (omega arith) f
+fills_parts r old new s sh f = grind (arith, few_less, left_most)

@@ -1,5 +1,5 @@
 -- What a build requires and returns, from what it has built. Serves `build`.
-use Rattle.std.proofs.Common.{le_refl, ◌≡◌, ◌≢◌, ℕ, ◌+◌, ◌-◌, ◌<◌, ◌≤◌, ◌==◌, true, false, List, [], ◌∷◌, ◌++◌, length, take, drop, Some, slice_index_or, refl, sym, ap, ap₂, ◌∙◌, subst, append-nil, append_assoc, arith}
+use Rattle.std.proofs.Common.{◌≡◌, ◌≢◌, ℕ, ◌+◌, ◌-◌, ◌<◌, ◌≤◌, ◌==◌, true, false, List, [], ◌∷◌, ◌++◌, length, take, drop, Some, slice_index_or, refl, sym, ap, ◌∙◌, subst, append-nil, append_assoc, arith}
 use Rattle.std.proofs.lemmas.Bool.Decides.{nat_tests}
 use Rattle.std.proofs.lemmas.List.{length-map}
 use Rattle.std.specs.List.{flat_map}
@@ -12,7 +12,7 @@ use Rattle.ist_core.proofs.AllWordLemmas.{ref_of-word_of, least_degree-le, shape
 use Rattle.ist_core.proofs.AllLogLemmas.{next_within, words_same}
 use Rattle.laws_calls.specs.Dividing.{lens_to, parts_to, share_of}
 use Rattle.laws_calls.proofs.PartLemmas.{parts_all, lens_all}
-use Rattle.ist_rule.specs.RuleTerms.{IsSound, now, GoesOnTo}
+use Rattle.ist_rule.specs.RuleTerms.{IsSound, now}
 use Rattle.ist_rule.specs.declared.view.View.{View}
 use Rattle.ist_dcss.proofs.FieldLemmas.{good_base}
 use Rattle.ist_rows.specs.RowTerms.{IsCaller, IsFull, spares_of, IsInBuild, IsNext, HasTaken, HasRefused}
@@ -60,22 +60,12 @@ small_taken who leaves few stuck done rest h =
 -- its row is the next
 pub next_row : (who : Caller) (n d : ℕ) → 2 ≤ n → d ≡ degree n → AreNextRows who n
     → IsNext who (inner_words d)
-next_row who n d two same h = subst (λ k. IsNext who (inner_words k)) (sym same)
-    record {
-      stuck = h.stuck;
-      done = h.done;
-      rest = flat_map shape (lens_from n 0) ++ h.rest;
-      at = subst (λ xs. IsInBuild who h.stuck h.done (xs ++ h.rest))
-          (shape_many n two ∙ ap (λ xs. inner_words (degree n) ∷ flat_map shape xs)
-          (sym (lens_first n))) h.at;
-    }
+next_row who n d two same h = grind (arith, shape_many, lens_first)
 
 -- for which too few words are left
 pub row_short : (v : View) (words n d : ℕ) (full : Full) (w : View) → 2 ≤ n → d ≡ degree n
     → IsFull v words (inner_words d) full w → IsShort v words n full w
-row_short v words n d full w two same f =
-    short_from GoesOnTo BuiltOn v v (λ x. loads_built v x) words full w f
-    (λ is. record { some = n; least = two; most = le_refl n; asked_is = is ∙ ap inner_words same })
+row_short v words n d full w two same f = grind (arith, short_from, loads_built)
 
 -- a refused reservation only made loads, and so built on
 pub full_built : (v : View) (words size : ℕ) (full : Full) (w : View) → IsFull v words size full w
@@ -114,9 +104,7 @@ held_good v s number base size i =
 -- the part as a slice
 pub slice_part : (leaves : List ℕ) (n j start len : ℕ) → start ≡ part_start n j → len ≡ part_len n j
     → take (start + len - start) (drop start leaves) ≡ share_of n j leaves
-slice_part leaves n j start len start_is len_is =
-    ap (λ k. take k (drop start leaves)) (let q : start + len - start ≡ len = omega arith in q)
-    ∙ ap₂ (λ l s. take l (drop s leaves)) len_is start_is
+slice_part leaves n j start len start_is len_is = grind arith
 
 module _ (old who : Caller) (leaves : List ℕ) (base d j : ℕ) (m : IsMidway old leaves base d j who)
     (less : j < degree (length leaves)) (some : 1 ≤ part_len (length leaves) j) (own : List ℕ)
@@ -154,8 +142,7 @@ module _ (old who : Caller) (leaves : List ℕ) (base d j : ℕ) (m : IsMidway o
   -- if too few words are left for one of them, too few are left for the whole
   pub part_short : (words : ℕ) (full : Full) (w : View) → length own ≤ n
       → IsShort who.token.view words (length own) full w → IsShort old.token.view words n full w
-  part_short words full w le h = short_for_more BuiltOn BuiltOn old.token.view who.token.view
-      (λ x. built_more old.token.view who.token.view x m.built) words (length own) n full w le h
+  part_short words full w le h = grind (arith, short_for_more, built_more)
 
 -- ---- all parts
 
@@ -172,8 +159,7 @@ record Facts (who : Caller) (base : ℕ) (placed : List PlacedLeaf) (n : ℕ) : 
 module _ (old who : Caller) (leaves : List ℕ) (base d j : ℕ) (m : IsMidway old leaves base d j who)
     (degree_is : d ≡ degree (length leaves)) (all : j ≡ d) (two : 2 ≤ length leaves) where
   whole : IsMidway old leaves base (degree (length leaves)) (degree (length leaves)) who
-  whole = subst (λ k. IsMidway old leaves base k (degree (length leaves)) who) degree_is
-      (subst (λ k. IsMidway old leaves base d k who) (all ∙ degree_is) m)
+  whole = grind arith
 
   -- once all parts are set, the row is laid
   pub all_laid : (word : ℕ) → word ≡ word_of (InnerAt base) → (placed : List PlacedLeaf)

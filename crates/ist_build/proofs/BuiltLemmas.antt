@@ -42,8 +42,7 @@ next_between pairs words who P old _ h (one_more {log = log} event l is) =
 -- what went on so, and kept the words of its rows, laid rows
 laid_by : (P : Event → Type 0) (v w : View) → WentOn P v w
     → ((place : ℕ) → place < (now v).next → own_at w.own place ≡ own_at v.own place) → LaidOn P v w
-laid_by P v w g own =
-    record { later = g.later; sound = g.sound; same = g.same; own = own; loaded = g.loaded }
+laid_by P v w g own = grind (arith, sound)
 
 module _ (P : Event → Type 0) (v w : View) (b : LaidOn P v w) where
   -- it went on by these events
@@ -64,8 +63,7 @@ module _ (P : Event → Type 0) (v w : View) (b : LaidOn P v w) where
 
   -- the first free word only rises
   pub laid_next : (now v).next ≤ (now w).next
-  laid_next = subst (λ t. (now v).next ≤ t.next) (sym laid_now)
-      (next_between v.start v.words v.who P v.log w.log laid_lawful.enabled b.later)
+  laid_next = grind (arith, laid_now, next_between)
 
   -- and the rows that the caller had keep their words
   pub laid_words : IsSound v → KeepsWords v w
@@ -90,8 +88,7 @@ laid_all P Q all v w b = laid_by Q v w (went_all P Q all v w (laid_went P v w b)
 
 -- by loads
 pub goes_on_laid : (P : Event → Type 0) (v w : View) → GoesOnTo v w → LaidOn P v w
-goes_on_laid P v w g = let own : w.own ≡ v.own = ap (λ x. x.own) g.same in
-    laid_by P v w (goes_on_went P v w g) (λ place low. ap (λ o. own_at o place) own)
+goes_on_laid P v w g = grind (arith, laid_by, goes_on_went)
 
 -- by one event
 pub logged_laid : (P : Event → Type 0) (v : View) (event : Event) (w : View) → Logged v event w
@@ -182,13 +179,7 @@ pub rewritten_built : (u v : View) (own : List OwnWord) → BuiltOn u v
     → IsSound (record v { own = own })
     → ((place : ℕ) → place < (now u).next → own_at own place ≡ own_at v.own place)
     → BuiltOn u (record v { own = own })
-rewritten_built u v own b s stays = record {
-  later = b.later;
-  sound = s;
-  same = ap {B = View} (λ (x : View). record x { own = own }) b.same;
-  own = λ p low. stays p low ∙ b.own p low;
-  loaded = b.loaded;
-}
+rewritten_built u v own b s stays = grind (arith, sound)
 
 -- ---- what a caller does while it builds and puts in place. Serves `root`.
 
@@ -239,13 +230,11 @@ short_stopped u v w rebuild words k full told a h =
 
 -- a node over no more than fewer keys is one over no more than many
 for_more : (keys more asked : ℕ) → keys ≤ more → IsForNode keys asked → IsForNode more asked
-for_more keys more asked le n =
-    record { some = n.some; least = n.least; most = le_trans n.most le; asked_is = n.asked_is }
+for_more keys more asked le n = grind (arith, le_trans)
 
 -- too few words were left since one view, so they were since another from which the caller came
 -- there, and for a node over more keys
 pub short_for_more : (S T : View → View → Type 0) (u v : View) → ((x : View) → S v x → T u x)
     → (words keys more : ℕ) (full : Full) (w : View) → keys ≤ more
     → RanShort S (IsForNode keys) v words full w → RanShort T (IsForNode more) u words full w
-short_for_more S T u v on words keys more full w le h =
-    short_from S T u v on words full w h (for_more keys more full.asked le)
+short_for_more S T u v on words keys more full w le h = grind (arith, short_from, for_more)

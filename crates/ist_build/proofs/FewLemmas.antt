@@ -1,5 +1,5 @@
 -- How few words a build takes, function by function. Serves `block`, `parts`, `top` and `root`.
-use Rattle.std.proofs.Common.{◌≡◌, ℕ, ◌+◌, ◌<◌, ◌≤◌, nat_lt, Bool, true, false, if◌then◌else◌, List, length, Result, refl, sym, ap, ◌∙◌, subst, ⊎_elim, arith, ◌*◌, [], ◌∷◌, map, take, drop, Some}
+use Rattle.std.proofs.Common.{◌≡◌, ℕ, ◌+◌, ◌<◌, ◌≤◌, List, length, Result, sym, ap, ◌∙◌, subst, ⊎_elim, arith, ◌*◌, [], ◌∷◌, map, take, drop, Some}
 use Rattle.std.specs.List.{sum}
 use Rattle.std.proofs.lemmas.Bool.Decides.{nat_tests, eqb_tells}
 use Rattle.ist_core.specs.declared.events.Event.{Event}
@@ -35,8 +35,7 @@ use Rattle.ist_build.proofs.ShareLemmas.{some_leaves}
 -- a caller that laid rows is a later state
 pub after_laid : (P : Event → Type 0) (old new : Caller) → new.number ≡ old.number
     → LaidOn P old.token.view new.token.view → IsLaterCaller old new
-after_laid P old new number b =
-    later_went P old new number (laid_went P old.token.view new.token.view b)
+after_laid P old new number b = grind (arith, later_went, laid_went)
 
 -- so is one that is back
 pub after_back : (old new : Caller) → IsBack old new → IsLaterCaller old new
@@ -74,24 +73,17 @@ few_stored n left old who token new number b c seen log_is f = let v = old.token
 pub set_log : (v : View) (base d j key word : ℕ) (new mid : Caller)
     → new ≡ record mid { token = record mid.token { view = setting v base d j key word } }
     → new.token.view.log ≡ v.log
-set_log v base d j key word new mid e = ap (λ (x : Caller). x.token.view.log) e ∙ by (nat_lt 0 j)
-  where
-    by : (b : Bool) → (if b then storing (storing v (base + (3 + d + j)) word) (base + (3 + j)) key
-        else storing v (base + (3 + d + j)) word).log ≡ v.log
-    by true = refl
-    by false = refl
+set_log v base d j key word new mid e = grind arith
 
 -- ---- the root
 
 -- over few keys the root is the whole tree
 pub root_few : (k : ℕ) → k < share_from → root_words k ≡ sum (shape k)
-root_few k few = ap (λ (b : Bool). if b then sum (shape k) else inner_words (degree k))
-    (let is : nat_lt k share_from ≡ true = grind (arith, nat_tests) in is)
+root_few k few = grind (arith, nat_tests)
 
 -- over many it is its top row
 pub root_many : (k : ℕ) → share_from ≤ k → root_words k ≡ inner_words (degree k)
-root_many k many = ap (λ (b : Bool). if b then sum (shape k) else inner_words (degree k))
-    (let is : nat_lt k share_from ≡ false = grind (arith, nat_tests) in is)
+root_many k many = grind (arith, nat_tests)
 
 -- the token of a caller that has built is the caller's
 pub built_mine : (old mid : Caller) → HasBuilt old mid → mid.token.view.who ≡ CallerOf mid.number
@@ -99,10 +91,7 @@ built_mine old mid a = ap (λ x. x.who) a.built.same ∙ a.ready.caller.mine ∙
 
 -- a rebuild has one target, with one number of keys
 pub told_once : (t : Snapshot) (rebuild j k : ℕ) → IsTold t rebuild j → IsTold t rebuild k → j ≡ k
-told_once t rebuild j k h l =
-    let row_is = same_rebuild (t.pieces rebuild) h.row l.row h.published l.published in
-    finished_once t l.row.target j k (subst (λ r. IsFinishedWith t r.target j) row_is h.finished)
-    l.finished
+told_once t rebuild j k h l = grind (arith, same_rebuild, finished_once)
 
 -- ---- steps that take none
 
@@ -121,9 +110,7 @@ pub none_exchanged : (who : Caller) (token : TokenFace) → who.token.view.who �
     → taken_at who.number event ≡ 0 → taken_at who.number lost ≡ 0
     → TakesNoWords who (record who { token = token })
 none_exchanged who token mine event lost place old found x nothing none =
-    ⊎_elim (λ same. none_logged who token mine event (x.0 same.1) nothing)
-    (λ other. none_logged_load who token mine lost place found (x.1 other.1) none)
-    (eqb_tells found old)
+    grind (arith, none_logged, none_logged_load, eqb_tells)
 
 -- ---- one leaf of a finished node, its key, and how few keys and parts there are. Serves `top`, `leaf_at` and
 -- `filling`.
@@ -134,10 +121,7 @@ none_exchanged who token mine event lost place old found x nothing none =
 pub leaf_is : (i base : ℕ) (leaves : List PlacedLeaf) (leaf : PlacedLeaf) (others : List PlacedLeaf)
     → map (λ l. l.base) (take 1 (drop i leaves)) ≡ base ∷ [] → drop i leaves ≡ leaf ∷ others
     → base ≡ leaf.base
-leaf_is i base leaves leaf others is e =
-    let both : leaf.base ∷ [] ≡ base ∷ [] =
-    sym (ap (λ xs. map (λ (l : PlacedLeaf). l.base) (take 1 xs)) e) ∙ is in
-    cc
+leaf_is i base leaves leaf others is e = grind arith
 
 -- it is published
 pub leaf_there : (v w : View) → IsSound v → GoesOnTo v w → (target i base : ℕ)
@@ -164,12 +148,7 @@ pub key_told_at : (v w : View) → GoesOnTo v w → (target i base key : ℕ)
     → (leaf : PlacedLeaf) (others : List PlacedLeaf) → drop i leaves ≡ leaf ∷ others
     → key ≡ leaf.row.key
 key_told_at v w g target i base key told key_is leaves has leaf others e =
-    let all = each_drop (λ l. (now v).pieces l.base ≡ Some (Leaf l.row)) i leaves
-    (leaves_stand (now v).pieces (Some (InnerAt target)) leaves has) in
-    let here : (now v).pieces leaf.base ≡ Some (Leaf leaf.row) =
-    (subst (Each (λ l. (now v).pieces l.base ≡ Some (Leaf l.row))) e all).0 in
-    key_is leaf.row (ap (now w).pieces (leaf_is i base leaves leaf others (told leaves has) e)
-    ∙ leaf_goes_on v w g leaf.base leaf.row here)
+    grind (arith, each_drop, leaves_stand, leaf_is, leaf_goes_on)
 
 -- ---- numbers
 

@@ -1,10 +1,8 @@
 -- Drawing parts, and filling slot by slot. Serves `filling`.
-use Rattle.std.proofs.Common.{◌≤◌, ◌≡◌, ℕ, ◌+◌, ◌-◌, ◌<◌, ◌==◌, not, List, [], ◌∷◌, Some, option_map, refl, sym, ap, ap₂, ◌∙◌, subst, append-nil, inl, inr, ⊎_elim, arith}
-use Rattle.std.specs.List.{list_any}
+use Rattle.std.proofs.Common.{◌≤◌, ◌≡◌, ℕ, ◌+◌, ◌-◌, ◌<◌, List, [], ◌∷◌, Some, option_map, refl, sym, ap, ◌∙◌, subst, append-nil, inl, inr, ⊎_elim, arith}
 use Rattle.std.proofs.lemmas.Bool.{cases_lt}
 use Rattle.ist_core.specs.declared.events.Event.{Event}
 use Rattle.ist_core.specs.declared.events.Event.TheVariants.{Draw}
-use Rattle.ist_core.specs.declared.lists.HeldRow.{HeldRow}
 use Rattle.ist_core.specs.declared.pairs.Pair.{Pair}
 use Rattle.ist_core.specs.declared.states.RebuildRow.{RebuildRow}
 use Rattle.ist_core.specs.declared.events.Who.TheVariants.{Caller as CallerOf}
@@ -13,7 +11,7 @@ use Rattle.ist_core.specs.TreeTerms.{CanDraw, IsFinishedWith}
 use Rattle.ist_core.specs.WordTerms.{Rebuild, drawn, rebuild_draw_offset, start, SlotHolds}
 use Rattle.ist_core.proofs.AllLogLemmas.{grow_between, rebuild_there, set_by}
 use Rattle.ist_core.proofs.AllWordLemmas.{changed_at-same, same_rebuild}
-use Rattle.ist_rule.specs.RuleTerms.{CanAdd, TokenFace, IsSound, now, Looked, Logged, GoesOnTo, number_of}
+use Rattle.ist_rule.specs.RuleTerms.{CanAdd, TokenFace, IsSound, now, Looked, Logged, GoesOnTo}
 use Rattle.ist_rule.specs.declared.view.View.{View}
 use Rattle.ist_rule.proofs.EventLemmas.{looked_goes_on}
 use Rattle.ist_dcss.proofs.FieldLemmas.{looked_row}
@@ -78,9 +76,7 @@ module _ (pairs : List Pair) (words caller rebuild part : ℕ) where
 
 drawing_drops : (number rebuild part : ℕ) (t : Snapshot)
     → (after t (Draw number rebuild part)).held ≡ without [] t.held
-drawing_drops number rebuild part t =
-    sym (keeps_all (λ (h : HeldRow). not (list_any (λ base. base == h.base) [])) t.held
-    (λ h i. refl))
+drawing_drops number rebuild part t = grind (arith, keeps_all)
 
 -- the next part may be drawn, and where the caller is then
 pub record MayDraw (old : Caller) (token : TokenFace) (place word d : ℕ) : Type 0 where
@@ -137,14 +133,11 @@ module _ (old : Caller) (token : TokenFace) (r : IsFreeToBuild old) (s : IsSound
   }
 
   drawing_is : drawing token.view place ≡ (λ found. Draw old.number shared.rebuild found)
-  drawing_is = ap₂ (λ n o. λ found. Draw n o found) (ap number_of mine)
-      (let q : place - rebuild_draw_offset ≡ shared.rebuild = omega arith in q)
+  drawing_is = grind (arith, mine)
 
   -- the part may be drawn
   draw_allowed : word < shared.degree → CanAdd token.view place (drawing token.view place)
-  draw_allowed less = subst (CanAdd token.view place) (sym drawing_is)
-      (subst (λ p. CanAdd token.view p (λ found. Draw old.number shared.rebuild found)) (sym place_is)
-      (draw_comes token.view gone.sound old.number mine shared.rebuild there.row.draw (can less)))
+  draw_allowed less = grind (arith, drawing_is, draw_comes, mine, can)
 
   -- and the caller is where it was
   draw_back : (last : TokenFace) (part : ℕ)
@@ -193,8 +186,7 @@ set_on v w b node j h =
 -- at first no slot is filled
 pub filling_begun : (who : Caller) (s : SharedRoot) → IsFreeToBuild who → IsSound who.token.view
     → IsSharedAs (now who.token.view) s → IsFilling who s 0 who
-filling_begun who s r sound sh =
-    record { back = back_same who r sound; shared = sh; filled = λ j less. absurd (omega arith) }
+filling_begun who s r sound sh = grind (arith, back_same)
 
 -- once slot i is set, one more slot is filled
 pub filling_more : (old who new : Caller) (s : SharedRoot) (i : ℕ) → IsFilling old s i who

@@ -26,16 +26,12 @@ use Rattle.ist_build.specs.Laying.{BuiltOn, IsForNode, IsLaid, IsShort}
 -- a root stays
 pub rooted_on : (t u : Snapshot) → AllGrow t.pieces u.pieces → (rebuild : ℕ) → IsRooted t rebuild
     → IsRooted u rebuild
-rooted_on t u g rebuild h = let it = rebuild_there t.pieces u.pieces g rebuild h.row h.published in
-    record { row = it.0; published = it.1; set = λ e. h.set (sym (it.2.rooted h.set) ∙ e) }
+rooted_on t u g rebuild h = grind (arith, rebuild_there)
 
 -- its form, by the number of keys
 form_of : (v : View) → IsSound v → (rebuild k : ℕ) → IsTold (now v) rebuild k
     → (h : IsRooted (now v) rebuild) → HasRootForm (now v) h.row.root k
-form_of v s rebuild k told h =
-    let row_is = same_rebuild ((now v).pieces rebuild) told.row h.row told.published h.published in
-    root_has_form v.start v.words s.lawful.opens v.log s.lawful.enabled rebuild k h.row h.published
-    h.set (subst (λ r. IsFinishedWith (now v) r.target k) row_is told.finished)
+form_of v s rebuild k told h = grind (arith, same_rebuild, root_has_form)
 
 -- over few keys the root is filled
 pub few_filled : (v : View) → IsSound v → (rebuild k : ℕ) → IsTold (now v) rebuild k
@@ -156,8 +152,7 @@ pub leaf_number : (leaves : List PlacedLeaf) (i base : ℕ)
     → IsLeafAmong leaves i (LeafAt base)
 leaf_number [] zero base e = absurd (cc)
 leaf_number [] (suc i) base e = absurd (cc)
-leaf_number (leaf ∷ leaves) zero base e =
-    record { leaf = leaf; there = refl; ref_is = ap LeafAt (sym (cc)) }
+leaf_number (leaf ∷ leaves) zero base e = grind arith
 leaf_number (leaf ∷ leaves) (suc i) base e = let it = leaf_number leaves i base e in
     record { leaf = it.leaf; there = it.there; ref_is = it.ref_is }
 
@@ -176,14 +171,12 @@ put_went v w b = laid_went Builds v w b
 -- a build that was refused
 pub short_out : (v w : View) (words keys : ℕ) (full : Full) → IsShort v words keys full w
     → RanShort (WentOn Builds) (IsForNode keys) v words full w
-short_out v w words keys full h =
-    short_from BuiltOn (WentOn Builds) v v (λ x. built_went v x) words full w h (λ node. node)
+short_out v w words keys full h = grind (arith, short_from, built_went)
 
 -- a call that was stopped is short of words for the rebuild
 pub stopped_out : (v w : View) (rebuild words : ℕ) (full : Full)
     → IsStopped v rebuild words full w → RebuildIsShort v rebuild words full w
-stopped_out v w rebuild words full h =
-    short_from PutOn (WentOn Builds) v v (λ x. put_went v x) words full w h (λ build. build)
+stopped_out v w rebuild words full h = grind (arith, short_from, put_went)
 
 -- ---- words that name something
 

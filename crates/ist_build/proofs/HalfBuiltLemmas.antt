@@ -59,8 +59,7 @@ module _ (old who new : Caller) (leaves : List ℕ) (base d j key word : ℕ)
   -- what was stored before lies still
   stays : (p : ℕ) → p < base + inner_words d → p ≢ base + 3 + d + j → (1 ≤ j → p ≢ base + 3 + j)
       → own_at words p ≡ own_at v.own p
-  stays p low ne nk = let high = inside in
-      elsewhere c base d j key word less p ne nk ∙ b.own p (omega arith)
+  stays p low ne nk = grind (arith, inside, elsewhere)
 
   held_new : HoldsRow (now c) new.number base (inner_words d)
   held_new = subst (λ k. HoldsRow (now c) k base (inner_words d)) (sym number)
@@ -72,9 +71,7 @@ module _ (old who new : Caller) (leaves : List ℕ) (base d j key word : ℕ)
 
     before : AreLaid v new.number (base + inner_words d) base (words_at v.own (base + 3 + d) j)
         (parts_to n j placed)
-    before =
-        subst (λ k. AreLaid v k (base + inner_words d) base (words_at v.own (base + 3 + d) j)
-        (parts_to n j placed)) (sym number) (m.laid placed a)
+    before = grind arith
 
     there : IsLaid c new.number (now v).next word (share_of n j placed)
     there = laid (share_of n j placed) (part_placed old.token.view v m.built n j leaves placed a)
@@ -88,10 +85,7 @@ module _ (old who new : Caller) (leaves : List ℕ) (base d j key word : ℕ)
 
     same : on.rows ≡ before.rows
     unfolding on
-    same = same_rows v c s b.sound new.number (base + inner_words d) (built_grow v c b)
-        (λ b2 size h. built_held v c b new.number b2 size (m.caller.mine ∙ ap CallerOf (sym number)) h)
-        (λ place low high2. b.own place high2) base (words_at v.own (base + 3 + d) j)
-        (parts_to n j placed) before
+    same = grind (arith, same_rows, built_grow, built_held, before)
 
     joined : AreLaid c new.number (base + inner_words d) base
         (words_at v.own (base + 3 + d) j ++ word ∷ []) (parts_to n j placed ++ share_of n j placed ∷ [])

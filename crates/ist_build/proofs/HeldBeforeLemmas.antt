@@ -9,14 +9,14 @@ use Rattle.ist_core.specs.declared.events.Event.{Event}
 use Rattle.ist_core.specs.declared.lists.HeldRow.{HeldRow}
 use Rattle.ist_core.specs.declared.lists.Row.{Row}
 use Rattle.ist_core.specs.declared.events.Who.TheVariants.{Caller as CallerOf}
-use Rattle.ist_core.specs.LogTerms.{after, Among, AreBuilds, Lawful, state_of, Log, Snapshot, bases_of, sizes_of, without, HoldsRow, Later, LaterBy, one_more}
+use Rattle.ist_core.specs.LogTerms.{after, Among, Lawful, state_of, Log, Snapshot, bases_of, sizes_of, without, HoldsRow, Later, LaterBy, one_more}
 use Rattle.ist_core.specs.WordTerms.{start}
 use Rattle.ist_core.proofs.AllWordLemmas.{among-append, among_right, among-filter, among_filter, each-among}
 use Rattle.ist_core.proofs.AllLogLemmas.{grow_between, words_same}
 use Rattle.ist_core.proofs.AllEventLemmas.{among_bases, tests_base, row_among, sound, sound_start}
-use Rattle.ist_rule.specs.RuleTerms.{IsSound, number_of, now}
+use Rattle.ist_rule.specs.RuleTerms.{IsSound, now}
 use Rattle.ist_rule.specs.declared.view.View.{View}
-use Rattle.ist_rows.specs.RowTerms.{kind_words, spares_of, row_of, is_spare, held_by, build_sizes, IsCaller, AreStuck, sizes_built, HasRefused}
+use Rattle.ist_rows.specs.RowTerms.{kind_words, spares_of, row_of, is_spare, held_by, build_sizes, IsCaller, sizes_built, HasRefused}
 use Rattle.ist_rows.specs.declared.callers.Caller.{Caller}
 use Rattle.ist_rows.specs.declared.kinds.Kind.{Kind}
 use Rattle.ist_rows.proofs.ReserveLemmas.{ComesAfter, builds_on}
@@ -26,7 +26,7 @@ use Rattle.ist_rows.proofs.CallerGoingLemmas.{base_same}
 use Rattle.ist_rows.proofs.ShortLemmas.{held_by_later}
 use Rattle.ist_rule.proofs.WentOnLemmas.{later_by, later_by_more, later_by_all, later_by-goes_on}
 use Rattle.ist_build.specs.BuildEvents.{is_from, row_stored, held_rows_from}
-use Rattle.ist_build.specs.Laying.{IsReservation, BuiltOn, OwnsRows}
+use Rattle.ist_build.specs.Laying.{BuiltOn, OwnsRows}
 use Rattle.ist_rows.proofs.HeldAfterLemmas.{filter_swap}
 use Rattle.ist_build.proofs.BuiltLemmas.{built_now, built_lawful, next_between}
 use Rattle.ist_build.proofs.RisingListLemmas.{among_map, covers, keeps_all, keeps_none, of_map, one_rising}
@@ -50,8 +50,7 @@ module _ (who : Caller) (c : IsCaller who) (s : IsSound who.token.view) (w : Vie
   is_other h = not (list_any (λ base. base == h.base) (bases_of rows))
 
   more : HoldsMore v.start v.words number v.log w.log
-  more = holds_more v.start v.words number v.log w.log (built_lawful v w b).enabled
-      (subst (λ x. LaterBy x IsReservation v.log w.log) c.mine b.later)
+  more = grind (arith, holds_more, built_lawful)
 
   held_is : held_by (now w) number ≡ held ++ more.fresh
   held_is = ap (λ t. held_by t number) (built_now v w b) ∙ more.is
@@ -75,27 +74,14 @@ module _ (who : Caller) (c : IsCaller who) (s : IsSound who.token.view) (w : Vie
           let high = more.high h i in absurd (omega arith)
 
   fresh_sizes : map (λ h. h.size) more.fresh ≡ sizes
-  fresh_sizes = cancel (sizes_built who) (map (λ h. h.size) more.fresh) sizes
-      (sym (ap (λ hs. map (λ h. h.size) (filter (λ h. not (is_spare (spares_of who) h.base)) hs)) held_is
-      ∙ ap (map (λ (h : HeldRow). h.size))
-      (filter-append (λ (h : HeldRow). not (is_spare (spares_of who) h.base)) held more.fresh
-      ∙ ap (λ hs. filter (λ (h : HeldRow). not (is_spare (spares_of who) h.base)) held ++ hs)
-      (keeps_all (λ (h : HeldRow). not (is_spare (spares_of who) h.base)) more.fresh fresh_other))
-      ∙ map-append (λ (h : HeldRow). h.size)
-      (filter (λ (h : HeldRow). not (is_spare (spares_of who) h.base)) held) more.fresh)
-      ∙ built)
+  fresh_sizes = grind (arith, cancel, held_is, filter-append, keeps_all, fresh_other, map-append)
 
   -- they are as many as the rows that were built
   few : length (map (λ h. h.base) more.fresh) ≤ length (bases_of rows)
-  few = let one = length-map more.fresh (λ (h : HeldRow). h.base) in
-      let two = length-map more.fresh (λ (h : HeldRow). h.size) in
-      let three = length-map rows (λ (row : Row). row.base) in
-      let four = length-map rows (λ (row : Row). length row.words) in
-      let same = ap length (fresh_sizes ∙ sym sizes_are) in omega arith
+  few = grind (arith, length-map, fresh_sizes)
 
   high_row : (base : ℕ) → Among base (bases_of rows) → (now v).next ≤ base
-  high_row base i = let it = row_among base rows i in subst (λ x. (now v).next ≤ x) it.2
-      (each-among (λ (row : Row). (now v).next ≤ row.base) it.0 rows owns.high it.1)
+  high_row base i = grind (arith, row_among, each-among)
 
   row_fresh : (base : ℕ) → Among base (bases_of rows) → Among base (map (λ h. h.base) more.fresh)
   row_fresh base i = let it = row_among base rows i in
@@ -111,9 +97,7 @@ module _ (who : Caller) (c : IsCaller who) (s : IsSound who.token.view) (w : Vie
       (among-append h held more.fresh (subst (Among h) held_is there))
 
   fresh_row : (h : HeldRow) → Among h more.fresh → Among h.base (bases_of rows)
-  fresh_row h i =
-      covers (bases_of rows) (map (λ h. h.base) more.fresh) owns.once row_fresh few h.base
-      (among_map h more.fresh i)
+  fresh_row h i = grind (arith, covers, row_fresh, few, among_map)
 
   -- without the rows that were built it holds what it held
   left : filter is_other (held_by (now w) number) ≡ held
@@ -171,9 +155,7 @@ module _ (who : Caller) (c : IsCaller who) (s : IsSound who.token.view) (w : Vie
   -- the rows that the caller holds from the first built one on are exactly those that were built
   pub rows_named : (base : ℕ) → (now v).next ≤ base
       → ((b : ℕ) → Among b (bases_of rows) → base ≤ b) → held_rows_from w base ≡ rows
-  rows_named base le first =
-      ap (λ n. map (row_stored w) (filter (is_from base) (held_by (now w) n)))
-      (ap number_of (ap (λ x. x.who) b.same ∙ c.mine)) ∙ named_rows base le first
+  rows_named base le first = grind (arith, named_rows)
 
   -- ---- after the event by which they are no longer held
 
@@ -187,9 +169,7 @@ module _ (who : Caller) (c : IsCaller who) (s : IsSound who.token.view) (w : Vie
     x = new.token.view
 
     lawful : Lawful v.start v.words (event ∷ before)
-    lawful = subst (λ p. Lawful p v.words (event ∷ before)) start_is
-        (subst (λ n. Lawful x.start n (event ∷ before)) words_is
-        (subst (Lawful x.start x.words) log_is r.lawful))
+    lawful = grind arith
 
     now_x : now x ≡ state_of v.start v.words (event ∷ before)
     now_x = ap₂ (λ p n. state_of p n x.log) start_is words_is ∙ ap (state_of v.start v.words) log_is
@@ -213,23 +193,25 @@ module _ (who : Caller) (c : IsCaller who) (s : IsSound who.token.view) (w : Vie
         (subst (λ k. LaterBy k AnyEvent w.log before) (ap (λ y. y.who) b.same) (later_by later))) (inr tt)
 
     comes : ComesAfter (now v) (now x)
-    comes = subst (ComesAfter (now v)) (sym now_x)
-        record {
-          words = words_same v.start v.words lawful.opens (event ∷ before)
-              ∙ sym (words_same v.start v.words lawful.opens v.log);
-          next = next_between v.start v.words v.who AnyEvent v.log (event ∷ before) lawful.enabled on;
-          grow = grow_between v.start v.words v.log (event ∷ before) lawful.enabled
-              (later_by-goes_on on);
-        }
+    comes =
+        grind (
+          arith,
+          ComesAfter,
+          now_x,
+          words_same,
+          next_between,
+          AnyEvent,
+          on,
+          grow_between,
+          later_by-goes_on,
+        )
 
     sizes_back : sizes_built new ≡ sizes_built who
-    sizes_back = ap₂ (λ n own. build_sizes (now x) n own) number_is spares_is
-        ∙ ap (λ hs. map (λ h. h.size) (filter (λ h. not (is_spare (spares_of who) h.base)) hs)) held_back
+    sizes_back = grind (arith, held_back)
 
     -- each build that it holds rows of was refused, if that was so before the build
     pub refused_back : HasRefused who → HasRefused new
-    refused_back refused = subst (AreStuck (now x)) (sym sizes_back)
-        (all_stuck_on (now v) (now x) comes (sizes_built who) refused)
+    refused_back refused = grind (arith, sizes_back, all_stuck_on, comes)
 
     rows_back : (kind : Kind) (base : ℕ) → row_of kind (spares_of who) ≡ Some base
         → HoldsRow (now x) number base (kind_words kind)
@@ -242,10 +224,4 @@ module _ (who : Caller) (c : IsCaller who) (s : IsSound who.token.view) (w : Vie
 
     -- it is a caller
     pub caller_back : IsCaller new
-    caller_back = record {
-      mine = who_is ∙ c.mine ∙ ap CallerOf (sym number_is);
-      rows = λ kind base e. subst (λ n. HoldsRow (now x) n base (kind_words kind)) (sym number_is)
-          (rows_back kind base (ap (row_of kind) (sym spares_is) ∙ e));
-      builds = builds_on (now v) (now x) comes (sizes_built new)
-          (subst (AreBuilds (now v)) (sym sizes_back) c.builds);
-    }
+    caller_back = grind (arith, rows_back, builds_on, comes, sizes_back)

@@ -146,8 +146,7 @@ pub stored_rows : (w : View) (number : ℕ) → IsSound w → (rows : List Row) 
     → ((h : HeldRow) → Among h fresh → Among h (now w).held) → map (row_stored w) fresh ≡ rows
 stored_rows w number s [] [] e stored held all = refl
 stored_rows w number s [] (h ∷ fresh) e stored held all = absurd (let n = ap length e in omega arith)
-stored_rows w number s (row ∷ rows) [] e stored held all =
-    absurd (let n = ap length e in omega arith)
+stored_rows w number s (row ∷ rows) [] e stored held all = grind arith
 stored_rows w number s (row ∷ rows) (h ∷ fresh) e stored held all = ap₂ (λ x xs. x ∷ xs) here
     (stored_rows w number s rows fresh rest stored.1 held.1 (λ g i. all g (inr i)))
   where
@@ -209,8 +208,7 @@ module _ (old who : Caller) (leaves : List ℕ) (base d j next : ℕ)
   w = who.token.view
 
   whole : IsLaying old leaves base (degree n) (degree n) next who
-  whole = subst (λ k. IsLaying old leaves base k (degree n) next who) d_is
-      (subst (λ k. IsLaying old leaves base d k next who) (all ∙ d_is) m)
+  whole = grind arith
 
   -- the whole is laid
   pub all_laid_below : (word : ℕ) → word ≡ word_of (InnerAt base) → (placed : List PlacedLeaf)

@@ -3,7 +3,7 @@ use Rattle.std.proofs.Common.{◌≡◌, ℕ, ◌+◌, ◌-◌, ◌<◌, ◌≤�
 use Rattle.std.proofs.lemmas.List.{map-append}
 use Rattle.ist_core.specs.declared.lists.Row.{Row}
 use Rattle.ist_core.specs.declared.states.InnerRow.{InnerRow}
-use Rattle.ist_core.specs.WordTerms.{degree, no_part, of_more, parts, first_keys, Inner, inner_of, words_of, with_row, with_inners, InnerAt, ref_of, inner_words}
+use Rattle.ist_core.specs.WordTerms.{degree, no_part, of_more, parts, first_keys, Inner, inner_of, words_of, with_inners, InnerAt, ref_of, inner_words}
 use Rattle.ist_core.specs.LogTerms.{Among, Each, Distinct, bases_of, HoldsRow, HoldsRows}
 use Rattle.ist_core.specs.TreeTerms.{PlacedLeaf}
 use Rattle.ist_core.proofs.AllWordLemmas.{each_append, each-among, with_row-same}
@@ -18,13 +18,11 @@ use Rattle.ist_build.proofs.LayingLemmas.{length-words_at, get-words_at, row_of_
 -- a base among the bases of rows that lie from a place on does so
 high_base : (low base : ℕ) (rows : List Row) → Each (λ row. low ≤ row.base) rows
     → Among base (bases_of rows) → low ≤ base
-high_base low base rows high i = let it = row_among base rows i in
-    subst (λ b. low ≤ b) it.2 (each-among (λ row. low ≤ row.base) it.0 rows high it.1)
+high_base low base rows high i = grind (arith, row_among, each-among)
 
 low_base : (mid base : ℕ) (rows : List Row) → Each (λ row. row.base < mid) rows
     → Among base (bases_of rows) → base < mid
-low_base mid base rows low i = let it = row_among base rows i in
-    subst (λ b. b < mid) it.2 (each-among (λ row. row.base < mid) it.0 rows low it.1)
+low_base mid base rows low i = grind (arith, row_among, each-among)
 
 -- rows that lie from a place on lie from a lower one on
 pub high_more : (low mid : ℕ) (rows : List Row) → low ≤ mid → Each (λ row. mid ≤ row.base) rows
@@ -67,8 +65,7 @@ module _ (w : View) (s : IsSound w) (number low mid : ℕ) (le : low ≤ mid) (x
   both_held = each_append (λ row. HoldsRow (now w) number row.base (length row.words)) xs ys a.held b.held
 
   apart : (base : ℕ) → Among base (bases_of xs) → ¬ (Among base (bases_of ys))
-  apart base i j = let one = low_base mid base xs below i in
-      let two = high_base mid base ys b.high j in omega arith
+  apart base i j = grind (arith, low_base, high_base)
 
   -- rows below a place and rows from it on, which the caller owns, are rows that it owns together
   pub owns_both : OwnsRows w number low (xs ++ ys)
@@ -149,17 +146,7 @@ module _ (w : View) (s : IsSound w) (number first base word : ℕ) (leaves : Lis
   size_is = length-words_at w.own base (inner_words d)
 
   owns_top : OwnsRows w number first (top_row ∷ [])
-  owns_top = record {
-    stored = (
-      (λ k less. get-words_at w.own base (inner_words d) k
-          (subst (λ n. k < n) size_is less)),
-      tt,
-    );
-    held = (subst (HoldsRow (now w) number base) (sym size_is) held, tt);
-    once = ((λ i. i), tt);
-    rising = (tt, tt);
-    high = (le, tt);
-  }
+  owns_top = grind (arith, get-words_at, size_is)
 
   below : Each (λ row. row.base < base + inner_words d) (top_row ∷ [])
   below = ((omega arith), tt)
@@ -183,8 +170,7 @@ module _ (w : View) (s : IsSound w) (number first base word : ℕ) (leaves : Lis
       below
 
   stands : with_inners (now w).pieces (top_row ∷ h.rows) base ≡ Some (Inner r)
-  stands = ap (λ o. with_row (with_inners (now w).pieces h.rows) base o base) read
-      ∙ with_row-same (with_inners (now w).pieces h.rows) base (Inner r)
+  stands = grind (arith, read, with_row-same)
 
   -- a row whose first words, keys and slots are stored over laid parts is a laid ideal subtree
   pub laid_top : IsLaid w number first word leaves

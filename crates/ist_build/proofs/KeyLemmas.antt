@@ -8,7 +8,7 @@ use Rattle.ist_core.specs.declared.events.Event.{Event}
 use Rattle.ist_core.specs.declared.events.Who.{Who}
 use Rattle.ist_core.specs.LogTerms.{Each, Snapshot, one_more, LaterBy, Log}
 use Rattle.ist_core.specs.TreeTerms.{AllGrow, PlacedLeaf}
-use Rattle.ist_core.specs.WordTerms.{Leaf, part_len, part_start, start}
+use Rattle.ist_core.specs.WordTerms.{Leaf, start}
 use Rattle.ist_core.proofs.AllLogLemmas.{leaf_there}
 use Rattle.laws_calls.specs.Dividing.{share_of}
 use Rattle.ist_rule.specs.RuleTerms.{now, GoesOnTo, IsSound, own_at}
@@ -19,7 +19,7 @@ use Rattle.ist_build.specs.Laying.{ArePlaced, HaveLeaves, IsLeaf, IsKeyOf, AreKe
 use Rattle.ist_build.specs.Midway.{IsMidway}
 use Rattle.ist_build.proofs.BuiltLemmas.{leaf_goes_on, built_grow, loads_built, built_more, next_between}
 use Rattle.ist_build.proofs.PartLeafLemmas.{part_placed}
-use Rattle.ist_rule.specs.Several.{with_events, made_after_all, logging_all, LoggedAll}
+use Rattle.ist_rule.specs.Several.{with_events, made_after_all, LoggedAll}
 use Rattle.ist_rule.proofs.ListLogLemmas.{enabled_before}
 use Rattle.ist_rule.proofs.WentOnLemmas.{later_by}
 use Rattle.ist_rows.proofs.BlockLemmas.{none_made, took_all}
@@ -102,8 +102,7 @@ keys_more v u w leaves keys i key have less many first second before told =
 pub keys_all : (t : Snapshot) (leaves keys : List ℕ) (i : ℕ) → length leaves ≤ i
     → length keys ≡ length leaves → AreKeysOf t (take i leaves) (take i keys)
     → AreKeysOf t leaves keys
-keys_all t leaves keys i end many h = subst (λ xs. AreKeysOf t xs keys) (take_all i leaves end)
-    (subst (AreKeysOf t (take i leaves)) (take_all i keys (omega arith)) h)
+keys_all t leaves keys i end many h = grind (arith, take_all)
 
 -- the first ones, and those after them
 keys_take : (t : Snapshot) (n : ℕ) (bases keys : List ℕ) → AreKeysOf t bases keys
@@ -125,18 +124,13 @@ keys_drop t (suc n) (base ∷ bases) [] h = absurd h
 -- the keys of a part are its leaves' keys
 pub keys_share : (t : Snapshot) (n j : ℕ) (bases keys : List ℕ) → AreKeysOf t bases keys
     → AreKeysOf t (share_of n j bases) (share_of n j keys)
-keys_share t n j bases keys h =
-    keys_take t (part_len n j) (drop (part_start n j) bases) (drop (part_start n j) keys)
-    (keys_drop t (part_start n j) bases keys h)
+keys_share t n j bases keys h = grind (arith, keys_take, keys_drop)
 
 -- the first key is the first leaf's key
 pub key_first : (t : Snapshot) (bases keys : List ℕ) → AreKeysOf t bases keys → (leaf : PlacedLeaf)
     (others : List PlacedLeaf) → leaf.base ∷ map (λ l. l.base) others ≡ bases
     → t.pieces leaf.base ≡ Some (Leaf leaf.row) → slice_index_or keys 0 0 ≡ leaf.row.key
-key_first t (base ∷ bases) (key ∷ keys) h leaf others is there =
-    let first : leaf.base ≡ base = cc in
-    let row : h.0.row ≡ leaf.row = cc (h.0.published, ap t.pieces (sym first) ∙ there) in
-    h.0.key_is ∙ ap (λ (r : LeafRow). r.key) row
+key_first t (base ∷ bases) (key ∷ keys) h leaf others is there = grind arith
 key_first t [] [] h leaf others is there = absurd (cc)
 key_first t [] (key ∷ keys) h leaf others is there = absurd h
 key_first t (base ∷ bases) [] h leaf others is there = absurd h
@@ -150,15 +144,12 @@ module _ (old who : Caller) (leaves keys : List ℕ) (base d j : ℕ)
   n = length leaves
 
   shared : AreKeysOf (now who.token.view) (share_of n j leaves) (share_of n j keys)
-  shared = keys_share (now who.token.view) n j leaves keys
-      (keys_on (now old.token.view) (now who.token.view)
-      (built_grow old.token.view who.token.view m.built) leaves keys have)
+  shared = grind (arith, keys_share, keys_on, built_grow)
 
   -- its keys are its leaves' keys
   pub part_keys : (own : List ℕ) → own ≡ share_of n j leaves
       → AreKeysOf (now who.token.view) own own_keys
-  part_keys own own_is = subst (λ xs. AreKeysOf (now who.token.view) xs own_keys) (sym own_is)
-      (subst (AreKeysOf (now who.token.view) (share_of n j leaves)) (sym keys_are) shared)
+  part_keys own own_is = grind (arith, shared)
 
   -- and the first is its first leaf's key
   pub part_key : (placed : List PlacedLeaf) → ArePlaced (now old.token.view) leaves placed
@@ -183,23 +174,7 @@ later_all (event ∷ more) log l h = later_all more (event ∷ log) (one_more ev
 -- a caller laid on by several events
 pub logged_all_laid : (P : Event → Type 0) (v : View) (events : List Event) (w : View)
     → LoggedAll v events w → Each P events → made_after_all events v.made ≡ v.made → LaidOn P v w
-logged_all_laid P v events w l is made = let log = with_events events l.before in
-    let log_is : w.log ≡ log = ap (λ x. x.log) l.view in
-    let same : logging_all v l.before events ≡ record v { log = log } =
-    ap {B = View} (λ n. record v { log = log; made = n }) made in
-    record {
-      later = subst (LaterBy v.who P v.log) (sym log_is)
-          (later_all events l.before (later_by l.later) is);
-      sound = l.sound;
-      same = subst (λ (x : View). x ≡ record v {
-        log = x.log;
-        own = x.own;
-        loads = x.loads;
-        loaded = x.loaded;
-      }) (sym l.view) same;
-      own = λ place low. ap (λ x. own_at x.own place) l.view;
-      loaded = let is = ap (λ x. x.loaded) l.view in omega arith;
-    }
+logged_all_laid P v events w l is made = grind (arith, later_all, later_by)
 
 are_reservings : (number base : ℕ) (sizes : List ℕ) → Each IsReservation (reservings number base sizes)
 are_reservings number base [] = tt

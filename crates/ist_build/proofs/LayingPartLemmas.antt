@@ -1,9 +1,9 @@
 -- One more part of a row that is built only by stores. Serves `lay`.
-use Rattle.std.proofs.Common.{◌≡◌, ◌≢◌, ℕ, ◌+◌, ◌<◌, ◌≤◌, List, ◌∷◌, length, take, drop, slice_index_or, Some, refl, sym, ap, ◌∙◌, subst, arith}
+use Rattle.std.proofs.Common.{◌≡◌, ◌≢◌, ℕ, ◌+◌, ◌<◌, ◌≤◌, List, ◌∷◌, length, slice_index_or, refl, sym, ap, ◌∙◌, subst, arith}
 use Rattle.std.specs.List.{sum, flat_map}
 use Rattle.std.proofs.lemmas.List.{take-map, drop-map}
 use Rattle.std.proofs.lemmas.List.Sums.{sum_by-append}
-use Rattle.ist_core.specs.WordTerms.{degree, part_len, part_start, Leaf, inner_words, place_limit, shape}
+use Rattle.ist_core.specs.WordTerms.{degree, part_len, inner_words, place_limit, shape}
 use Rattle.ist_core.specs.TreeTerms.{PlacedLeaf}
 use Rattle.ist_core.specs.LogTerms.{Snapshot}
 use Rattle.ist_rule.specs.RuleTerms.{IsSound, own_at, now}
@@ -23,16 +23,7 @@ use Rattle.ist_build.proofs.KeyLemmas.{keys_share, key_first}
 -- the leaves of a part, in the same state
 pub share_placed : (t : Snapshot) (n j : ℕ) (bases : List ℕ) (leaves : List PlacedLeaf)
     → ArePlaced t bases leaves → ArePlaced t (share_of n j bases) (share_of n j leaves)
-share_placed t n j bases leaves a = record {
-  bases_are = sym (take-map (λ (leaf : PlacedLeaf). leaf.base) (part_len n j)
-      (drop (part_start n j) leaves))
-      ∙ ap (take (part_len n j)) (sym (drop-map (λ (leaf : PlacedLeaf). leaf.base)
-      (part_start n j) leaves) ∙ ap (drop (part_start n j)) a.bases_are);
-  published = each_take (λ leaf. t.pieces leaf.base ≡ Some (Leaf leaf.row)) (part_len n j)
-      (drop (part_start n j) leaves)
-      (each_drop (λ leaf. t.pieces leaf.base ≡ Some (Leaf leaf.row)) (part_start n j) leaves
-      a.published);
-}
+share_placed t n j bases leaves a = grind (arith, take-map, drop-map, each_take, each_drop)
 
 -- the first key of a part is its first leaf's key
 share_key : (t : Snapshot) (n j : ℕ) (bases keys own_keys : List ℕ) → AreKeysOf t bases keys
@@ -51,10 +42,7 @@ part_block : (old who : Caller) (leaves : List ℕ) (base d j next : ℕ)
     → HoldsBlock (now who.token.view) who.number next (shape (part_len (length leaves) j))
     × HoldsBlock (now who.token.view) who.number (next + sum (shape (part_len (length leaves) j)))
     (flat_map shape (lens_from (length leaves) (j + 1)))
-part_block old who leaves base d j next m less = let n = length leaves in
-    holds_split (now who.token.view) who.number next (shape (part_len n j))
-    (flat_map shape (lens_from n (j + 1)))
-    (subst (HoldsBlock (now who.token.view) who.number next) (sizes_left n j less) m.rest)
+part_block old who leaves base d j next m less = grind (arith, holds_split, sizes_left)
 
 -- ---- before a part is laid
 
@@ -72,8 +60,7 @@ module _ (old who : Caller) (leaves keys : List ℕ) (base d j next : ℕ)
 
   -- if the keys are one per leaf, so are the keys of the part
   pub long_keys : length keys ≡ length leaves → length own_keys ≡ length own
-  long_keys many =
-      ap length keys_are ∙ length-share_of (length leaves) j keys many less ∙ sym long_part
+  long_keys many = grind (arith, length-share_of, long_part)
 
   -- its rows are held
   pub held_part : HoldsBlock (now who.token.view) who.number next (shape (length own))
@@ -91,19 +78,14 @@ module _ (old who : Caller) (leaves keys : List ℕ) (base d j next : ℕ)
 
   -- if the keys are the leaves' keys, the part's keys are the keys of the part's leaves
   pub keys_part : AreKeysOf (now old.token.view) leaves keys → AreKeysOf (now who.token.view) own own_keys
-  keys_part have = subst (λ t. AreKeysOf t own own_keys) (sym same_state)
-      (subst (λ xs. AreKeysOf (now old.token.view) xs own_keys) (sym own_is)
-      (subst (AreKeysOf (now old.token.view) (share_of (length leaves) j leaves)) (sym keys_are)
-      (keys_share (now old.token.view) (length leaves) j leaves keys have)))
+  keys_part have = grind (arith, same_state, keys_share)
 
   -- and its first key is its first leaf's key
   pub key_part : AreKeysOf (now old.token.view) leaves keys
       → (placed : List PlacedLeaf) → ArePlaced (now old.token.view) leaves placed
       → (leaf : PlacedLeaf) (others : List PlacedLeaf) → share_of (length leaves) j placed ≡ leaf ∷ others
       → slice_index_or own_keys 0 0 ≡ leaf.row.key
-  key_part have placed a leaf others is =
-      share_key (now old.token.view) (length leaves) j leaves keys own_keys have keys_are placed a leaf others
-      is
+  key_part have placed a leaf others is = grind (arith, share_key)
 
 -- ---- once it is laid
 
@@ -151,10 +133,7 @@ module _ (old who : Caller) (leaves : List ℕ) (base d j next end key word : �
     same_now = ap (λ (x : Caller). now x.token.view) m.written.same
 
     all_sizes : end ≡ base + inner_words d + sum (flat_map shape (lens_to n (j + 1)))
-    all_sizes = let is = m.next_is in
-        let more = ap sum (sizes_next n j)
-        ∙ sum_by-append (λ x. x) (flat_map shape (lens_to n j)) (shape (part_len n j)) in
-        omega arith
+    all_sizes = grind (arith, sizes_next, sum_by-append)
 
     -- when the part's word and key are stored, one part more of the row is built
     pub laying_set : IsCaller last → IsSound (record v { own = words })

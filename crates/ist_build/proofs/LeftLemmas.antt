@@ -53,8 +53,7 @@ module _ (set more : ℕ → Bool) (on : (i : ℕ) → set i ≡ true → more i
 
   whole : (b c : Bool) (n : ℕ) → b ≡ false → c ≡ true
       → (if c then 0 else n) + n ≤ (if b then 0 else n)
-  whole b c n e f = let left = ap (λ (x : Bool). if x then 0 else n) e in
-      let right = ap (λ (x : Bool). if x then 0 else n) f in omega arith
+  whole b c n e f = grind arith
 
   -- a slot that is set meanwhile leaves the words of its part
   pub left_part : (i : ℕ) → set i ≡ false → more i ≡ true → (j : ℕ) → i < j
@@ -103,23 +102,13 @@ module _ (v : View) (s : IsSound v) where
   -- a slot that holds Unset isn't set
   pub unset_open : (node i word : ℕ) → SlotHolds (now v) node i word → word ≡ unset_word
       → slot_is_set ((now v).pieces node) i ≡ false
-  unset_open node i word (in_anchor a b e) is =
-      ap (λ p. slot_is_set p i) (ap (now v).pieces a
-      ∙ anchor_free v.start v.words v.log s.lawful.enabled)
-  unset_open node i word (in_row r e got) is =
-      row_slot (now v) node i word r e got ∙ word_unset word is
+  unset_open node i word (in_anchor a b e) is = grind (arith, anchor_free)
+  unset_open node i word (in_row r e got) is = grind (arith, row_slot, word_unset)
 
   -- a slot of a row that is set is so
   pub set_shut : (node i : ℕ) (row : InnerRow) → (now v).pieces node ≡ Some (Inner row)
       → IsSlotSet (now v) node i → slot_is_set ((now v).pieces node) i ≡ true
-  set_shut node i row there h = by h.word h.holds h.set
-    where
-      by : (word : ℕ) → SlotHolds (now v) node i word → word ≢ unset_word
-          → slot_is_set ((now v).pieces node) i ≡ true
-      by word (in_anchor a b e) set =
-          absurd (cc (ap (now v).pieces a
-          ∙ anchor_free v.start v.words v.log s.lawful.enabled))
-      by word (in_row r e got) set = row_slot (now v) node i word r e got ∙ word_set word set
+  set_shut node i row there h = grind (arith, anchor_free, row_slot, word_set)
 
 -- and the other way round
 shut_set : (t : Snapshot) (node i : ℕ) → slot_is_set (t.pieces node) i ≡ true → IsSlotSet t node i

@@ -56,9 +56,7 @@ part_placed v w b n j bases leaves a = record {
 -- the share of child j of an ideal node has `part_len` elements
 pub length-share_of : {A : Type 0} (n j : ℕ) (xs : List A) → length xs ≡ n → j < degree n
     → length (share_of n j xs) ≡ part_len n j
-length-share_of n j xs many less =
-    let all = part_end-le n j less in let rest = length-drop (part_start n j) xs in
-    length-take-le (part_len n j) (drop (part_start n j) xs) (omega arith)
+length-share_of n j xs many less = grind (arith, part_end-le, length-drop, length-take-le)
 
 -- a list with an element has a first one
 pub some_first : {A : Type 0} (xs : List A) → 1 ≤ length xs → (x : A) × (ys : List A) × (xs ≡ x ∷ ys)

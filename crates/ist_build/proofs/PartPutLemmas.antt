@@ -12,7 +12,7 @@ use Rattle.ist_core.proofs.AllPlaceLemmas.{placed, claimed_within}
 use Rattle.laws_links.proofs.ContentLemmas.{finished_leaves}
 use Rattle.ist_rule.specs.RuleTerms.{CanExchangeOrLose, TokenFace, now, Logged, LoggedLoad, ExchangedOrLost, GoesOnTo, number_of}
 use Rattle.ist_rule.specs.declared.view.View.{View}
-use Rattle.ist_rows.specs.RowTerms.{IsCaller, IsInBuild, HasRefused, sizes_built, HasRunOut, HasTakenFew, HasTakenFewIn}
+use Rattle.ist_rows.specs.RowTerms.{IsCaller, IsInBuild, HasRefused, sizes_built, HasRunOut, HasTakenFewIn}
 use Rattle.ist_rows.specs.declared.callers.Caller.{Caller}
 use Rattle.laws_coming.specs.Builds.{IsPartBuilt, WasUnset}
 use Rattle.laws_coming.proofs.SeenLemmas.{part_comes_or_loses}
@@ -65,9 +65,7 @@ module _ (old mid : Caller) (s : SharedRoot) (i word : ℕ) (m : IsPartMade old 
 
   some : (leaves : List PlacedLeaf) × HasLeaves (now v).pieces (Some (InnerAt s.target)) leaves
       × (length leaves ≡ s.keys)
-  some =
-      finished_leaves v.start v.words a.sound.lawful.opens v.log a.sound.lawful.enabled s.target s.keys
-      sh.finished
+  some = grind (arith, finished_leaves)
 
   abbrev part : List PlacedLeaf
   part = take (part_len s.keys i) (drop (part_start s.keys i) some.0)
@@ -115,10 +113,7 @@ module _ (old mid : Caller) (s : SharedRoot) (i word : ℕ) (m : IsPartMade old 
   }
 
   sizes : sizes_built mid ≡ sizes_built old ++ sizes_of h.rows
-  sizes = m.at.sizes ∙ ap (λ xs. sizes_built old ++ xs)
-      (ap shape (sym long)
-      ∙ sym (part_sizes (now w).pieces h.rows h.ref part s.root h.owns.once
-      (rows_free w a.built.sound mid.number h.rows h.owns.held) (h.ideal s.root root_low)))
+  sizes = grind (arith, long, part_sizes, rows_free, root_low)
 
   topped : IsTopped word (bases_of h.rows)
   topped = let two = part_two s.keys i sh.shared in let fits = share_from_fits in
@@ -127,8 +122,7 @@ module _ (old mid : Caller) (s : SharedRoot) (i word : ℕ) (m : IsPartMade old 
       (root_whole h.ref (omega arith) h.ref_is (h.ideal s.root root_low))
 
   named : held_rows_from w (word / tag_count) ≡ h.rows
-  named =
-      rows_of_topped old mid a.ready.caller a.sound a.number a.rows a.built word h.rows h.owns sizes topped
+  named = grind (arith, rows_of_topped, sizes, topped)
 
   mine_now : number_of w.who ≡ mid.number
   mine_now = ap number_of (ap (λ x. x.who) a.built.same ∙ a.ready.caller.mine) ∙ sym a.number
@@ -231,24 +225,7 @@ pub slot_built : (old new : Caller) (s : SharedRoot) (i len start words : ℕ) �
     → IfErr answer (λ full. HasRefused new) → SlotBuilt old new s i words answer
 slot_built old new s i len start words b c sh within unset start_is len_is fewer (Ok word) laid at few
     full refused =
-    let low = (now old.token.view).next in
-    let two : 2 ≤ len = let t = part_two s.keys i sh.is.shared in omega arith in record {
-      made = record {
-        has_built = b;
-        shared = sh;
-        within = within;
-        laid = λ all has.
-            subst (λ n. IsLaid new.token.view new.number low word
-            (take n (drop (part_start s.keys i) all))) len_is
-            (subst (λ n. IsLaid new.token.view new.number low word (take len (drop n all))) start_is
-            (laid all has));
-        at = subst (λ n. IsInBuild new (sizes_built old) (shape n) []) len_is (at two);
-        unset = unset;
-      };
-      few = subst (λ n. HasTakenFew (sum (shape n)) 0 old new) len_is (few two);
-      back = tt;
-      full = tt;
-    }
+    grind (arith, part_two)
 slot_built old new s i len start words b c sh within unset start_is len_is fewer (Err full) laid at few
     short refused =
     let v = old.token.view in

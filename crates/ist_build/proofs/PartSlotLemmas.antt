@@ -43,8 +43,7 @@ use Rattle.ist_build.specs.Laying.{IsReservation, BuiltOn}
 -- a row keeps its number of slots as pieces grow
 pub degree_on : (t u : Snapshot) → AllGrow t.pieces u.pieces → (node d : ℕ) → IsRowOfDegree t node d
     → IsRowOfDegree u node d
-degree_on t u g node d h = let it = inner_there t.pieces u.pieces g node h.row h.published in
-    record { row = it.0; published = it.1; degree_is = it.2.degree ∙ h.degree_is }
+degree_on t u g node d h = grind (arith, inner_there)
 
 -- where a slot lies
 module _ (pairs : List Pair) (words : ℕ) (log : Log) (enabled : EachEnabled (start pairs words) log)
@@ -56,8 +55,7 @@ module _ (pairs : List Pair) (words : ℕ) (log : Log) (enabled : EachEnabled (s
   offset = 4 + length h.row.keys + i
 
   at_place : slot_place node d i ≡ node + offset
-  at_place = let it = has_degree pairs words log enabled node h.row h.published in
-      let keys = it.keys in let same = h.degree_is in omega arith
+  at_place = grind (arith, has_degree)
 
   -- the row has a slot i
   pub within : i < length h.row.slots
@@ -81,8 +79,7 @@ module _ (pairs : List Pair) (words : ℕ) (log : Log) (enabled : EachEnabled (s
 
   -- the place computed from the degree is the place of the slot
   pub slot_is_place : slot_place node d i ≡ place_of_slot t node i
-  slot_is_place = ap (λ n. slot_place node n i) (sym h.degree_is)
-      ∙ sym (place_of_row t node i h.row (anchor_free pairs words log enabled) h.published)
+  slot_is_place = grind (arith, place_of_row, anchor_free)
 
 -- a load of it gives what it holds
 pub slot_looked : (v w : View) (node d i place word : ℕ) → IsRowOfDegree (now v) node d → i < d
@@ -228,11 +225,4 @@ without_reserving caller mine g (one_more event k (inr is)) =
 -- so a place that was seen Unset before a build counts as seen Unset after it
 pub unset_built : (v w : View) (caller place : ℕ) → v.who ≡ Caller caller → BuiltOn v w
     → WasUnset v caller place → WasUnset w caller place
-unset_built v w caller place mine b was = record {
-  prefix = was.prefix;
-  since = without_reserving caller mine was.since b.later;
-  shown = subst (λ p. IsShown (state_of p w.words was.prefix) place unset_word)
-      (sym (ap (λ x. x.start) b.same))
-      (subst (λ n. IsShown (state_of v.start n was.prefix) place unset_word)
-      (sym (ap (λ x. x.words) b.same)) was.shown);
-}
+unset_built v w caller place mine b was = grind (arith, without_reserving)

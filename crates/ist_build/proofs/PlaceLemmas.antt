@@ -73,8 +73,7 @@ slots_on v w g node degree h = let grow = goes_on_grow v w g in
 
 -- a node with slots to read is finished
 pub slots_finished : (v : View) (node degree : ℕ) → HasSlots v node degree → IsFinished (now v) node
-slots_finished v node degree h =
-    (h.keys, record { row = h.row; published = h.published; status = h.finished })
+slots_finished v node degree h = grind arith
 
 -- and a row with as many
 pub slots_row : (v : View) (node degree : ℕ) → HasSlots v node degree → IsRowOfDegree (now v) node degree
@@ -171,9 +170,7 @@ module _ {v : View} {place word : ℕ} {w : View} (l : Looked v place word w) {n
       passed.1).keeps
 
   once : (other : ℕ) → SlotHolds (now w) node i other → word ≡ other
-  once other o =
-      slot_once (now w) node i word other (anchor_free w.start w.words w.log s.lawful.enabled) slot
-      o
+  once other o = grind (arith, slot_once, anchor_free, slot)
 
   -- a word that is no change is that word
   pub passed_plain : IsNoChange word → IsFrozen w.log node i word

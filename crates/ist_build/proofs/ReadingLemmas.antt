@@ -137,14 +137,7 @@ module _ (v w : View) (s : IsSound v) (g : GoesOnTo v w) (node degree : ℕ)
 pub reading_first : (leaves : List PlacedLeaf) (into : List ℕ) (at : Cursor) (v : View) (node : ℕ)
     → at.count ≤ length into → HasLeaves (now v).pieces (Some (InnerAt node)) leaves
     → IsReading leaves into at v node 0 into at
-reading_first leaves into at v node le has =
-    let it = reached (now v).pieces (Some (InnerAt node)) leaves has in record {
-      seen = [];
-      rest = leaves;
-      both = refl;
-      following = record { row = it.0; published = it.1; slots = it.2 };
-      read = read_none into at le;
-    }
+reading_first leaves into at v node le has = grind (arith, reached, read_none)
 
 -- loads keep the reading
 pub reading_on : (leaves : List PlacedLeaf) (old : List ℕ) (from : Cursor) (v w : View)
@@ -190,9 +183,7 @@ reading_more leaves old from v w node degree i mid via new to s g h less r one =
 pub reading_full : (leaves : List PlacedLeaf) (old : List ℕ) (from : Cursor) (v : View)
     (node i : ℕ) (new : List ℕ) (to : Cursor) → IsReading leaves old from v node i new to
     → to.count ≡ length new → HasRead old from leaves new to
-reading_full leaves old from v node i new to r full =
-    subst (λ xs. HasRead old from xs new to) (sym r.both)
-    (read_full old new from to r.seen r.rest r.read full)
+reading_full leaves old from v node i new to r full = grind (arith, read_full)
 
 -- after the last slot all leaves were read
 pub reading_last : (leaves : List PlacedLeaf) (old : List ℕ) (from : Cursor) (v : View)
@@ -248,9 +239,7 @@ reading_begun into at v w node s g f le leaves has =
 pub nothing_read : (v : View) (into : List ℕ) (at : Cursor) (leaves : List PlacedLeaf)
     → at.count ≤ length into → HasLeaves (now v).pieces (Some Empty) leaves
     → HasRead into at leaves into at
-nothing_read v into at leaves le has =
-    subst (λ xs. HasRead into at xs into at) (sym (reached (now v).pieces (Some Empty) leaves has))
-    (read_none into at le)
+nothing_read v into at leaves le has = grind (arith, reached, read_none)
 
 -- one was
 pub leaf_read : (v : View) (old new : List ℕ) (from to : Cursor) (base : ℕ) (leaves : List PlacedLeaf)

@@ -12,7 +12,7 @@ use Rattle.ist_rows.specs.declared.callers.Caller.{Caller}
 use Rattle.laws_coming.specs.Builds.{WasUnset}
 use Rattle.laws_coming.proofs.KnownLemmas.{fast_known, in_piece}
 use Rattle.laws_coming.proofs.SeenLemmas.{unset_seen}
-use Rattle.ist_build.specs.Calls.{MayBuild, share_whole, IsTold}
+use Rattle.ist_build.specs.Calls.{MayBuild, IsTold}
 use Rattle.ist_build.specs.Laying.{BuiltOn, IsLaid, IsTopLaid, IsRootLaid, IsTarget, ArePlaced, HaveLeaves, AreKeysOf, AreNextRows, IsShort, IsWritten, IsLaidBelow}
 use Rattle.ist_build.proofs.RootReadyLemmas.{top_root, whole_laid}
 use Rattle.ist_build.specs.Back.{IsFreeToBuild, IsRootMade}
@@ -31,24 +31,12 @@ pub root_unset : (v w : View) (rebuild place word number : ℕ) (row : RebuildRo
     → (now v).pieces rebuild ≡ Some (Rebuild row) → place ≡ rebuild + rebuild_root_offset
     → Looked v place word w → word ≡ unset_word → WasUnset w number (rebuild + rebuild_root_offset)
 root_unset v w rebuild place word number row e at l is =
-    let known = fast_known v _ (in_piece rebuild 3 (Rebuild row) e (omega arith)) in
-    unset_seen v w number (rebuild + rebuild_root_offset) known
-    (subst (λ x. Looked v (rebuild + rebuild_root_offset) x w) is
-    (subst (λ p. Looked v p word w) at l))
+    grind (arith, fast_known, in_piece, unset_seen)
 
 -- a target with few keys is built whole
 pub whole_share : (t : Snapshot) (target k : ℕ) → IsTarget t target k → k < share_from
     → MayBuild t target 0 k
-whole_share t target k h few = record {
-  rebuild = h.rebuild;
-  row = h.row;
-  published = h.published;
-  target_is = h.target_is;
-  started = h.started;
-  k = k;
-  finished = h.finished;
-  share = share_whole few refl refl;
-}
+whole_share t target k h few = grind arith
 
 -- if the whole subtree was built, its word is a root
 pub ok_whole : (old new : Caller) (target k : ℕ) → IsSound old.token.view → new.number ≡ old.number
@@ -61,8 +49,7 @@ pub ok_whole : (old new : Caller) (target k : ℕ) → IsSound old.token.view �
     → IfOk answer (λ word. (leaves : List PlacedLeaf)
     → HasLeaves (now old.token.view).pieces (Some (InnerAt target)) leaves
     → IsRootLaid old new target k word leaves)
-ok_whole old new target k s number b t few several (Ok word) laid at =
-    λ leaves has. whole_laid old new target k word s number b t leaves has few (laid leaves has) (at several)
+ok_whole old new target k s number b t few several (Ok word) laid at = grind (arith, whole_laid)
 ok_whole old new target k s number b t few several (Err full) laid at = tt
 
 -- if the top row was built, its word is a root
@@ -76,8 +63,7 @@ pub ok_top : (old new : Caller) (target k : ℕ) → IsSound old.token.view → 
     → IfOk answer (λ word. (leaves : List PlacedLeaf)
     → HasLeaves (now old.token.view).pieces (Some (InnerAt target)) leaves
     → IsRootLaid old new target k word leaves)
-ok_top old new target k s number b t many (Ok word) laid sizes =
-    λ leaves has. top_root old new target k word s number b t leaves has many (laid leaves has) sizes
+ok_top old new target k s number b t many (Ok word) laid sizes = grind (arith, top_root)
 ok_top old new target k s number b t many (Err full) laid sizes = tt
 
 -- what was built over a target with several keys is a root made for its rebuild
@@ -91,16 +77,7 @@ pub root_made : (old new : Caller) (rebuild target keys word : ℕ) → IsFreeTo
     → IsRootLaid old new target keys word leaves)
     → IsRootMade old new rebuild word
 root_made old new rebuild target keys word r s number rows b told target_is several unset laid =
-    record {
-      has_built = record { ready = r; sound = s; number = number; rows = rows; built = b };
-      target = target;
-      keys = keys;
-      told = told;
-      target_is = target_is;
-      several = several;
-      laid = laid;
-      unset = unset;
-    }
+    grind arith
 
 -- ---- one part of a row, as the loops of `build` and of `lay` meet it: the slices, what a part asks for, and
 -- the row once it is set.
@@ -115,19 +92,12 @@ slice xs start len = take (start + len - start) (drop start xs)
 pub is_part : (n j d start len : ℕ) (leaves keys : List ℕ) → j < d → d ≡ degree n
     → start ≡ part_start n j → len ≡ part_len n j → 1 ≤ len
     → IsPart n j leaves keys (slice leaves start len) (slice keys start len)
-is_part n j d start len leaves keys less d_is start_is len_is some = record {
-  less = omega arith;
-  some = omega arith;
-  own_is = slice_part leaves n j start len start_is len_is;
-  keys_are = slice_part keys n j start len start_is len_is;
-}
+is_part n j d start len leaves keys less d_is start_is len_is some = grind (arith, slice_part)
 
 -- a part has no more leaves than all
 pub part_long : (n j : ℕ) (leaves keys own own_keys : List ℕ) → length leaves ≡ n
     → IsPart n j leaves keys own own_keys → length own ≤ n
-part_long n j leaves keys own own_keys all p =
-    let long = ap length p.own_is ∙ length-share_of n j leaves all p.less in
-    let end = part_end-le n j p.less in omega arith
+part_long n j leaves keys own own_keys all p = grind (arith, length-share_of, part_end-le)
 
 -- ---- a part of a row that is built row by row
 

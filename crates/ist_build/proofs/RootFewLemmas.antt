@@ -1,5 +1,5 @@
 -- A root over no key or over one, and what is known before a build. Serves `root`.
-use Rattle.std.proofs.Common.{◌≡◌, ◌≢◌, ℕ, ◌+◌, ◌-◌, ◌<◌, List, [], ◌∷◌, length, map, take, drop, Some, refl, sym, ap, ap₂, ◌∙◌, subst, append-nil, ⊎_elim, arith}
+use Rattle.std.proofs.Common.{◌≡◌, ◌≢◌, ℕ, ◌+◌, ◌-◌, ◌<◌, List, [], ◌∷◌, length, map, take, drop, Some, refl, sym, ap, ◌∙◌, subst, append-nil, ⊎_elim, arith}
 use Rattle.std.proofs.lemmas.Bool.Decides.{eqb_tells}
 use Rattle.ist_core.specs.declared.events.Event.{Event}
 use Rattle.ist_core.specs.declared.events.Event.TheVariants.{Root}
@@ -9,7 +9,7 @@ use Rattle.ist_core.specs.LogTerms.{Each}
 use Rattle.ist_core.specs.WordTerms.{IsIdeal, of_none, of_one, Pieces, Rebuild, Leaf, Ref, Empty, LeafAt, InnerAt, Unset, IsGoodBase, ref_of, word_of, unset_word, rebuild_root_offset, share_from, share_from_fits}
 use Rattle.ist_core.proofs.AllWordLemmas.{ref_of-unset, ref_of-word_of}
 use Rattle.laws_links.proofs.FinishedLemmas.{target_grows, leaves_stand}
-use Rattle.ist_rule.specs.RuleTerms.{CanExchange, TokenFace, IsSound, now, Looked, Logged, Exchanged, GoesOnTo, number_of}
+use Rattle.ist_rule.specs.RuleTerms.{CanExchange, TokenFace, IsSound, now, Looked, Logged, Exchanged, GoesOnTo}
 use Rattle.ist_rule.specs.declared.view.View.{View}
 use Rattle.ist_core.proofs.AllLogLemmas.{finished_once}
 use Rattle.ist_rule.proofs.EventLemmas.{looked_goes_on, goes_on_same, goes_on_more, goes_on_who}
@@ -90,9 +90,7 @@ one_root v w s g target k base word f small some told good is leaves has =
 -- the event that an exchange for such a word names
 pub rooting_few_is : (v : View) (number rebuild place word : ℕ) → v.who ≡ CallerOf number
     → place ≡ rebuild + rebuild_root_offset → rooting_few v place word ≡ Root number rebuild word []
-rooting_few_is v number rebuild place word mine at =
-    ap₂ (λ n o. Root n o word []) (ap number_of mine)
-    (let q : place - rebuild_root_offset ≡ rebuild = omega arith in q)
+rooting_few_is v number rebuild place word mine at = grind arith
 
 -- the exchange may be made, and what is known after it
 pub record MayRootFew (old : Caller) (token : TokenFace) (rebuild word place : ℕ) : Type 0 where

@@ -13,14 +13,14 @@ use Rattle.ist_rows.specs.RowTerms.{IsCaller, spares_of, build_sizes, sizes_buil
 use Rattle.ist_rows.specs.declared.callers.Caller.{Caller}
 use Rattle.laws_coming.specs.Builds.{IsRootBuilt, WasUnset}
 use Rattle.laws_coming.proofs.RootLemmas.{root_comes_or_loses}
-use Rattle.ist_build.specs.Laying.{BuiltOn, OwnsRows, IsRootLaid, IsTarget}
+use Rattle.ist_build.specs.Laying.{BuiltOn, OwnsRows, IsRootLaid}
 use Rattle.ist_build.specs.BuildEvents.{rooting, losing, held_rows_from}
 use Rattle.ist_build.specs.Back.{HasBuilt, IsRootMade, HasPutRoot}
 use Rattle.ist_build.proofs.HeldBeforeLemmas.{rows_named}
 use Rattle.laws_links.proofs.ContentLemmas.{finished_leaves}
 use Rattle.ist_build.proofs.PartSlotLemmas.{unset_built}
 use Rattle.ist_build.proofs.BackLemmas.{back_logged, back_lost}
-use Rattle.ist_build.proofs.RootReadyLemmas.{IsTopped, first_least, root_lost, root_put, root_ready, root_topped, told_target, topped_base, topped_set}
+use Rattle.ist_build.proofs.RootReadyLemmas.{IsTopped, first_least, root_lost, root_put, root_ready, root_topped, topped_base, topped_set}
 
 -- ---- names
 
@@ -85,10 +85,7 @@ module _ (old new : Caller) (c : IsCaller old) (s : IsSound old.token.view)
   -- the exchange that puts the root in place is the Root with the rows that were built
   rooting_is : (rebuild place : ℕ) → place ≡ rebuild + rebuild_root_offset
       → rooting new.token.view place word ≡ Root new.number rebuild word h.rows
-  rooting_is rebuild place at =
-      ap₂ (λ n rows. Root n (place - rebuild_root_offset) word rows) mine_new root_named
-      ∙ ap (λ o. Root new.number o word h.rows)
-      (let q : place - rebuild_root_offset ≡ rebuild = omega arith in q)
+  rooting_is rebuild place at = grind (arith, mine_new, root_named)
 
   -- an exchange that fails is the Lose of the rows that were built
   losing_is : losing new.token.view word ≡ Lose new.number (bases_of h.rows)
@@ -122,15 +119,10 @@ module _ (old mid : Caller) (rebuild word : ℕ) (m : IsRootMade old mid rebuild
   abbrev a : HasBuilt old mid
   a = m.has_built
 
-  t : IsTarget (now old.token.view) m.target m.keys
-  t = told_target (now old.token.view) rebuild m.target m.keys m.told m.target_is
-
   some : (leaves : List PlacedLeaf)
       × HasLeaves (now old.token.view).pieces (Some (InnerAt m.target)) leaves
       × (length leaves ≡ m.keys)
-  some =
-      finished_leaves old.token.view.start old.token.view.words a.sound.lawful.opens old.token.view.log
-      a.sound.lawful.enabled m.target m.keys t.finished
+  some = grind (arith, finished_leaves)
 
   two : 2 ≤ length some.0
   two = let is = some.2 in let several = m.several in omega arith

@@ -47,20 +47,7 @@ told_on t u g rebuild k h = let it = rebuild_there t.pieces u.pieces g rebuild h
 -- its target
 pub told_target : (t : Snapshot) (rebuild target k : ℕ) → IsTold t rebuild k
     → HasTarget t rebuild target → IsTarget t target k
-told_target t rebuild target k h g =
-    let same : h.row.target ≡ target = one (t.pieces rebuild) h.row g.row h.published g.published g.target_is in
-    record {
-      rebuild = rebuild;
-      row = h.row;
-      published = h.published;
-      target_is = same;
-      started = h.started;
-      finished = subst (λ n. IsFinishedWith t n k) same h.finished;
-    }
-  where
-    one : (o : Option Piece) (r s : RebuildRow) → o ≡ Some (Rebuild r) → o ≡ Some (Rebuild s)
-        → s.target ≡ target → r.target ≡ target
-    one o r s e f is = let same : r ≡ s = cc in ap (λ x. x.target) same ∙ is
+told_target t rebuild target k h g = grind arith
 
 -- a load of its root word
 pub root_looked : (v w : View) (rebuild place word : ℕ) (row : RebuildRow)
@@ -236,8 +223,7 @@ root_topped ps word k leaves target bases two (root_whole ref few e ideal) =
     by _ _ _ _ more (of_one same there) f = absurd (omega arith)
     by _ _ _ _ more (of_more {base = base} {rows = rows} r top under) f =
         record { base = base; ref_is = f; rest = rows; bases_are = refl }
-root_topped ps word k leaves target bases two (root_top base row all e top unset one) =
-    record { base = base; ref_is = e; rest = []; bases_are = one }
+root_topped ps word k leaves target bases two (root_top base row all e top unset one) = grind arith
 
 -- the word of a row is its base and the tag
 pub topped_base : (word : ℕ) (bases : List ℕ) (h : IsTopped word bases) → word / tag_count ≡ h.base
@@ -246,10 +232,7 @@ topped_base word bases h = let it = word_of-ref_of word (InnerAt h.base) h.ref_i
 
 -- a word that names a row isn't Unset
 pub topped_set : (word : ℕ) (bases : List ℕ) (h : IsTopped word bases) → word ≢ unset_word
-topped_set word bases h e = no (sym (ap ref_of e ∙ ref_of-unset) ∙ h.ref_is)
-  where
-    no : Some Unset ≡ Some (InnerAt h.base) → ⊥
-    no f = cc
+topped_set word bases h e = grind (arith, ref_of-unset)
 
 -- the others lie above it
 pub first_least : (bases : List ℕ) (base : ℕ) (rest : List ℕ) → bases ≡ base ∷ rest → Rises bases

@@ -1,5 +1,5 @@
 -- A row that was opened, and words that are set in it. Serves `build`.
-use Rattle.std.proofs.Common.{◌≡◌, ◌≢◌, ℕ, ◌+◌, ◌<◌, ◌≤◌, List, [], ◌∷◌, ◌++◌, length, nat_lt, Bool, true, false, if◌then◌else◌, refl, sym, ap, ◌∙◌, subst, inl, arith}
+use Rattle.std.proofs.Common.{◌≡◌, ◌≢◌, ℕ, ◌+◌, ◌<◌, ◌≤◌, List, [], ◌∷◌, ◌++◌, length, refl, sym, ap, ◌∙◌, subst, inl, arith}
 use Rattle.std.proofs.lemmas.Bool.Decides.{nat_tests}
 use Rattle.std.specs.List.{flat_map}
 use Rattle.ist_core.specs.WordTerms.{degree, inner_words, shape}
@@ -134,12 +134,7 @@ module _ (old new : Caller) (leaves : List ℕ) (base : ℕ) (s : IsSound old.to
 pub opened_on : (a b : List OwnWord) (base d size : ℕ)
     → ((p : ℕ) → p < base + 4 → own_at b p ≡ own_at a p)
     → IsOpened a base d size → IsOpened b base d size
-opened_on a b base d size same o = record {
-  status = same base (omega arith) ∙ o.status;
-  count = same (base + 1) (omega arith) ∙ o.count;
-  degree_is = same (base + 2) (omega arith) ∙ o.degree_is;
-  size_is = same (base + 3) (omega arith) ∙ o.size_is;
-}
+opened_on a b base d size same o = grind arith
 
 -- ---- after a part
 
@@ -147,73 +142,24 @@ opened_on a b base d size same o = record {
 module _ (v : View) (base d j key word : ℕ) (less : j < d) where
   -- a slot that is set holds its word
   pub at_slot : own_at (setting v base d j key word).own (base + 3 + d + j) ≡ word
-  at_slot = cases (nat_lt 0 j)
-    where
-      slot : base + (3 + d + j) ≡ base + 3 + d + j
-      slot = omega arith
-
-      cases : (b : Bool)
-          → own_at (if b then storing (storing v (base + (3 + d + j)) word) (base + (3 + j)) key
-          else storing v (base + (3 + d + j)) word).own (base + 3 + d + j) ≡ word
-      cases true =
-          own_else (record { place = base + (3 + d + j); word = word } ∷ v.own) (base + (3 + j)) key
-          (base + 3 + d + j) (λ e. omega arith)
-          ∙ ap (own_at (record { place = base + (3 + d + j); word = word } ∷ v.own)) (sym slot)
-          ∙ own_here v.own (base + (3 + d + j)) word
-      cases false =
-          ap (own_at (record { place = base + (3 + d + j); word = word } ∷ v.own)) (sym slot)
-          ∙ own_here v.own (base + (3 + d + j)) word
+  at_slot = grind (arith, own_else, own_here)
 
   -- and its key lies in its place
   pub at_key : 1 ≤ j → own_at (setting v base d j key word).own (base + 3 + j) ≡ key
-  at_key some = cases (nat_lt 0 j) refl
-    where
-      place : base + (3 + j) ≡ base + 3 + j
-      place = omega arith
-
-      cases : (b : Bool) → nat_lt 0 j ≡ b
-          → own_at (if b then storing (storing v (base + (3 + d + j)) word) (base + (3 + j)) key
-          else storing v (base + (3 + d + j)) word).own (base + 3 + j) ≡ key
-      cases true e =
-          ap (own_at (record { place = base + (3 + j); word = key }
-          ∷ record { place = base + (3 + d + j); word = word } ∷ v.own)) (sym place)
-          ∙ own_here (record { place = base + (3 + d + j); word = word } ∷ v.own) (base + (3 + j)) key
-      cases false e = absurd (let none : j ≤ 0 = grind (arith, nat_tests) in omega arith)
+  at_key some = grind (arith, own_here, nat_tests)
 
   -- every other place is as it was
   pub elsewhere : (p : ℕ) → p ≢ base + 3 + d + j → (1 ≤ j → p ≢ base + 3 + j)
       → own_at (setting v base d j key word).own p ≡ own_at v.own p
-  elsewhere p ne nk = cases (nat_lt 0 j) refl
-    where
-      cases : (b : Bool) → nat_lt 0 j ≡ b
-          → own_at (if b then storing (storing v (base + (3 + d + j)) word) (base + (3 + j)) key
-          else storing v (base + (3 + d + j)) word).own p ≡ own_at v.own p
-      cases true e = let some : 1 ≤ j = let pos : 0 < j = grind (arith, nat_tests) in omega arith in
-          own_else (record { place = base + (3 + d + j); word = word } ∷ v.own) (base + (3 + j)) key p
-          (λ f. nk some (let q : p ≡ base + 3 + j = omega arith in q))
-          ∙ own_else v.own (base + (3 + d + j)) word p
-          (λ f. ne (let q : p ≡ base + 3 + d + j = omega arith in q))
-      cases false e = own_else v.own (base + (3 + d + j)) word p
-          (λ f. ne (let q : p ≡ base + 3 + d + j = omega arith in q))
+  elsewhere p ne nk = grind (arith, nat_tests, own_else)
 
   -- the view is the old one but for its words
   pub setting_is : setting v base d j key word ≡ record v { own = (setting v base d j key word).own }
-  setting_is = cases (nat_lt 0 j)
-    where
-      cases : (b : Bool)
-          → (if b then storing (storing v (base + (3 + d + j)) word) (base + (3 + j)) key
-          else storing v (base + (3 + d + j)) word)
-          ≡ record v {
-            own = (if b then storing (storing v (base + (3 + d + j)) word) (base + (3 + j)) key
-                else storing v (base + (3 + d + j)) word).own;
-          }
-      cases true = refl
-      cases false = refl
+  setting_is = grind arith
 
 -- a caller with other words of its own is where it was
 pub at_rewritten : (who : Caller) (own : List OwnWord) (stuck done rest : List ℕ)
     → IsInBuild who stuck done rest
     → IsInBuild (record who { token = record who.token { view = record who.token.view { own = own } } })
     stuck done rest
-at_rewritten who own stuck done rest h =
-    record { sizes = h.sizes; all_stuck = h.all_stuck; building = h.building }
+at_rewritten who own stuck done rest h = grind arith

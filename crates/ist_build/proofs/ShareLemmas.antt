@@ -80,19 +80,7 @@ enough_leaves v s target least h leaves has =
 -- what is laid from a place on is laid from a lower one on
 pub laid_lower : (w : View) (number low high word : ℕ) (leaves : List PlacedLeaf) → low ≤ high
     → IsLaid w number high word leaves → IsLaid w number low word leaves
-laid_lower w number low high word leaves le h = record {
-  rows = h.rows;
-  owns = record {
-    stored = h.owns.stored;
-    held = h.owns.held;
-    once = h.owns.once;
-    rising = h.owns.rising;
-    high = high_more low high h.rows le h.owns.high;
-  };
-  ref = h.ref;
-  ref_is = h.ref_is;
-  ideal = λ above less. h.ideal above (omega arith);
-}
+laid_lower w number low high word leaves le h = grind (arith, high_more)
 
 -- the next rows of a build stay the same after loads
 pub due_on : (who : Caller) (token : TokenFace) (keys : ℕ) → IsCaller who
@@ -121,8 +109,7 @@ short_on v w g words keys full x h =
 -- a row over no more than fewer keys is one over no more than many
 pub short_more : (v : View) (words few many : ℕ) (full : Full) (w : View) → few ≤ many
     → IsShort v words few full w → IsShort v words many full w
-short_more v words few many full w le h =
-    short_for_more BuiltOn BuiltOn v v (λ x on. on) words few many full w le h
+short_more v words few many full w le h = grind (arith, short_for_more)
 
 -- ---- shares
 
@@ -164,12 +151,7 @@ share_due who target start len refused m two = record {
 -- the target has its keys
 pub share_keys : (t : Snapshot) (target start len : ℕ) → MayBuild t target start len
     → HasKeys t target (start + len)
-share_keys t target start len m =
-    record { k = m.k; finished = m.finished; enough = enough m.k m.share }
-  where
-    enough : (k : ℕ) → IsShare k start len → start + len ≤ k
-    enough k (share_whole few first all) = omega arith
-    enough k (share_part j many less first all) = let le = part_end-le k j less in omega arith
+share_keys t target start len m = grind (arith, part_end-le)
 
 -- there are few
 pub share_few : (v : View) → IsSound v → (target start len : ℕ) → MayBuild (now v) target start len

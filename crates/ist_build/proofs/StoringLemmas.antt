@@ -36,16 +36,14 @@ none_below v number low word leaves none is [] a = record {
   };
   ends = tt;
 }
-none_below v number low word leaves none is (leaf ∷ more) a =
-    absurd (let all = ap length a.bases_are in omega arith)
+none_below v number low word leaves none is (leaf ∷ more) a = grind arith
 
 -- over one leaf, its word is the ideal subtree, in no row
 pub one_below : (v : View) → IsSound v → (number low word : ℕ) (leaves : List ℕ)
     → length leaves ≡ 1 → word ≡ word_of (LeafAt (slice_index_or leaves 0 0))
     → (placed : List PlacedLeaf) → ArePlaced (now v) leaves placed
     → IsLaidBelow v number low low word placed
-one_below v s number low word leaves one is [] a =
-    absurd (let all = ap length a.bases_are in omega arith)
+one_below v s number low word leaves one is [] a = grind arith
 one_below v s number low word leaves one is (leaf ∷ []) a =
     let first : slice_index_or leaves 0 0 ≡ leaf.base =
     ap (λ xs. slice_index_or xs 0 0) (sym a.bases_are) in
@@ -61,17 +59,13 @@ one_below v s number low word leaves one is (leaf ∷ []) a =
       };
       ends = tt;
     }
-one_below v s number low word leaves one is (leaf ∷ second ∷ more) a =
-    absurd (let all = ap length a.bases_are in omega arith)
+one_below v s number low word leaves one is (leaf ∷ second ∷ more) a = grind arith
 
 -- the first row of a block for several leaves, and the rows after it
 pub block_first : (t : Snapshot) (number base n : ℕ) → 2 ≤ n → HoldsBlock t number base (shape n)
     → HoldsRow t number base (inner_words (degree n))
     × HoldsBlock t number (base + inner_words (degree n)) (flat_map shape (lens_from n 0))
-block_first t number base n two h =
-    let it = subst (HoldsBlock t number base)
-    (shape_many n two ∙ ap (λ xs. inner_words (degree n) ∷ flat_map shape xs) (sym (lens_first n)))
-    h in (it.0, it.1)
+block_first t number base n two h = grind (arith, shape_many, lens_first)
 
 -- ---- the row
 
@@ -96,8 +90,7 @@ module _ (old : Caller) (leaves : List ℕ) (base d : ℕ) (s : IsSound old.toke
   first = record { place = base + 2; word = d } ∷ o
 
   others : (p : ℕ) → p ≢ base + 2 → p ≢ base + 3 → own_at view.own p ≡ own_at o p
-  others p a b =
-      own_else first (base + 3) n p (λ e. b (sym e)) ∙ own_else o (base + 2) d p (λ e. a (sym e))
+  others p a b = grind (arith, own_else)
 
   -- nothing is laid yet
   pub laying_first : IsCaller who → IsSound view → IsLaying old leaves base d 0 (base + (2 * d + 3)) who

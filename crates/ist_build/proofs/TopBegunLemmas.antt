@@ -1,14 +1,13 @@
 -- The top row of a shared root from its first words on. Serves `build_top`.
-use Rattle.std.proofs.Common.{◌≡◌, ℕ, ◌+◌, ◌-◌, ◌≤◌, List, [], ◌∷◌, ◌++◌, map, filter, not, Some, refl, sym, ap, ◌∙◌, subst, append-nil, arith, length, take, drop, Result, Ok, Err, IfOk, IfErr}
-use Rattle.ist_core.specs.declared.lists.HeldRow.{HeldRow}
+use Rattle.std.proofs.Common.{◌≡◌, ℕ, ◌+◌, ◌-◌, ◌≤◌, List, [], ◌∷◌, ◌++◌, Some, refl, sym, ap, ◌∙◌, subst, append-nil, arith, length, take, drop, Result, Ok, Err, IfOk, IfErr}
 use Rattle.ist_core.specs.declared.ports.Full.{Full}
 use Rattle.ist_core.specs.WordTerms.{degree, InnerAt, inner_words, share_from, shape}
-use Rattle.ist_core.specs.LogTerms.{build_top, Lawful, HoldsRow, Later}
+use Rattle.ist_core.specs.LogTerms.{build_top, HoldsRow}
 use Rattle.ist_core.specs.TreeTerms.{PlacedLeaf, HasLeaves, IsFinishedWith}
 use Rattle.ist_core.proofs.AllLogLemmas.{finished_grows, finished_leaves_stay}
 use Rattle.ist_rule.specs.RuleTerms.{TokenFace, IsSound, now, GoesOnTo}
 use Rattle.ist_rule.specs.declared.view.View.{View}
-use Rattle.ist_rows.specs.RowTerms.{spares_of, is_spare, build_sizes, IsCaller, Reserved, IsInBuild, IsNext, HasTaken, HasRefused, sizes_built}
+use Rattle.ist_rows.specs.RowTerms.{spares_of, IsCaller, Reserved, IsInBuild, IsNext, HasTaken, HasRefused, sizes_built}
 use Rattle.ist_rows.specs.declared.callers.Caller.{Caller}
 use Rattle.ist_rows.proofs.CallerGoingLemmas.{caller_goes_on}
 use Rattle.ist_rows.proofs.ShortLemmas.{held_by_later}
@@ -31,9 +30,7 @@ pub leaves_on : (v w : View) → BuiltOn v w → (target k : ℕ) → IsFinished
     → (leaves : List PlacedLeaf) → HasLeaves (now v).pieces (Some (InnerAt target)) leaves
     → HasLeaves (now w).pieces (Some (InnerAt target)) leaves
 leaves_on v w b target k f leaves has =
-    subst (λ t. HasLeaves t.pieces (Some (InnerAt target)) leaves) (sym (built_now v w b))
-    (finished_leaves_stay v.start v.words (built_lawful v w b).opens v.log w.log (later_by-goes_on b.later)
-    (built_lawful v w b).enabled target leaves (k, f) has)
+    grind (arith, built_now, finished_leaves_stay, built_lawful, later_by-goes_on)
 
 -- and it has its keys
 pub keys_on : (v w : View) → BuiltOn v w → (target k least : ℕ) → IsFinishedWith (now v) target k
@@ -72,15 +69,7 @@ top_next who target k d refused t many is = subst (λ n. IsNext who (inner_words
 -- loads leave the sizes of its builds
 pub sizes_on : (who : Caller) (token : TokenFace) → IsCaller who → GoesOnTo who.token.view token.view
     → sizes_built (record who { token = token }) ≡ sizes_built who
-sizes_on who token c g = let v = who.token.view in
-    let lawful : Lawful v.start v.words token.view.log =
-    subst (λ p. Lawful p v.words token.view.log) (ap (λ x. x.start) g.same)
-    (subst (λ n. Lawful token.view.start n token.view.log) (ap (λ x. x.words) g.same)
-    g.sound.lawful) in
-    ap (λ t. build_sizes t who.number (spares_of who)) (goes_on_now v token.view g)
-    ∙ ap (λ hs. map (λ (h : HeldRow). h.size) (filter (λ h. not (is_spare (spares_of who) h.base)) hs))
-    (held_by_later v.start v.words who.number v.log token.view.log lawful.enabled
-    (subst (λ x. Later x v.log token.view.log) c.mine g.later))
+sizes_on who token c g = grind (arith, goes_on_now, held_by_later)
 
 -- ---- the row was opened
 
@@ -138,8 +127,7 @@ module _ (old new : Caller) (target k d base : ℕ) (s : IsSound old.token.view)
   -- after the stores of its first words the top row is half-built, with no slot set yet
   pub top_opened : (last : Caller) → last ≡ who → IsCaller last → IsSound last.token.view
       → IsTopMidway old target k base d 0 last
-  top_opened last is caller sound = subst (IsTopMidway old target k base d 0) (sym is)
-      (top_begun (subst IsCaller is caller) (subst (λ (w : Caller). IsSound w.token.view) is sound))
+  top_opened last is caller sound = grind (arith, top_begun)
 
 -- ---- after loads
 
@@ -190,9 +178,7 @@ pub out_due : (who : Caller) (token : TokenFace) (target start len : ℕ) (bases
     → IsCaller who → HasReadOut who.token.view target start len bases token.view
     → (2 ≤ len → AreNextRows who len) → 2 ≤ length bases
     → AreNextRows (record who { token = token }) (length bases)
-out_due who token target start len bases c r due two =
-    subst (AreNextRows (record who { token = token })) (sym r.size)
-    (due_on who token len c r.seen (due (subst (λ n. 2 ≤ n) r.size two)))
+out_due who token target start len bases c r due two = grind (arith, due_on)
 
 -- what a build over the leaves from number `start` on gives
 pub record OutBuilt (old new : Caller) (words target start len : ℕ) (answer : Result ℕ Full) : Type 0 where

@@ -58,11 +58,7 @@ module _ (old who : Caller) (target k base d j key : ℕ) (s : IsSound old.token
   set = record who { token = record who.token { view = w } }
 
   slots_more : words_at words (base + 3 + d) (j + 1) ≡ replicate (j + 1) unset_word
-  slots_more = words_at_more words (base + 3 + d) j ∙ ap₂ (λ xs x. xs ++ x ∷ [])
-      (words_at_same words v.own (base + 3 + d) j
-      (λ p low high. elsewhere v base d j key unset_word less p (λ e. omega arith)
-      (λ one e. omega arith)) ∙ m.slots)
-      (at_slot v base d j key unset_word less) ∙ replicate_more j unset_word
+  slots_more = grind (arith, words_at_more, words_at_same, elsewhere, at_slot, replicate_more)
 
   first_part : (leaves : List PlacedLeaf)
       → HasLeaves (now old.token.view).pieces (Some (InnerAt target)) leaves
@@ -96,34 +92,14 @@ module _ (old who : Caller) (target k base d j key : ℕ) (s : IsSound old.token
           (drop 1 (parts_to k (n + 1) leaves))) (sym e)
 
   top_more : IsCaller set → IsSound w → IsTopMidway old target k base d (j + 1) set
-  top_more caller sound = let up_first = m.high in record {
-    caller = caller;
-    number = m.number;
-    rows = m.rows;
-    built = rewritten_built old.token.view v words m.built sound
-        (λ p low. elsewhere v base d j key unset_word less p (λ e. omega arith)
-        (λ one e. omega arith));
-    high = m.high;
-    held = m.held;
-    opened = opened_on v.own words base d k
-        (λ p low. elsewhere v base d j key unset_word less p (λ e. omega arith)
-        (λ one e. omega arith)) m.opened;
-    slots = slots_more;
-    keys = keys_more;
-    sizes = m.sizes;
-  }
+  top_more caller sound =
+      grind (arith, rewritten_built, elsewhere, opened_on, slots_more, keys_more)
 
   -- when slot j is set to Unset with its key, the half-built top row has one slot more
   pub top_set : (last : Caller) (word : ℕ) → word ≡ unset_word
       → last ≡ record who { token = record who.token { view = setting v base d j key word } }
       → IsCaller last → IsSound last.token.view → IsTopMidway old target k base d (j + 1) last
-  top_set last word unset is caller sound =
-      let whole : last ≡ set =
-      is ∙ ap (λ x. record who { token = record who.token { view = setting v base d j key x } }) unset
-      ∙ ap (λ x. record who { token = record who.token { view = x } })
-      (setting_is v base d j key unset_word less) in
-      subst (IsTopMidway old target k base d (j + 1)) (sym whole)
-      (top_more (subst IsCaller whole caller) (subst (λ (c : Caller). IsSound c.token.view) whole sound))
+  top_set last word unset is caller sound = grind (arith, setting_is, top_more)
 
 -- the loaded key is the key of the part's first leaf
 pub key_first : (old who : Caller) (target k j start key : ℕ) → BuiltOn old.token.view who.token.view
@@ -245,5 +221,4 @@ all_top old who target k base d j word s f two m d_is all is leaves has =
 -- a build of the top row took only this row
 pub top_sizes : (old who : Caller) (target k base d j : ℕ) → IsTopMidway old target k base d j who
     → d ≡ degree k → sizes_built who ≡ sizes_built old ++ inner_words (degree k) ∷ []
-top_sizes old who target k base d j m is =
-    m.sizes ∙ ap (λ n. sizes_built old ++ inner_words n ∷ []) is
+top_sizes old who target k base d j m is = grind arith

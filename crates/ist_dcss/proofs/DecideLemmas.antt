@@ -48,8 +48,7 @@ module _ (v : View) (s : IsSound v) (change number : ℕ) (mine : v.who ≡ Call
 
   -- the caller is a caller of the table
   pub number_low : (log : Log) → MayCome v log → number < (state_of v.start v.words log).callers
-  number_low log m = let before = s.is_true.low number mine in
-      let more = callers_later v.start v.words v.log log m.later in omega arith
+  number_low log m = grind (arith, callers_later)
 
   -- what was known of the change is enough still
   outcome : (said : Bool) → IsDecidable v change row said → (log : Log) (m : MayCome v log)
@@ -191,10 +190,7 @@ said_word false = refl
 -- the event that the exchange of a decision names
 pub deciding_is : (v : View) (number change place new : ℕ) (said : Bool) → v.who ≡ Caller number
     → place ≡ change → new ≡ decision_word said → deciding v place new ≡ Decide number change said
-deciding_is v number change place new said who at is =
-    ap (λ n. Decide n place (new == decided_yes)) (ap number_of who)
-    ∙ ap (λ b. Decide number b (new == decided_yes)) at
-    ∙ ap (Decide number change) (ap (λ n. n == decided_yes) is ∙ said_word said)
+deciding_is v number change place new said who at is = grind (arith, said_word)
 
 -- ---- whether a node is open, as a load of its status says. Serves `is_open` and
 -- `laws.nodes_close_once`.
@@ -204,10 +200,8 @@ deciding_is v number change place new said who at is =
 -- the status of a node lies within the table
 pub status_low : (v : View) → IsSound v → (node : ℕ) → IsNode (now v) node
     → place_of_status node < v.words
-status_low v s node (is_anchor e) = let at = status_place_anchor node e in
-    let low = next_within v.start v.words s.lawful.opens v.log s.lawful.enabled in
-    let fixed = next_after_fixed v.start v.words v.log s.lawful.enabled in
-    let all = words_same v.start v.words s.lawful.opens v.log in omega arith
+status_low v s node (is_anchor e) =
+    grind (arith, status_place_anchor, next_within, next_after_fixed, words_same)
 status_low v s node (is_inner r e) =
     let at = status_place_inner node (no_anchor v.start v.words v.log s.lawful.enabled node r e) in
     let low = (row_low v s node (Inner r) e 0 (omega arith)).0 in omega arith
@@ -216,9 +210,7 @@ status_low v s node (is_inner r e) =
 pub status_off : (v : View) → IsSound v → (node : ℕ) → IsNode (now v) node
     → place_of_status node ≢ anchor_slot_place
 status_off v s node (is_anchor e) same = let at = status_place_anchor node e in absurd (omega arith)
-status_off v s node (is_inner r e) same =
-    let at = status_place_inner node (no_anchor v.start v.words v.log s.lawful.enabled node r e) in
-    let above = row_above v s node (Inner r) e in absurd (omega arith)
+status_off v s node (is_inner r e) same = grind (arith, status_place_inner, no_anchor, row_above)
 
 -- a load of it that gives the word of open shows the node open
 pub shows_open : (v : View) → IsSound v → (node place word : ℕ) (w : View) → Looked v place word w

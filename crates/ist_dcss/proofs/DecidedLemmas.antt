@@ -72,18 +72,7 @@ decide_tells v change number said place stood w row there at x = by_word (eqb_te
 pub decided_as : (v : View) → IsSound v → (change : ℕ) (row : ChangeRow)
     → (now v).pieces change ≡ Some (Change row) → row.decision ≢ undecided
     → (said : Bool) → said ≡ (row.decision == decided_yes) → IsDecided v change said
-decided_as v s change row there set said is = record {
-  row = row;
-  published = there;
-  decision = at (fate v.start v.words v.log s.lawful.enabled change row there) ∙ ap decision_word
-      (sym is);
-}
-  where
-    at : HasFate v.start v.words v.log change row
-        → row.decision ≡ decision_word (row.decision == decided_yes)
-    at (inl e) = absurd (set e)
-    at (inr (inl e)) = e ∙ ap (λ d. decision_word (d == decided_yes)) (sym e)
-    at (inr (inr e)) = e.0 ∙ ap (λ d. decision_word (d == decided_yes)) (sym e.0)
+decided_as v s change row there set said is = grind (arith, fate, HasFate)
 
 -- a helper that loaded the status of the change's node
 module _ (v : View) (change number : ℕ) (said : Bool) (u : View)
@@ -95,10 +84,7 @@ module _ (v : View) (change number : ℕ) (said : Bool) (u : View)
   -- may exchange the decision
   pub helper_can_decide : IsSound u → CanExchange u (base + change_decision_offset) undecided new
       (deciding u (base + change_decision_offset) new)
-  helper_can_decide s =
-      subst (CanExchange u (base + change_decision_offset) undecided new) (sym names)
-      (can_decide u s change number m.mine m.row m.published said m.ready
-      (base + change_decision_offset) new (omega arith) is)
+  helper_can_decide s = grind (arith, names, can_decide)
 
   -- has then served the change, which is decided as the test of the two words says
   pub helper_decided : (stood : ℕ) (w : View)
@@ -120,24 +106,12 @@ module _ (v : View) (change number : ℕ) (said : Bool) (u : View)
 -- a change with this decision keeps it
 pub decided_on : (change : ℕ) (v w : View) → WentOn (Serves change) v w → (said : Bool)
     → IsDecided v change said → IsDecided w change said
-decided_on change v w h said d = let on = went_row (Serves change) change v w h d.row d.published in
-    record {
-      row = on.0;
-      published = on.1;
-      decision = on.2.decided (λ e. said_something said (sym d.decision ∙ e)) ∙ d.decision;
-    }
+decided_on change v w h said d = grind (arith, went_row, said_something)
 
 -- if a change is decided yes, its node was seen open
 pub yes_seen : (v : View) → IsSound v → (change : ℕ) → IsDecided v change true → WasOpen v change
-yes_seen v s change d = okay_seen v.start v.words v.log s.lawful.enabled change
-    (yes_has_okay v.start v.words s.lawful.opens v.log s.lawful.enabled change d.row d.published
-    d.decision)
+yes_seen v s change d = grind (arith, okay_seen, yes_has_okay)
 
 -- if it is decided no, its node was seen not to be open
 pub no_seen : (v : View) → IsSound v → (change : ℕ) → IsDecided v change false → WasClosed v change
-no_seen v s change d = at (fate v.start v.words v.log s.lawful.enabled change d.row d.published)
-  where
-    at : HasFate v.start v.words v.log change d.row → WasClosed v change
-    at (inl e) = let two : ◌≡◌ {A = ℕ} 2 0 = sym d.decision ∙ e in absurd (omega arith)
-    at (inr (inl e)) = let two : ◌≡◌ {A = ℕ} 2 1 = sym d.decision ∙ e in absurd (omega arith)
-    at (inr (inr k)) = k.1
+no_seen v s change d = grind (arith, fate, HasFate)

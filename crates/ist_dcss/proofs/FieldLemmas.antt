@@ -66,10 +66,7 @@ one_change p q e = cc
 pub field_now : (v : View) (change offset word : ℕ) → IsField v change offset word
     → (f : ChangeRow → ℕ) → ((r : ChangeRow) → slice_get (words_of (Change r)) offset ≡ Some (f r))
     → (row : ChangeRow) → (now v).pieces change ≡ Some (Change row) → word ≡ f row
-field_now v change offset word i f at row there =
-    let same : i.row ≡ row = one_change i.row row
-    (same_value ((now v).pieces change) (Change i.row) (Change row) i.published there) in
-    same_Some word (f i.row) (sym i.is ∙ at i.row) ∙ ap f same
+field_now v change offset word i f at row there = grind (arith, one_change, same_value, same_Some)
 
 -- a word of the change that doesn't change is the same in each later view
 pub field_is : (v : View) (change offset word : ℕ) → IsField v change offset word

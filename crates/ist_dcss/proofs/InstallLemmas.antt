@@ -32,9 +32,7 @@ use Rattle.ist_dcss.proofs.SlotPlaceLemmas.{slot_shown, shown_in_slot, slot_plac
 -- a held row is held still once the caller made loads
 pub held_on : (v w : View) → GoesOnTo v w → (h : HeldRow) → v.who ≡ Caller h.caller
     → Among h (now v).held → Among h (now w).held
-held_on v w g h who i = subst (λ t. Among h t.held) (sym (goes_on_now v w g))
-    (held_later v.start v.words h v.log w.log (goes_on_lawful v w g).enabled
-    (subst (λ x. Later x v.log w.log) who g.later) i)
+held_on v w g h who i = grind (arith, goes_on_now, held_later, goes_on_lawful)
 
 -- what was filled is filled
 pub filled_on : (v w : View) → GoesOnTo v w → (base : ℕ) (words : List ℕ) → HasFilled v base words
@@ -77,8 +75,7 @@ own_above v s base words f k less =
 -- the change's row is filled
 pub filled : (v : View) (base : ℕ) (f : Filling) → IsInstallable v base f
     → HasFilled v base (words_of (Change f.change))
-filled v base f m =
-    record { number = m.number; mine = m.mine; held = m.held.0; stored = m.stored.0 }
+filled v base f m = grind arith
 
 -- a slot is still a slot
 pub slot_on : (v w : View) → GoesOnTo v w → (node i word : ℕ) → SlotHolds (now v) node i word
@@ -160,16 +157,7 @@ module _ (v : View) (base : ℕ) (f : Filling) (m : IsInstallable v base f) (sv 
 
   -- the call allows it
   call_allows : MayInstall w number f.change
-  call_allows = let a = m.allowed in let to_here = later_all l no_more in record {
-    pending = a.pending;
-    in_call = a.in_call;
-    resolved = resolved_later v.start v.words number v.calls v.log l s.lawful.enabled to_here
-        a.resolved;
-    command = a.command;
-    none_yet = λ update.
-        (between_later v.start v.words number v.calls v.log l s.lawful.enabled to_here
-        record { made = a.none_yet update; resolved = a.resolved }).made;
-  }
+  call_allows = grind (arith, later_all, resolved_later, between_later)
 
   one_change : (x : ChangeRow) → first_change (rows_of f base) ≡ Some x → f.change ≡ x
   one_change x e = let same : Some f.change ≡ Some x = e in cc

@@ -1,17 +1,17 @@
 -- Resolving: when it may be made, and what it lets it know. Serves `resolve`.
-use Rattle.std.proofs.Common.{◌≡◌, ◌≢◌, ℕ, ◌+◌, ◌*◌, ◌/◌, ◌⊎◌, ◌==◌, Bool, true, false, if◌then◌else◌, [], ◌∷◌, Some, refl, sym, ap, ap₂, ◌∙◌, subst, inl, inr, ⊎_elim, arith}
+use Rattle.std.proofs.Common.{◌≡◌, ◌≢◌, ℕ, ◌/◌, ◌⊎◌, Bool, true, false, [], ◌∷◌, Some, refl, sym, ap, ap₂, ◌∙◌, subst, inl, inr, ⊎_elim, arith}
 use Rattle.std.proofs.lemmas.Bool.Decides.{eqb_tells}
 use Rattle.ist_core.specs.declared.states.ChangeRow.{ChangeRow}
 use Rattle.ist_core.specs.declared.events.Event.{Event}
 use Rattle.ist_core.specs.declared.events.Event.TheVariants.{Resolve}
 use Rattle.ist_core.specs.declared.events.Who.TheVariants.{Caller}
-use Rattle.ist_core.specs.WordTerms.{ChangeAt, word_of, tag_count, undecided, decided_yes, Change, as_change, SlotHolds}
+use Rattle.ist_core.specs.WordTerms.{ChangeAt, word_of, tag_count, undecided, Change, as_change, SlotHolds}
 use Rattle.ist_core.specs.TreeTerms.{ChangeGrows, place_of_slot, touch_of_resolve}
 use Rattle.ist_core.specs.LogTerms.{side_of, decision_word, Log, Happened, Resolves, state_of, IsShown}
 use Rattle.ist_core.proofs.AllLogLemmas.{grow_between, slot_remains, said_something}
 use Rattle.laws_links.proofs.ChangeLemmas.{unresolved_stands}
 use Rattle.laws_links.proofs.ResolvedLemmas.{resolved_gone}
-use Rattle.ist_rule.specs.RuleTerms.{IsSound, now, Looked, Logged, Exchanged, MayCome, CanExchange, number_of, WentOn}
+use Rattle.ist_rule.specs.RuleTerms.{IsSound, now, Looked, Logged, Exchanged, MayCome, CanExchange, WentOn}
 use Rattle.ist_rule.specs.declared.view.View.{View}
 use Rattle.ist_rule.proofs.LaterLemmas.{later-goes_on}
 use Rattle.ist_dcss.specs.Helping.{MayHelp, Serves, IsDecided, IsOut}
@@ -24,8 +24,7 @@ use Rattle.ist_dcss.proofs.DecideLemmas.{row_after, number_low}
 
 -- an event resolves the change or doesn't
 resolves_now : (base : ℕ) (event : Event) → Resolves base event ⊎ ¬ (Resolves base event)
-resolves_now base (Resolve caller change) =
-    ⊎_elim (λ k. inl k.1) (λ k. inr k.1) (eqb_tells change base)
+resolves_now base (Resolve caller change) = grind (arith, eqb_tells)
 resolves_now base _ = inr (λ e. e)
 
 -- the change was resolved or wasn't
@@ -69,9 +68,7 @@ module _ (v : View) (s : IsSound v) (change number : ℕ) (mine : v.who ≡ Call
   -- what the slot's word is once the change is decided
   side_after : row.decision ≢ undecided → (r : ChangeRow) → ChangeGrows row r
       → side_of r ≡ side_of row
-  side_after set r g = ap (λ d. if d == decided_yes then r.to else r.from) (g.decided set)
-      ∙ ap₂ (λ a b. if row.decision == decided_yes then a else b) (ap (λ x. x.to) g.others)
-      (ap (λ x. x.from) g.others)
+  side_after set r g = grind arith
 
   -- the exchange of the slot may be the Resolve
   pub can_resolve : row.decision ≢ undecided → (place old side : ℕ)
@@ -180,12 +177,8 @@ pub record MayResolve (change number place side : ℕ) (v w : View) : Type 0 whe
 side_by : (v : View) (change side : ℕ) (said : Bool) → IsField v change (outcome_offset_of said) side
     → (row : ChangeRow) → (now v).pieces change ≡ Some (Change row)
     → row.decision ≡ decision_word said → side ≡ side_of row
-side_by v change side true field row there is =
-    field_now v change (outcome_offset_of true) side field (λ r. r.to) (λ r. refl) row there
-    ∙ sym (ap (λ d. if d == decided_yes then row.to else row.from) is)
-side_by v change side false field row there is =
-    field_now v change (outcome_offset_of false) side field (λ r. r.from) (λ r. refl) row there
-    ∙ sym (ap (λ d. if d == decided_yes then row.to else row.from) is)
+side_by v change side true field row there is = grind (arith, field_now)
+side_by v change side false field row there is = grind (arith, field_now)
 
 -- a helper that loaded the slot's place and the word to leave may resolve
 pub may_resolve : (v : View) (change : ℕ) (m : MayHelp v change) (said : Bool)
@@ -226,8 +219,7 @@ may_resolve v change m said d u h place slot w k side offset field offset_is = l
 -- the event that the exchange of a slot names
 pub resolving_is : (v : View) (number change old : ℕ) → v.who ≡ Caller number
     → old ≡ word_of (ChangeAt change) → resolving v (old / tag_count) ≡ Resolve number change
-resolving_is v number change old who is = let number_is : old ≡ change * 8 + 3 = is in
-    let base : old / 8 ≡ change = omega arith in ap₂ Resolve (ap number_of who) base
+resolving_is v number change old who is = grind arith
 
 -- a helper that may resolve
 module _ (v : View) (change number place side : ℕ) (u : View)

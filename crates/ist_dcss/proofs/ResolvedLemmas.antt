@@ -1,13 +1,13 @@
 -- A caller that installs a change and helps it has no change that isn't resolved. Serves
 -- `laws.helped_changes_are_resolved`.
-use Rattle.std.proofs.Common.{◌≡◌, ◌⊎◌, ℕ, List, [], ◌∷◌, Some, refl, sym, ap, ◌∙◌, subst, inl, inr, ⊎_elim, Bool, true, false}
+use Rattle.std.proofs.Common.{◌≡◌, ◌⊎◌, ℕ, List, [], ◌∷◌, Some, refl, sym, ap, ◌∙◌, subst, inl, inr, ⊎_elim, Bool, true, false, arith}
 use Rattle.ist_core.specs.declared.events.Event.{Event}
 use Rattle.ist_core.specs.declared.events.Event.TheVariants.{Install, Reserve, Root, Place, Lose, Okay, Decide}
 use Rattle.ist_core.specs.declared.lists.Row.{Row}
 use Rattle.ist_core.specs.declared.pairs.Pair.{Pair}
 use Rattle.ist_core.specs.declared.states.ChangeRow.{ChangeRow}
 use Rattle.ist_core.specs.declared.events.Who.TheVariants.{Caller}
-use Rattle.ist_core.specs.LogTerms.{no_more, one_more, Later, LaterBy, EachEnabled, state_of, Log, Happened, Resolves, Snapshot, decision_word, same_log, one_event, Okays, Enabled}
+use Rattle.ist_core.specs.LogTerms.{no_more, one_more, LaterBy, EachEnabled, state_of, Log, Happened, Resolves, Snapshot, decision_word, same_log, one_event, Okays, Enabled}
 use Rattle.ist_core.specs.TreeTerms.{AllResolvedOf, ChangeGrows, CanDecide}
 use Rattle.ist_core.specs.WordTerms.{Change, start, undecided, decided_yes, decided_no, IsOpen}
 use Rattle.ist_core.proofs.AllEventLemmas.{sound, sound_start}
@@ -66,9 +66,6 @@ resolved_but_later pairs words number base old _ enabled
 
 module _ (v w x : View) (number base : ℕ) (f : Filling) (mine : v.who ≡ Caller number)
     (all : IsResolved v number) (i : IsInstalled v base f w) (g : WentOn (Serves base) w x) where
-  abbrev u : View
-  u = i.before
-
   abbrev event : Event
   event = Install i.number base (rows_of f base)
 
@@ -89,11 +86,7 @@ module _ (v w x : View) (number base : ℕ) (f : Filling) (mine : v.who ≡ Call
 
   -- all was resolved before the change was installed
   before : AllResolvedOf (state_of w.start w.words i.logged.before) i.logged.before number
-  before = resolved_later w.start w.words number [] v.log i.logged.before enabled.0
-      (later_more (subst (λ y. Later y v.log u.log) mine i.seen.later)
-      (subst (λ y. Later y u.log i.logged.before) (goes_on_who i.seen ∙ mine) i.logged.later))
-      (subst (λ p. AllResolvedOf (state_of p w.words v.log) v.log number) (sym start_is)
-      (subst (λ n. AllResolvedOf (state_of v.start n v.log) v.log number) (sym words_is) all))
+  before = grind (arith, resolved_later, later_more, goes_on_who, start_is, words_is)
 
   -- after it all other changes are resolved
   following : AllResolvedBut w.start w.words w.log number base
@@ -121,8 +114,7 @@ module _ (v w x : View) (number base : ℕ) (f : Filling) (mine : v.who ≡ Call
 pub went_row : (P : Event → Type 0) (change : ℕ) (v w : View) → WentOn P v w → (row : ChangeRow)
     → (now v).pieces change ≡ Some (Change row)
     → (r : ChangeRow) × ((now w).pieces change ≡ Some (Change r)) × ChangeGrows row r
-went_row P change v w h row e =
-    change_there (now v).pieces (now w).pieces (went_grow P v w h) change row e
+went_row P change v w h row e = grind (arith, change_there, went_grow)
 
 -- no step of help changes what its caller holds
 pub serves_keep : (change : ℕ) (event : Event) → Serves change event → KeepsRows event
@@ -162,8 +154,7 @@ module _ (pairs : List Pair) (words : ℕ) where
       → HasFate pairs words log base x → HasFate pairs words (event ∷ log) base x
   fate_kept log event base x (inl e) = inl e
   fate_kept log event base x (inr (inl e)) = inr (inl e)
-  fate_kept log event base x (inr (inr k)) =
-      inr (inr (k.0, seen_on IsNotOpen pairs words log event base k.1))
+  fate_kept log event base x (inr (inr k)) = grind (arith, seen_on)
 
   fate_decided : (log : Log) (caller base : ℕ) (said : Bool)
       → (h : CanDecide (state_of pairs words log) log caller base said)

@@ -1,11 +1,11 @@
 -- A slot that isn't Unset is never Unset again. Serves what an Install of a finish asks.
-use Rattle.std.proofs.Common.{◌≡◌, ◌≢◌, ℕ, ◌⊎◌, ◌==◌, Bool, true, false, if◌then◌else◌, List, ◌∷◌, Some, refl, sym, ◌∙◌, subst, inl, inr, ⊎_elim}
+use Rattle.std.proofs.Common.{◌≡◌, ◌≢◌, ℕ, ◌⊎◌, List, ◌∷◌, Some, refl, sym, ◌∙◌, subst, inl, inr, ⊎_elim, arith}
 use Rattle.ist_core.specs.declared.pairs.Pair.{Pair}
 use Rattle.ist_core.specs.declared.lists.Row.{Row}
 use Rattle.ist_core.specs.declared.states.ChangeRow.{ChangeRow}
 use Rattle.ist_core.specs.declared.events.Event.{Event}
 use Rattle.ist_core.specs.declared.events.Event.TheVariants.{Install, Resolve, Place}
-use Rattle.ist_core.specs.WordTerms.{ChangeAt, word_of, unset_word, decided_yes, Change, start, SlotHolds}
+use Rattle.ist_core.specs.WordTerms.{ChangeAt, word_of, unset_word, Change, start, SlotHolds}
 use Rattle.ist_core.specs.LogTerms.{Snapshot, side_of, Log, GoesOn, same_log, one_event, EachEnabled, state_of}
 use Rattle.ist_core.specs.TreeTerms.{FitsKind, a_put, a_pair, a_remove, a_start, a_finish}
 use Rattle.ist_core.proofs.AllPlaceLemmas.{anchor_free, slot_once, WritesSlot, WritesNoSlot, install_writes, resolve_writes, place_writes, slot_stays}
@@ -19,16 +19,11 @@ HasSides x = (x.from ≢ unset_word) × (x.to ≢ unset_word)
 -- a change of each kind has its sides
 fits_sides : (first : Snapshot) (log : Log) (change : ChangeRow) (fresh : List Row)
     → FitsKind first log change fresh → HasSides change
-fits_sides first log change fresh (a_put h) =
-    (room_set _ change.key change.from h.from, set_by change.to _ h.to (λ q. cc))
-fits_sides first log change fresh (a_pair h) =
-    (set_by change.from _ h.from (λ q. cc), set_by change.to _ h.to (λ q. cc))
-fits_sides first log change fresh (a_remove h) =
-    (set_by change.from _ h.from (λ q. cc), set_by change.to _ h.to (λ q. cc))
-fits_sides first log change fresh (a_start h) =
-    (set_by change.from _ h.from (λ q. cc), set_by change.to _ h.to (λ q. cc))
-fits_sides first log change fresh (a_finish h) =
-    (set_by change.from _ h.from (λ q. cc), (λ e. h.built.set (sym h.to ∙ e)))
+fits_sides first log change fresh (a_put h) = grind (arith, room_set, set_by)
+fits_sides first log change fresh (a_pair h) = grind (arith, set_by)
+fits_sides first log change fresh (a_remove h) = grind (arith, set_by)
+fits_sides first log change fresh (a_start h) = grind (arith, set_by)
+fits_sides first log change fresh (a_finish h) = grind (arith, set_by)
 
 -- each published change has such sides
 sides : (pairs : List Pair) (words : ℕ) (log : Log) → EachEnabled (start pairs words) log
@@ -40,11 +35,7 @@ sides pairs words = changes_by pairs words (λ log base x. HasSides x)
     (λ log caller base said h can was. was)
 
 side_set : (x : ChangeRow) → HasSides x → side_of x ≢ unset_word
-side_set x s = at (x.decision == decided_yes)
-  where
-    at : (b : Bool) → (if b then x.to else x.from) ≢ unset_word
-    at true = s.1
-    at false = s.0
+side_set x s = grind arith
 
 module _ (pairs : List Pair) (words : ℕ) where
   -- what the slot holds after a write of another word

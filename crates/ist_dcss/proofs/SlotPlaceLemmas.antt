@@ -56,9 +56,7 @@ module _ (pairs : List Pair) (words : ℕ) (log : Log) (enabled : EachEnabled (s
     -- the place of slot i of an inner row, among its words
     slot_at : (node i word : ℕ) (r : InnerRow) → t.pieces node ≡ Some (Inner r)
         → place_of_slot t node i ≡ node + (4 + length r.keys + i)
-    slot_at node i word r e = let keys = (has_degree node r e).keys in
-        let same : slot_place node r.degree i ≡ node + (4 + length r.keys + i) = omega arith in
-        place_inner t node i r e (no_anchor node r e) ∙ same
+    slot_at node i word r e = grind (arith, has_degree, place_inner, no_anchor)
 
     -- the anchor's slot lies at its place
     anchor_at : (node i : ℕ) → node ≡ anchor → place_of_slot t node i ≡ anchor_slot_place
@@ -75,10 +73,8 @@ module _ (pairs : List Pair) (words : ℕ) (log : Log) (enabled : EachEnabled (s
     shown_anchor _ _ shown_callers e = absurd (omega arith)
     shown_anchor _ _ shown_status e = absurd (omega arith)
     shown_anchor _ _ shown_slot e = refl
-    shown_anchor _ _ (shown_row base p k there at) e =
-        let low = row_above base p there in absurd (omega arith)
-    shown_anchor _ _ (shown_free far in_it) e =
-        let low = next_after_fixed pairs words log enabled in absurd (omega arith)
+    shown_anchor _ _ (shown_row base p k there at) e = grind (arith, row_above)
+    shown_anchor _ _ (shown_free far in_it) e = grind (arith, next_after_fixed)
 
     -- the word in a slot is shown at its place
     pub slot_shown : (node i word : ℕ) → SlotHolds t node i word
@@ -93,8 +89,7 @@ module _ (pairs : List Pair) (words : ℕ) (log : Log) (enabled : EachEnabled (s
     -- only the slot's word is shown at its place
     pub shown_in_slot : (node i word shown : ℕ) → SlotHolds t node i word
         → IsShown t (place_of_slot t node i) shown → shown ≡ word
-    shown_in_slot node i word shown (in_anchor e f is) s =
-        shown_anchor (place_of_slot t node i) shown s (anchor_at node i e) ∙ is
+    shown_in_slot node i word shown (in_anchor e f is) s = grind (arith, shown_anchor, anchor_at)
     shown_in_slot node i word shown (in_row r e at) s =
         shown_in_row pairs words log enabled node (Inner r) (4 + length r.keys + i) word e
         (get-words_of_slot r i ∙ at) (place_of_slot t node i) shown s (slot_at node i word r e)
@@ -106,9 +101,7 @@ pub slot_place_later : (pairs : List Pair) (words : ℕ) (old log : Log)
     → (node i word : ℕ) → SlotHolds (state_of pairs words old) node i word
     → place_of_slot (state_of pairs words log) node i ≡ place_of_slot (state_of pairs words old)
     node i
-slot_place_later pairs words old log before enabled g node i word (in_anchor e f is) =
-    ap (λ n. place_of_slot (state_of pairs words log) n i) e
-    ∙ sym (ap (λ n. place_of_slot (state_of pairs words old) n i) e)
+slot_place_later pairs words old log before enabled g node i word (in_anchor e f is) = grind arith
 slot_place_later pairs words old log before enabled g node i word (in_row r e at) =
     let t = state_of pairs words old in let u = state_of pairs words log in
     let on = inner_there t.pieces u.pieces g node r e in

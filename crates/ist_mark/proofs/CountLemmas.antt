@@ -1,10 +1,10 @@
 -- Slots that were passed and counted. Serves `finish` and `mark_and_count`.
-use Rattle.std.proofs.Common.{◌≡◌, ℕ, suc, ◌+◌, ◌*◌, ◌≤◌, List, [], ◌∷◌, length, get_or, drop, Option, refl, sym, ap, ap₂, ◌∙◌, subst, add_assoc, arith}
+use Rattle.std.proofs.Common.{◌≡◌, ℕ, suc, ◌+◌, ◌*◌, ◌≤◌, List, [], ◌∷◌, length, get_or, drop, Option, refl, sym, ap, ap₂, subst, add_assoc, arith}
 use Rattle.std.proofs.Math.Seq.{drop-cons}
 use Rattle.ist_core.specs.declared.pairs.Pair.{Pair}
 use Rattle.ist_core.specs.WordTerms.{place_limit, Ref, ref_of, start}
 use Rattle.ist_core.specs.LogTerms.{Snapshot, Log, EachEnabled, CanOpen, state_of}
-use Rattle.ist_core.specs.TreeTerms.{HasTarget, CountsFor, no_key, one_key, of_child, of_target, ArePassed, past_end, one_passed, IsFinishedWith}
+use Rattle.ist_core.specs.TreeTerms.{HasTarget, CountsFor, no_key, one_key, of_child, of_target, ArePassed, past_end, one_passed}
 use Rattle.ist_core.proofs.AllLogLemmas.{passes_agree, finished_once}
 use Rattle.ist_core.proofs.AllWordLemmas.{same_rebuild}
 use Rattle.laws_links.proofs.ContentLemmas.{finished_few}
@@ -15,9 +15,7 @@ use Rattle.ist_mark.specs.Passing.{AreCounted, no_slot_yet, one_slot_more}
 -- two targets of one rebuild are one
 target_once : (t : Snapshot) (rebuild a b : ℕ) → HasTarget t rebuild a → HasTarget t rebuild b
     → a ≡ b
-target_once t rebuild a b f g = sym f.target_is
-    ∙ ap (λ r. r.target) (same_rebuild (t.pieces rebuild) f.row g.row f.published g.published)
-    ∙ g.target_is
+target_once t rebuild a b f g = grind (arith, same_rebuild)
 
 -- a word counts for one number
 counts_once : (t : Snapshot) (o q : Option Ref) (a b : ℕ) → CountsFor t o a → CountsFor t q b
@@ -25,13 +23,10 @@ counts_once : (t : Snapshot) (o q : Option Ref) (a b : ℕ) → CountsFor t o a 
 counts_once t _ _ _ _ no_key no_key e = refl
 counts_once t _ _ _ _ one_key one_key e = refl
 counts_once t _ _ _ _ (of_child {child = child} {k = k} f) (of_child {child = other} {k = n} g) e =
-    let same : child ≡ other = cc in
-    finished_once t child k n f (subst (λ c. IsFinishedWith t c n) (sym same) g)
+    grind (arith, finished_once)
 counts_once t _ _ _ _ (of_target {rebuild = rebuild} {target = target} {k = k} h f)
     (of_target {rebuild = other} {target = more} {k = n} j g) e =
-    let same : rebuild ≡ other = cc in
-    let one = target_once t rebuild target more h (subst (λ r. HasTarget t r more) (sym same) j) in
-    finished_once t target k n f (subst (λ c. IsFinishedWith t c n) (sym one) g)
+    grind (arith, target_once, finished_once)
 counts_once t _ _ _ _ no_key one_key e = absurd (cc)
 counts_once t _ _ _ _ no_key (of_child g) e = absurd (cc)
 counts_once t _ _ _ _ no_key (of_target j g) e = absurd (cc)
@@ -81,8 +76,7 @@ module _ (pairs : List Pair) (words : ℕ) (opens : CanOpen pairs words) (log : 
   -- slots that were counted up to one that others go on from were passed
   counted_on : (node i k rest : ℕ) (slots : List ℕ) → AreCounted t log node i k → i ≤ length slots
       → ArePassed t log node i (drop i slots) rest → ArePassed t log node 0 slots (k + rest)
-  counted_on node _ _ rest slots no_slot_yet inside more =
-      let none : rest ≡ 0 + rest = omega arith in subst (ArePassed t log node 0 slots) none more
+  counted_on node _ _ rest slots no_slot_yet inside more = grind arith
   counted_on node _ _ rest slots
       (one_slot_more {i = i} {k = k} {here = here} word a p c) inside more =
       let next : i + 1 ≡ suc i = omega arith in

@@ -1,5 +1,5 @@
 -- Finishing: when it is allowed, and what is known after it. Serves `finish`.
-use Rattle.std.proofs.Common.{◌≡◌, ◌≢◌, ℕ, ◌+◌, ◌*◌, ◌/◌, ◌≤◌, ◌∷◌, Some, option_map, refl, sym, ap, ◌∙◌, subst, ⊎_elim, arith, ◌^◌, ◌<◌}
+use Rattle.std.proofs.Common.{◌≡◌, ◌≢◌, ℕ, ◌+◌, ◌≤◌, ◌∷◌, Some, option_map, refl, sym, ap, ◌∙◌, subst, ⊎_elim, arith, ◌^◌, ◌<◌}
 use Rattle.std.proofs.lemmas.Bool.Decides.{eqb_tells}
 use Rattle.ist_core.specs.declared.events.Event.{Event}
 use Rattle.ist_core.specs.declared.events.Event.TheVariants.{Finish}
@@ -12,7 +12,7 @@ use Rattle.ist_core.proofs.AllWordLemmas.{changed_at-same}
 use Rattle.ist_core.proofs.AllPlaceLemmas.{shaped}
 use Rattle.laws_links.proofs.FinishedLemmas.{finished_passed}
 use Rattle.laws_links.proofs.ContentLemmas.{finished_few}
-use Rattle.ist_rule.specs.RuleTerms.{IsSound, now, Looked, Logged, Exchanged, CanMake, CanExchange, number_of, WentOn}
+use Rattle.ist_rule.specs.RuleTerms.{IsSound, now, Looked, Logged, Exchanged, CanMake, CanExchange, WentOn}
 use Rattle.ist_rule.specs.declared.view.View.{View}
 use Rattle.ist_rule.proofs.LaterLemmas.{later-goes_on}
 use Rattle.ist_dcss.proofs.FieldLemmas.{looked_row}
@@ -51,13 +51,7 @@ module _ (v : View) (s : IsSound v) (node keys : ℕ) (m : MayFinish v node keys
 
   -- a marked node may be finished
   can : m.row.status ≡ marked_word → CanFinish (now v) v.log m.number node keys
-  can marked = record {
-    known = s.is_true.low m.number m.mine;
-    row = m.row;
-    published = m.published;
-    marked = marked;
-    passed = passed;
-  }
+  can marked = grind (arith, passed)
 
   -- a finished one has this number
   same_number : (k : ℕ) → m.row.status ≡ finished_word k → k ≡ keys
@@ -136,19 +130,12 @@ module _ (v : View) (s : IsSound v) (node keys : ℕ) (m : MayFinish v node keys
     -- the event that the exchange names
     finishing_is : (new : ℕ) → new ≡ finished_word keys
         → finishing v place new ≡ Finish m.number node keys
-    finishing_is new is = let base : place ≡ node = omega arith in
-        let word : new ≡ 4 * keys + 3 = is in let number : new / 4 ≡ keys = omega arith in
-        ap (λ n. Finish n place (new / 4)) (ap number_of m.mine)
-        ∙ ap (λ n. Finish m.number n (new / 4)) base ∙ ap (Finish m.number node) number
+    finishing_is new is = grind arith
 
     -- the exchange of the status may be its Finish
     pub may_finish : (old new : ℕ) → old ≡ marked_word → new ≡ finished_word keys
         → CanExchange v place old new (finishing v place new)
-    may_finish old new old_is new_is =
-        subst (λ n. CanExchange v place n new (finishing v place new)) (sym old_is)
-        (subst (λ (e : Event). CanExchange v place marked_word new e) (sym (finishing_is new new_is))
-        (subst (λ n. CanExchange v place marked_word n (Finish m.number node keys)) (sym new_is)
-        can_finish))
+    may_finish old new old_is new_is = grind (arith, finishing_is, can_finish)
 
     -- after it the node is finished with this number, whoever was first
     pub finish_told : (old new found : ℕ) (w : View) → old ≡ marked_word → new ≡ finished_word keys

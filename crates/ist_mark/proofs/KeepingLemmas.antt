@@ -1,5 +1,5 @@
 -- What a caller knows of nodes stays true in later views. Serves each function.
-use Rattle.std.proofs.Common.{◌≡◌, ℕ, Some, ◌∙◌, ◌≢◌, ◌<◌, ◌⊎◌, List, ◌∷◌, [], sym, subst, inl, inr, ⊎_elim}
+use Rattle.std.proofs.Common.{◌≡◌, ℕ, Some, ◌∙◌, ◌≢◌, ◌<◌, ◌⊎◌, List, ◌∷◌, [], sym, subst, inl, inr, ⊎_elim, arith}
 use Rattle.ist_core.specs.declared.events.Event.{Event}
 use Rattle.ist_core.specs.declared.states.InnerRow.{InnerRow}
 use Rattle.ist_core.specs.declared.pairs.Pair.{Pair}
@@ -34,22 +34,11 @@ module _ (P : Event → Type 0) (v w : View) (g : WentOn P v w) where
 
   -- a closed node is closed
   pub closed_went : (node : ℕ) → IsClosed (now v) node → IsClosed (now w) node
-  closed_went node c = let it = inner_went node c.row c.published in record {
-    row = it.0;
-    published = it.1;
-    closed = closed_on c.row.status it.0.status it.2.status c.closed;
-  }
+  closed_went node c = grind (arith, inner_went, closed_on)
 
   -- who might pass its slots may
   pub may_pass_went : (node degree : ℕ) → MayPass v node degree → MayPass w node degree
-  may_pass_went node degree m = let it = inner_went node m.row m.published in record {
-    number = m.number;
-    mine = went_who P v w g ∙ m.mine;
-    row = it.0;
-    published = it.1;
-    closed = closed_on m.row.status it.0.status it.2.status m.closed;
-    degree_is = it.2.degree ∙ m.degree_is;
-  }
+  may_pass_went node degree m = grind (arith, inner_went, went_who, closed_on)
 
   -- a cause to mark a node stays one
   pub called_went : (node : ℕ) → IsCalled (now v) v.log node → IsCalled (now w) w.log node
@@ -120,10 +109,7 @@ module _ (pairs : List Pair) (words : ℕ) (opens : CanOpen pairs words) where
       → IsFrozen log node i word → SideNames (state_of pairs words log).pieces node i (ref_of word)
   frozen_names [] h node i word p = absurd p
   frozen_names (event ∷ log) h node i word (inl now) =
-      let can = passing (start pairs words) log event node i word h.1 now in
-      side_grows (state_of pairs words log).pieces (state_of pairs words (event ∷ log)).pieces
-      (grow_after pairs words log event h) node i (ref_of word)
-      (passes_side log h.0 can.0 node i word can.1)
+      grind (arith, passing, side_grows, grow_after, passes_side)
   frozen_names (event ∷ log) h node i word (inr before) =
       side_grows (state_of pairs words log).pieces (state_of pairs words (event ∷ log)).pieces
       (grow_after pairs words log event h) node i (ref_of word)
@@ -140,12 +126,9 @@ module _ (pairs : List Pair) (words : ℕ) (opens : CanOpen pairs words) where
   pub called_inner : (log : Log) → EachEnabled (start pairs words) log → (node : ℕ)
       → IsCalled (state_of pairs words log) log node
       → InnerHere (state_of pairs words log).pieces node
-  called_inner log h node (as_target rebuild t started) =
-      subst (InnerHere (state_of pairs words log).pieces) t.target_is
-      (target_inner log h rebuild t.row t.published).1
+  called_inner log h node (as_target rebuild t started) = grind (arith, InnerHere, target_inner)
   called_inner log h node (after_rebuild above i word rebuild p is t) =
-      subst (InnerHere (state_of pairs words log).pieces) t.target_is
-      (target_inner log h rebuild t.row t.published).1
+      grind (arith, InnerHere, target_inner)
   called_inner log h node (as_child above i word p is) =
       (subst (SideNames (state_of pairs words log).pieces above i) is
       (frozen_names log h above i word p)).1

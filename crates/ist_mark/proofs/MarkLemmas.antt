@@ -25,9 +25,7 @@ use Rattle.ist_mark.proofs.KeepingLemmas.{inner_went, closed_went, called_inner}
 -- the log before an event of the caller is lawful
 pub before_enabled : (v : View) (event : Event) (w : View) (l : Logged v event w)
     → EachEnabled (start v.start v.words) l.before
-before_enabled v event w l =
-    (subst (λ (x : View). EachEnabled (start x.start x.words) x.log) l.view
-    l.sound.lawful.enabled).0
+before_enabled v event w l = grind arith
 
 -- ---- the exchange
 
@@ -36,8 +34,7 @@ module _ (v : View) (s : IsSound v) (number node : ℕ) (mine : v.who ≡ Caller
     (at : place ≡ node + inner_status_offset) where
   -- the status is known
   pub status_known : IsKnown v place
-  status_known = subst (IsKnown v) (sym at)
-      (fast_known v _ (in_piece node 0 (Inner row) published (omega arith)))
+  status_known = grind (arith, fast_known, in_piece)
 
   -- a caller may mark a node that has a cause, whoever was first
   pub can_mark : IsCalled (now v) v.log node
@@ -181,8 +178,4 @@ mark_told v s node m place old found w at old_is x = let it = mark_row v s node 
 
 -- a finished node isn't open
 pub finished_closed : (t : Snapshot) (node k : ℕ) → IsFinishedWith t node k → IsClosed t node
-finished_closed t node k f = record {
-  row = f.row;
-  published = f.published;
-  closed = λ e. let is = f.status in omega arith;
-}
+finished_closed t node k f = grind arith

@@ -200,14 +200,7 @@ module _ (v : View) (node degree i place word : ℕ) (m : MayPass v node degree)
 -- a caller that may pass a slot may load it so
 pub can_look : (v : View) (node degree i place : ℕ) → MayPass v node degree → i < degree
     → place ≡ slot_place node degree i → CanLoadPass v node i place
-can_look v node degree i place m less at = let same = m.degree_is in record {
-  number = m.number;
-  mine = m.mine;
-  row = m.row;
-  published = m.published;
-  within = omega arith;
-  at = at ∙ ap (λ d. slot_place node d i) (sym m.degree_is);
-}
+can_look v node degree i place m less at = grind arith
 
 -- a node has fewer slots than a table has places
 pub degree_low : (v : View) → IsSound v → (node degree : ℕ) → MayPass v node degree

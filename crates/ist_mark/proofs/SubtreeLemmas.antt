@@ -1,5 +1,5 @@
 -- The rows of a subtree, and steps of marking it, as callers go on. Serves each function.
-use Rattle.std.proofs.Common.{◌≡◌, ℕ, sym, ap, ◌∙◌, subst}
+use Rattle.std.proofs.Common.{◌≡◌, ℕ, sym, ap, ◌∙◌, subst, arith}
 use Rattle.ist_core.specs.declared.events.Event.{Event}
 use Rattle.ist_core.specs.declared.events.Event.TheVariants.{Reserve, Install, Okay, Decide, Resolve, Mark, Pass, Finish, Root, Place, Lose}
 use Rattle.ist_core.specs.LogTerms.{Log, Passes, Snapshot}
@@ -43,20 +43,11 @@ under_lower t log node child _ top (one_lower {above = above} i word under p lea
 -- a change on a slot of it stays such a change
 on_later : {P : Event → Type 0} (v w : View) → WentOn P v w → (node base : ℕ)
     → IsOnSubtree v node base → IsOnSubtree w node base
-on_later {P = P} v w g node base s = let on = went_row P base v w g s.change s.published in record {
-  change = on.0;
-  published = on.1;
-  under = subst (LiesUnder (now w) w.log node) (sym (ap (λ r. r.node) on.2.others))
-      (under_later v w g node s.change.node s.under);
-}
+on_later {P = P} v w g node base s = grind (arith, went_row, under_later)
 
 on_lower : (v : View) (node child base : ℕ) → LiesUnder (now v) v.log node child
     → IsOnSubtree v child base → IsOnSubtree v node base
-on_lower v node child base top s = record {
-  change = s.change;
-  published = s.published;
-  under = under_lower (now v) v.log node child s.change.node top s.under;
-}
+on_lower v node child base top s = grind (arith, under_lower)
 
 -- ---- steps of marking
 
@@ -78,10 +69,8 @@ marks_lower v node child top (Okay caller base) is = on_lower v node child base 
 marks_lower v node child top (Decide caller base said) is = on_lower v node child base top is
 marks_lower v node child top (Resolve caller base) is = on_lower v node child base top is
 marks_lower v node child top (Mark caller row) is = under_lower (now v) v.log node child row top is
-marks_lower v node child top (Pass caller row i word) is =
-    under_lower (now v) v.log node child row top is
-marks_lower v node child top (Finish caller row keys) is =
-    under_lower (now v) v.log node child row top is
+marks_lower v node child top (Pass caller row i word) is = grind (arith, under_lower)
+marks_lower v node child top (Finish caller row keys) is = grind (arith, under_lower)
 marks_lower v node child top _ is = absurd is
 
 -- steps of help for a change on a slot of it are steps of marking it
@@ -150,17 +139,11 @@ mark_lower node child a b c first under second = record {
 
 -- a caller that did nothing has only marked
 pub mark_same : (node : ℕ) (a : TokenFace) → IsSound a.view → HasMarked node a a
-mark_same node a s = record {
-  went = went_same (Marks a.view node) a.view s;
-  search = keeps_same a.view;
-}
+mark_same node a s = grind (arith, went_same, keeps_same)
 
 -- and so has one that made loads
 pub mark_loads : (node : ℕ) (a b : TokenFace) → GoesOnTo a.view b.view → HasMarked node a b
-mark_loads node a b g = record {
-  went = goes_on_went (Marks b.view node) a.view b.view g;
-  search = goes_on_keeps a.view b.view g;
-}
+mark_loads node a b g = grind (arith, goes_on_went, goes_on_keeps)
 
 -- and one that helped a change which it met in a slot of the node
 pub mark_help : (node base : ℕ) (a b c : TokenFace) → HasMarked node a b → IsMetAt b.view node base

@@ -1,6 +1,6 @@
 -- The child of a key, found at the place where the keys change from at most x to above x, and the
 -- keys on both its sides.
-use Rattle.std.proofs.Common.{◌≡◌, ℕ, zero, suc, ◌+◌, ◌-◌, ◌*◌, ◌<◌, ◌≤◌, ◌∙◌, min, nat_le, nat_lt, cond, Bool, true, false, List, length, get_or, take, ⊎_elim, refl, sym, ap, subst, arith, add-one}
+use Rattle.std.proofs.Common.{◌≡◌, ℕ, zero, suc, ◌+◌, ◌-◌, ◌*◌, ◌<◌, ◌≤◌, ◌∙◌, min, nat_le, nat_lt, cond, true, false, List, length, get_or, take, ⊎_elim, sym, ap, subst, arith, add-one}
 use Rattle.std.proofs.lemmas.Bool.{cases_lt}
 use Rattle.std.proofs.lemmas.Bool.Decides.{nat_tests}
 use Rattle.std.proofs.lemmas.List.{take_all}
@@ -15,8 +15,7 @@ use Rattle.ist_math.proofs.GallopLemmas.{looks-near}
 -- a key m places further on is at least as large
 rises_over : (keys : List ℕ) (k m : ℕ) → IsStrictlyIncreasing keys → k + m < length keys
     → get_or keys k 0 ≤ get_or keys (k + m) 0
-rises_over keys k zero rises h =
-    let e = ap (λ i. get_or keys i 0) (let z : k + 0 ≡ k = omega arith in z) in omega arith
+rises_over keys k zero rises h = grind arith
 rises_over keys k (suc m) rises h =
     let step : get_or keys (k + m) 0 < get_or keys (k + m + 1) 0 = rises (k + m) (omega arith) in
     let e = ap (λ i. get_or keys i 0) (let z : k + suc m ≡ k + m + 1 = omega arith in z) in
@@ -87,8 +86,7 @@ module _ (keys : List ℕ) (rises : IsStrictlyIncreasing keys) (x i : ℕ) (is :
 
     -- the key before the child, if there is one, is at most x
     pub key_before_child : 0 < i → get_or keys (i - 1) 0 ≤ x
-    key_before_child some = ⊎_elim (λ less. absurd (none_above some less)) (λ low. low)
-        (cases_lt x (get_or keys (i - 1) 0))
+    key_before_child some = grind (arith, none_above, cases_lt)
 
     -- the key after the child, if there is one, is above x
     pub key_after_child : i < length keys → x < get_or keys i 0
@@ -112,29 +110,7 @@ pub galloped_on : (keys : List ℕ) (x guess : ℕ) (g next : Gallop) (looks at 
     → next.low ≡ cond (nat_lt x (get_or keys at 0)) g.low at
     → next.high ≡ cond (nat_lt x (get_or keys at 0)) at g.high → Gallops next guess (suc looks)
     → HasGalloped keys x guess next (looks + 1)
-galloped_on keys x guess g next looks at h up down = by (nat_lt x (get_or keys at 0)) refl
-  where
-    by : (above : Bool) → nat_lt x (get_or keys at 0) ≡ above → next.low ≡ cond above g.low at
-        → next.high ≡ cond above at g.high → Gallops next guess (suc looks)
-        → HasGalloped keys x guess next (looks + 1)
-    by true test low high gallops = let over : x < get_or keys at 0 = grind (arith, nat_tests) in
-        let within = h.within in let below = h.below in let same = ap (λ n. get_or keys n 0) low in
-        let here = ap (λ n. get_or keys n 0) high in record {
-          within = omega arith;
-          below = omega arith;
-          above = omega arith;
-          gallops = subst (Gallops next guess) (let e : suc looks ≡ looks + 1 = omega arith in e)
-              gallops;
-        }
-    by false test low high gallops = let under : get_or keys at 0 ≤ x = grind (arith, nat_tests) in
-        let within = h.within in let above = h.above in let same = ap (λ n. get_or keys n 0) high in
-        let here = ap (λ n. get_or keys n 0) low in record {
-          within = omega arith;
-          below = omega arith;
-          above = omega arith;
-          gallops = subst (Gallops next guess) (let e : suc looks ≡ looks + 1 = omega arith in e)
-              gallops;
-        }
+galloped_on keys x guess g next looks at h up down = grind (arith, nat_tests)
 
 -- the end of a gallop is the child
 pub galloped_to : (keys : List ℕ) (x guess : ℕ) (g : Gallop) (looks : ℕ)

@@ -1,5 +1,5 @@
 -- How a gallop goes on, and how many looks it makes. Serves `gallops` and `laws`.
-use Rattle.std.proofs.Common.{◌≡◌, ℕ, zero, suc, ◌+◌, ◌-◌, ◌*◌, ◌/◌, ◌^◌, ◌<◌, ◌≤◌, Bool, true, false, cond, not, ◌&&◌, nat_lt, ⊎_elim, refl, sym, subst, arith, nat_le, mul-le-mul_right}
+use Rattle.std.proofs.Common.{◌≡◌, ℕ, zero, suc, ◌+◌, ◌-◌, ◌*◌, ◌/◌, ◌^◌, ◌<◌, ◌≤◌, Bool, true, false, cond, not, arith, mul-le-mul_right}
 use Rattle.std.proofs.lemmas.Bool.{cases_lt}
 use Rattle.std.proofs.lemmas.Bool.Decides.{nat_tests}
 use Rattle.std.proofs.lemmas.Nat.{pow_pos, pow_below, div_below}
@@ -77,31 +77,11 @@ module _ (low high step guess looks : ℕ) (less : step < high - low) where
   -- a step that passed the key has as much before it as it is long
   passed_down : Gallops (gallop low high step true) guess looks
       → Gallops (gallop (high - step) high step true) guess (suc looks)
-  passed_down h = let away = h.away less in let is = away.0 in let count = away.1 in
-      let far = h.far in let steps = h.steps in let side : high ≤ guess = h.side in record {
-        doublings = h.doublings;
-        halvings = h.doublings;
-        some = omega arith;
-        steps = steps;
-        side = side;
-        far = omega arith;
-        away = λ more. absurd (omega arith);
-        near = λ _. (omega arith, omega arith);
-      }
+  passed_down h = grind arith
 
   passed_up : Gallops (gallop low high step false) guess looks
       → Gallops (gallop low (low + step) step false) guess (suc looks)
-  passed_up h = let away = h.away less in let is = away.0 in let count = away.1 in
-      let far = h.far in let steps = h.steps in let side : guess ≤ low = h.side in record {
-        doublings = h.doublings;
-        halvings = h.doublings;
-        some = omega arith;
-        steps = steps;
-        side = side;
-        far = omega arith;
-        away = λ more. absurd (omega arith);
-        near = λ _. (omega arith, omega arith);
-      }
+  passed_up h = grind arith
 
 -- a step to a key that is above the one that is sought, and to one that isn't
 step_above : (down : Bool) (low high step guess looks : ℕ) → step < high - low
@@ -120,45 +100,21 @@ step_below false low high step guess looks less h = goes_up low high step guess 
 
 module _ (g : Gallop) (guess looks : ℕ) (h : Gallops g guess looks) (between : g.low + 1 < g.high) where
   told_above : Gallops (gallop g.low (probe_of g) (next_step_of g g.down) g.down) guess (suc looks)
-  told_above = at (nat_lt g.step (width g)) refl
-    where
-      at : (t : Bool) → nat_lt g.step (width g) ≡ t
-          → Gallops (gallop g.low
-          (cond t (cond g.down (g.high - g.step) (g.low + g.step)) (g.low + width g / 2))
-          (cond (t && g.down) (2 * g.step) g.step) g.down) guess (suc looks)
-      at true e = let less : g.step < width g = grind (arith, nat_tests) in
-          step_above g.down g.low g.high g.step guess looks less h
-      at false e = let over : width g ≤ g.step = grind (arith, nat_tests) in
-          halved g guess looks g.low (g.low + width g / 2) h over between (omega arith)
-          (omega arith) (omega arith) (omega arith)
+  told_above = grind (arith, nat_tests, step_above, halved)
 
   told_below : Gallops (gallop (probe_of g) g.high (next_step_of g (not g.down)) g.down) guess
       (suc looks)
-  told_below = at (nat_lt g.step (width g)) refl
-    where
-      at : (t : Bool) → nat_lt g.step (width g) ≡ t
-          → Gallops (gallop
-          (cond t (cond g.down (g.high - g.step) (g.low + g.step)) (g.low + width g / 2)) g.high
-          (cond (t && not g.down) (2 * g.step) g.step) g.down) guess (suc looks)
-      at true e = let less : g.step < width g = grind (arith, nat_tests) in
-          step_below g.down g.low g.high g.step guess looks less h
-      at false e = let over : width g ≤ g.step = grind (arith, nat_tests) in
-          halved g guess looks (g.low + width g / 2) g.high h over between (omega arith)
-          (omega arith) (omega arith) (omega arith)
+  told_below = grind (arith, nat_tests, step_below, halved)
 
   -- what a look shows: the key at the probe is above the one that is sought
   pub goes_above : (at step : ℕ) → at ≡ probe_of g → step ≡ next_step_of g g.down
       → Gallops (gallop g.low at step g.down) guess (suc looks)
-  goes_above at step e f =
-      subst (λ n. Gallops (gallop g.low n step g.down) guess (suc looks)) (sym e)
-      (subst (λ n. Gallops (gallop g.low (probe_of g) n g.down) guess (suc looks)) (sym f) told_above)
+  goes_above at step e f = grind (arith, told_above)
 
   -- what a look shows: the key at the probe is at most the one that is sought
   pub goes_below : (at step : ℕ) → at ≡ probe_of g → step ≡ next_step_of g (not g.down)
       → Gallops (gallop at g.high step g.down) guess (suc looks)
-  goes_below at step e f =
-      subst (λ n. Gallops (gallop n g.high step g.down) guess (suc looks)) (sym e)
-      (subst (λ n. Gallops (gallop (probe_of g) g.high n g.down) guess (suc looks)) (sym f) told_below)
+  goes_below at step e f = grind (arith, told_below)
 
 -- ---- how many looks
 
@@ -171,28 +127,22 @@ twice-le_pow (suc (suc n)) = let so_far = twice-le_pow (suc n) in let double = p
 
 -- a power that is at most another has no larger exponent
 exponent-le : (i k : ℕ) → 2 ^ i ≤ 2 ^ k → i ≤ k
-exponent-le i k h = ⊎_elim (λ (less : k < i). let over = pow_below k i less in absurd (omega arith))
-    (λ (low : i ≤ k). low) (cases_lt k i)
+exponent-le i k h = grind (arith, pow_below, cases_lt)
 
 -- twice the doublings, and two more
 looks-doublings : (g : Gallop) (guess looks : ℕ) (h : Gallops g guess looks)
     → looks ≤ 2 * h.doublings + 2
-looks-doublings g guess looks h =
-    ⊎_elim (λ (less : g.step < width g). let count = (h.away less).1 in omega arith)
-    (λ (over : width g ≤ g.step). let few = (h.near over).1 in omega arith)
-    (cases_lt g.step (width g))
+looks-doublings g guess looks h = grind (arith, cases_lt)
 
 -- at most three more than the guess lies off
 pub looks-near : (g : Gallop) (guess looks : ℕ) → Gallops g guess looks
     → looks ≤ least_distance g guess + 3
-looks-near g guess looks h = let most = looks-doublings g guess looks h in
-    let twice = twice-le_pow h.doublings in let far = h.far in omega arith
+looks-near g guess looks h = grind (arith, looks-doublings, twice-le_pow)
 
 -- at most two for each bit of it, and two
 looks-far : (g : Gallop) (guess looks : ℕ) → Gallops g guess looks → (k : ℕ)
     → least_distance g guess < 2 ^ k → looks ≤ 2 * k + 2
-looks-far g guess looks h k less = let most = looks-doublings g guess looks h in let far = h.far in
-    let few = exponent-le h.doublings k (omega arith) in omega arith
+looks-far g guess looks h k less = grind (arith, looks-doublings, exponent-le)
 
 -- a gallop that has ended made at most three looks more than the distance from its guess to the
 -- child
@@ -213,30 +163,13 @@ share-le part whole k h = div-le_of_le-mul whole (mul-le-mul_right k h)
 
 -- the guess is at most the number of keys
 pub guess_of-le : (first last m x : ℕ) → 1 ≤ m → guess_of first last m x ≤ m
-guess_of-le first last m x h = at (nat_lt x first) (nat_le last x) refl refl
-  where
-    at : (a b : Bool) → nat_lt x first ≡ a → nat_le last x ≡ b
-        → cond a 0 (cond b m (1 + (x - first) * (m - 1) / (last - first))) ≤ m
-    at true b e f = omega arith
-    at false true e f = omega arith
-    at false false e f = let l : x < last = grind (arith, nat_tests) in
-        let k = share-le (x - first) (last - first) (m - 1) (omega arith) in omega arith
+guess_of-le first last m x h = grind (arith, nat_tests, share-le)
 
 -- a share of k is less than k, if the part is less than the whole
 share-lt : (part whole k : ℕ) → part < whole → 0 < k → part * k / whole < k
-share-lt part whole k h some = let less = mul-lt-mul_of_pos_right h some in
-    let turned = mul_comm whole k in div_below (part * k) whole k (omega arith) (omega arith)
+share-lt part whole k h some = grind (arith, mul-lt-mul_of_pos_right, mul_comm, div_below)
 
 -- between the end keys it is one of them, and not the first
 pub guess_of-between : (first last m x : ℕ) → 2 ≤ m → first ≤ x → x < last
     → (1 ≤ guess_of first last m x) × (guess_of first last m x < m)
-guess_of-between first last m x some low less = at (nat_lt x first) (nat_le last x) refl refl
-  where
-    at : (a b : Bool) → nat_lt x first ≡ a → nat_le last x ≡ b
-        → let n = cond a 0 (cond b m (1 + (x - first) * (m - 1) / (last - first))) in
-        (1 ≤ n) × (n < m)
-    at true b e f = let under : x < first = grind (arith, nat_tests) in absurd (omega arith)
-    at false true e f = let over : last ≤ x = grind (arith, nat_tests) in absurd (omega arith)
-    at false false e f =
-        let share = share-lt (x - first) (last - first) (m - 1) (omega arith) (omega arith) in
-        (omega arith, omega arith)
+guess_of-between first last m x some low less = grind (arith, nat_tests, share-lt)

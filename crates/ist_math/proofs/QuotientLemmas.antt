@@ -54,9 +54,7 @@ low_quotient-le rest divisor shift = by (2 ^ shift) (pow_pos shift)
 -- this quotient isn't 0, since the divisor has 64 bits, and fewer are at the places of the first
 pub low_quotient-pos : (rest divisor shift : ℕ) → IsFirst rest shift → divisor < 2 ^ 64
     → 1 ≤ low_quotient_of rest divisor shift
-low_quotient-pos rest divisor shift h fits = let low = div-le_self (divisor / 2) (2 ^ shift) in
-    let high = h.high in
-    le-div 1 (first_of rest shift) (first_of divisor shift + 1) (omega arith) (omega arith)
+low_quotient-pos rest divisor shift h fits = grind (arith, div-le_self, le-div)
 
 -- what is left holds the divisor as often as the quotient so far is too low
 pub rest_quotient : (product quotient divisor rest : ℕ) → 0 < divisor

@@ -1,5 +1,5 @@
 -- Two trees, one with one key more than the other: their parts have the same two sizes.
-use Rattle.std.proofs.Common.{◌≡◌, ◌∙◌, ℕ, ◌+◌, ◌-◌, ◌*◌, ◌/◌, ◌%◌, ◌<◌, ◌≤◌, min, ⊎_elim, sym, ap, subst, arith, mul-le-mul_left}
+use Rattle.std.proofs.Common.{◌≡◌, ◌∙◌, ℕ, ◌+◌, ◌-◌, ◌*◌, ◌/◌, ◌<◌, ◌≤◌, min, ⊎_elim, sym, ap, subst, arith}
 use Rattle.std.proofs.lemmas.Bool.{cases_lt}
 use Rattle.ist_core.specs.WordTerms.{degree, ideal_words}
 use Rattle.ist_core.proofs.AllWordLemmas.{least_degree-le, degree_next, mixed_words, ideal_words_by_two}
@@ -13,56 +13,16 @@ pub record FitsBoth (n d e s : ℕ) : Type 0 where
 
 -- a quotient, by the two products around the whole
 quotient_is : (n d q : ℕ) → 0 < d → d * q ≤ n → n < d * (q + 1) → n / d ≡ q
-quotient_is n d q h k l = by (n / d) (n % d) (omega arith) (omega arith)
-  where
-    by : (p r : ℕ) → d * p + r ≡ n → r < d → p ≡ q
-    by p r e f = ⊎_elim
-        (λ (y : p < q).
-        let o = mul-le-mul_left d (let x : p + 1 ≤ q = omega arith in x) in
-        absurd (omega arith))
-        (λ (y : q ≤ p).
-        ⊎_elim
-        (λ (z : q < p).
-        let o = mul-le-mul_left d (let x : q + 1 ≤ p = omega arith in x) in
-        absurd (omega arith))
-        (λ (z : p ≤ q). omega arith) (cases_lt q p))
-        (cases_lt p q)
+quotient_is n d q h k l = grind (arith, cases_lt)
 
 -- the same degree: the smaller tree has the shorter parts
 fits_same : (n d s : ℕ) → 2 ≤ d → s ≡ min (n / d) ((n + 1) / d) → FitsBoth n d d s
-fits_same n d s h e = by (n / d) ((n + 1) / d) (n % d) ((n + 1) % d) e
-    (omega arith) (omega arith) (omega arith) (omega arith)
-  where
-    by : (p q r t : ℕ) → s ≡ min p q → d * p + r ≡ n → r < d → d * q + t ≡ n + 1 → t < d
-        → FitsBoth n d d s
-    by p q r t e a b x y =
-        let low : p ≤ q = ⊎_elim
-        (λ (z : q < p).
-        let o = mul-le-mul_left d (let u : q + 1 ≤ p = omega arith in u) in
-        absurd (omega arith))
-        (λ (z : p ≤ q). z) (cases_lt q p) in
-        let is : s ≡ p = omega arith in let product = ap (λ k. d * k) is in record {
-          enough = omega arith;
-          near = omega arith;
-          enough_next = omega arith;
-          near_next = omega arith;
-        }
+fits_same n d s h e = grind (arith, cases_lt)
 
 -- the next degree: the larger tree is a square, and the smaller one has parts of one key more
 fits_next : (n d e s : ℕ) → 2 ≤ d → s ≡ min (n / d) ((n + 1) / e) → e ≡ d + 1
     → n + 1 ≡ (d + 1) * (d + 1) → FitsBoth n d e s
-fits_next n d e s h m k l = let square = ap (λ c. c * (d + 1)) k in
-    let above = ap (λ c. c * (d + 1 + 1)) k in
-    let first : n / d ≡ d + 2 = quotient_is n d (d + 2) (omega arith) (omega arith) (omega arith) in
-    let second : (n + 1) / e ≡ d + 1 =
-    quotient_is (n + 1) e (d + 1) (omega arith) (omega arith) (omega arith) in
-    let is : s ≡ d + 1 = omega arith in let p = ap (λ c. d * c) is in let q = ap (λ c. e * c) is in
-    record {
-      enough = omega arith;
-      near = omega arith;
-      enough_next = omega arith;
-      near_next = omega arith;
-    }
+fits_next n d e s h m k l = grind (arith, quotient_is)
 
 -- the shortest part of either tree fits both
 pub shortest_fits : (n d e s : ℕ) → 2 ≤ n → d ≡ degree n → e ≡ degree (n + 1)
@@ -87,10 +47,4 @@ pub words_from_both : (n d s first second : ℕ) → 2 ≤ n → d ≡ degree n 
     → second ≡ ideal_words (s + 1) → degree n * s ≤ n → n ≤ degree n * (s + 1)
     → 2 * d + 3 + ((n - d * s) * second + (d - (n - d * s)) * first) ≡ ideal_words n
 unfolding mixed_words
-words_from_both n d s first second h e f g k l =
-    ap (λ c. 2 * c + 3 + ((n - c * s) * second + (c - (n - c * s)) * first)) e
-    ∙ ap (λ a. 2 * degree n + 3 + ((n - degree n * s) * second
-    + (degree n - (n - degree n * s)) * a)) f
-    ∙ ap (λ a. 2 * degree n + 3 + ((n - degree n * s) * a
-    + (degree n - (n - degree n * s)) * ideal_words s)) g
-    ∙ sym (ideal_words_by_two n s h k l)
+words_from_both n d s first second h e f g k l = grind (arith, ideal_words_by_two)

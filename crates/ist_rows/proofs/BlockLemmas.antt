@@ -1,6 +1,6 @@
 -- All next rows of a build at one step: they may be reserved so, and the caller has them then. Serves
 -- `reserve_block` and the crates above.
-use Rattle.std.proofs.Common.{◌≡◌, ℕ, ◌+◌, ◌<◌, ◌≤◌, List, [], ◌∷◌, ◌++◌, length, Option, Some, None, IfSome, refl, sym, ap, ap₂, ◌∙◌, subst, append_assoc, append-nil, inl, arith}
+use Rattle.std.proofs.Common.{◌≡◌, ℕ, ◌+◌, ◌<◌, ◌≤◌, List, [], ◌∷◌, ◌++◌, length, Option, Some, None, IfSome, refl, sym, ap, ◌∙◌, subst, append_assoc, append-nil, inl, arith}
 use Rattle.std.specs.List.{sum}
 use Rattle.std.proofs.lemmas.List.Sums.{sum_by-cons}
 use Rattle.ist_core.specs.declared.pairs.Pair.{Pair}
@@ -33,8 +33,7 @@ module _ (pairs : List Pair) (words number : ℕ) (own : Spares) (stuck rest : L
       → (base : ℕ) → base ≡ (state_of pairs words log).next
       → base + sum sizes ≤ (state_of pairs words log).words
       → ComeAt pairs words log (reservings number base sizes) next_place base (base + sum sizes)
-  come_all log enabled low c done [] h base is room =
-      let same : base ≡ base + 0 = omega arith in same
+  come_all log enabled low c done [] h base is room = grind arith
   come_all log enabled low c done (size ∷ more) h base is room =
       let all : sum (size ∷ more) ≡ size + sum more = sum_by-cons (λ x. x) size more in
       let builds = next_fair pairs words log enabled number own stuck done (more ++ rest) size c h in
@@ -191,21 +190,7 @@ pub record TookAll (v : View) (number base : ℕ) (sizes : List ℕ) (w : View) 
 -- a token that reserved these rows has such a log
 pub took_all : (v : View) (number base : ℕ) (sizes : List ℕ) (w : View)
     → ReservedAll v number base sizes w → TookAll v number base sizes w
-took_all v number base sizes w r = let l = r.reserved in
-    let log = with_events (reservings number base sizes) l.before in
-    let start_is : w.start ≡ v.start = ap (λ x. x.start) l.view ∙ ap (λ x. x.start) r.seen.same in
-    let words_is : w.words ≡ v.words = ap (λ x. x.words) l.view ∙ ap (λ x. x.words) r.seen.same in
-    let log_is : w.log ≡ log = ap (λ x. x.log) l.view in record {
-      before = l.before;
-      lawful = subst (λ p. Lawful p v.words log) start_is
-          (subst (λ n. Lawful w.start n log) words_is
-          (subst (Lawful w.start w.words) log_is l.sound.lawful));
-      later = later_more r.seen.later (subst (λ x. Later x r.before.log l.before)
-          (goes_on_who r.seen) l.later);
-      now_is = ap₂ (λ p n. state_of p n w.log) start_is words_is ∙ ap (state_of v.start v.words)
-          log_is;
-      who_is = ap (λ x. x.who) l.view ∙ goes_on_who r.seen;
-    }
+took_all v number base sizes w r = grind (arith, later_more, goes_on_who)
 
 module _ (who : Caller) (token : TokenFace) (base : ℕ) (sizes : List ℕ) (c : IsCaller who)
     (r : ReservedAll who.token.view who.number base sizes token.view) where
@@ -219,11 +204,7 @@ module _ (who : Caller) (token : TokenFace) (base : ℕ) (sizes : List ℕ) (c :
   later = subst (λ x. Later x v.log it.before) c.mine it.later
 
   before : Lawful v.start v.words it.before
-  before = record {
-    opens = it.lawful.opens;
-    enabled = enabled_before (start v.start v.words) (reservings who.number base sizes) it.before
-        it.lawful.enabled;
-  }
+  before = grind (arith, enabled_before)
 
   both : (stuck done rest : List ℕ) → IsInBuild who stuck done (sizes ++ rest)
       → IsCallerIn (now token.view) who.number (spares_of who)
@@ -251,8 +232,7 @@ module _ (who : Caller) (token : TokenFace) (base : ℕ) (sizes : List ℕ) (c :
 
   -- the caller holds the rows
   pub holds_them : HoldsBlock (now token.view) who.number base sizes
-  holds_them = subst (λ t. HoldsBlock t who.number base sizes) (sym it.now_is)
-      (holds_all v.start v.words who.number it.before sizes base)
+  holds_them = grind (arith, holds_all)
 
 -- ---- what a reserving of all returns
 

@@ -87,8 +87,7 @@ pub at_storing : (who : Caller) (place word : ℕ) (stuck done rest : List ℕ)
     → IsInBuild who stuck done rest
     → IsInBuild (record who { token = record who.token { view = storing who.token.view place word } })
     stuck done rest
-at_storing who place word stuck done rest h =
-    record { sizes = h.sizes; all_stuck = h.all_stuck; building = h.building }
+at_storing who place word stuck done rest h = grind arith
 
 -- a caller whose build was refused has only refused builds
 pub refused : (who : Caller) (token : TokenFace) (words size : ℕ) (full : Full) → IsCaller who

@@ -1,6 +1,6 @@
 -- Stuck builds, and a caller in a build: it may take the next row, and has it then. Serves
 -- `reserve_inner` and the crates above.
-use Rattle.std.proofs.Common.{◌≡◌, ℕ, ◌==◌, not, Bool, true, false, if◌then◌else◌, List, [], ◌∷◌, ◌++◌, map, filter, refl, sym, ap, ◌∙◌, subst, append_assoc, append-nil, arith}
+use Rattle.std.proofs.Common.{◌≡◌, ℕ, Bool, true, false, List, [], ◌∷◌, ◌++◌, refl, sym, ap, ◌∙◌, subst, append_assoc, append-nil, arith}
 use Rattle.std.proofs.lemmas.List.{map-append}
 use Rattle.std.proofs.lemmas.List.Elements.{filter-append}
 use Rattle.ist_core.specs.declared.pairs.Pair.{Pair}
@@ -59,14 +59,7 @@ pub at_later : (pairs : List Pair) (words : ℕ) (old log : Log) (number : ℕ) 
     → IsInBuildIn (state_of pairs words old) number own stuck done rest
     → IsInBuildIn (state_of pairs words log) number own stuck done rest
 at_later pairs words old log number own stuck done rest lawful l h =
-    let b = comes_after pairs words number old log lawful l in let t = state_of pairs words old in
-    let u = state_of pairs words log in record {
-      sizes = ap (λ held. map (λ (h : HeldRow). h.size)
-          (filter (λ h. not (is_spare own h.base)) held))
-          (held_by_later pairs words number old log lawful.enabled l) ∙ h.sizes;
-      all_stuck = all_stuck_on t u b stuck h.all_stuck;
-      building = building_on t u b (done ++ rest) h.building;
-    }
+    grind (arith, comes_after, held_by_later, all_stuck_on, building_on)
 
 -- the next row is fair
 pub next_fair : (pairs : List Pair) (words : ℕ) (log : Log) → EachEnabled (start pairs words) log
@@ -113,15 +106,10 @@ module _ (pairs : List Pair) (words : ℕ) (log : Log) (number : ℕ) (own : Spa
   new_row = record { caller = number; base = base; size = size }
 
   following : ComesAfter t u
-  following = let at_next = enabled.1.base_is in record {
-    words = refl;
-    next = omega arith;
-    grow = all_grow_same t.pieces;
-  }
+  following = grind (arith, all_grow_same)
 
   held_now : held_by u number ≡ held_by t number ++ new_row ∷ []
-  held_now = filter-append (λ (h : HeldRow). h.caller == number) t.held (new_row ∷ [])
-      ∙ ap (λ b. held_by t number ++ (if b then new_row ∷ [] else [])) (base_same number)
+  held_now = grind (arith, filter-append, base_same)
 
   -- the new row is no spare one: it lies above all that is held
   new_base : is_spare own base ≡ false
@@ -135,24 +123,11 @@ module _ (pairs : List Pair) (words : ℕ) (log : Log) (number : ℕ) (own : Spa
           let at_next = enabled.1.base_is in absurd (omega arith)
 
   sizes_now : build_sizes u number own ≡ build_sizes t number own ++ size ∷ []
-  sizes_now =
-      ap (λ held. map (λ (h : HeldRow). h.size)
-      (filter (λ h. not (is_spare own h.base)) held)) held_now
-      ∙ ap (map (λ (h : HeldRow). h.size))
-      (filter-append (λ (h : HeldRow). not (is_spare own h.base)) (held_by t number) (new_row ∷ [])
-      ∙ ap (λ b. filter (λ (h : HeldRow). not (is_spare own h.base)) (held_by t number)
-      ++ (if not b then new_row ∷ [] else [])) new_base)
-      ∙ map-append (λ (h : HeldRow). h.size)
-      (filter (λ (h : HeldRow). not (is_spare own h.base)) (held_by t number)) (new_row ∷ [])
+  sizes_now = grind (arith, held_now, filter-append, new_base, map-append)
 
   -- the caller is still a caller, if what it holds then are builds
   pub taken_inner : AreBuilds t (build_sizes t number own ++ size ∷ []) → IsCallerIn u number own
-  taken_inner builds = record {
-    rows = λ kind b e. among_left record { caller = number; base = b; size = kind_words kind }
-        t.held (new_row ∷ []) (c.rows kind b e);
-    builds = builds_on t u following (build_sizes u number own)
-        (subst (AreBuilds t) (sym sizes_now) builds);
-  }
+  taken_inner builds = grind (arith, among_left, builds_on, following, sizes_now)
 
   -- the caller is at the row after that one
   pub taken_at : (stuck done rest : List ℕ) → IsInBuildIn t number own stuck done (size ∷ rest)

@@ -10,7 +10,7 @@ use Rattle.ist_core.specs.declared.ports.Full.{Full}
 use Rattle.ist_core.specs.declared.events.Event.TheVariants.{Reserve}
 use Rattle.ist_core.specs.declared.events.Who.TheVariants.{Caller as CallerOf}
 use Rattle.ist_core.specs.WordTerms.{place_limit, start}
-use Rattle.ist_core.specs.LogTerms.{Among, Snapshot, HoldsRow, AreBuilds, Log, EachEnabled, Lawful, state_of, Later}
+use Rattle.ist_core.specs.LogTerms.{Among, Snapshot, Log, EachEnabled, Lawful, state_of, Later}
 use Rattle.ist_core.proofs.AllWordLemmas.{among-filter, among_left, among_right}
 use Rattle.ist_core.proofs.AllEventLemmas.{sound, sound_start}
 use Rattle.ist_core.proofs.AllLogLemmas.{next_within, words_same, all_grow_same}
@@ -19,7 +19,7 @@ use Rattle.ist_rule.specs.declared.view.View.{View}
 use Rattle.ist_rule.proofs.ShownLemmas.{held_loose}
 use Rattle.ist_rule.proofs.EventLemmas.{goes_on_who}
 use Rattle.ist_rule.proofs.WentOnLemmas.{goes_on_now}
-use Rattle.ist_rows.specs.RowTerms.{Caller, Kind, Leaf, Pair as PairKind, Change, Rebuild, kind_words, Spares, spares_of, row_of, with_spare, is_base, is_spare, held_by, build_sizes, IsCaller, Reserved, IsFull, HoldsPlace}
+use Rattle.ist_rows.specs.RowTerms.{Caller, Kind, Leaf, Pair as PairKind, Change, Rebuild, kind_words, Spares, spares_of, row_of, with_spare, is_spare, held_by, build_sizes, IsCaller, Reserved, IsFull, HoldsPlace}
 use Rattle.ist_rows.proofs.ReserveLemmas.{ComesAfter, builds_on, took}
 use Rattle.ist_rows.proofs.CallerLemmas.{IsCallerIn, caller_later}
 use Rattle.ist_rows.proofs.ShortLemmas.{short_goes_on}
@@ -55,38 +55,17 @@ or_any false = refl
 -- another row is as spare as it was
 pub spare_else : (own : Spares) (kind : Kind) (base x : ℕ) → row_of kind own ≡ None → base ≢ x
     → is_spare (with_spare kind base own) x ≡ is_spare own x
-spare_else own Leaf base x none ne =
-    ap (λ a. a || (is_base own.pair x || (is_base own.change x || is_base own.rebuild x)))
-    (ne_eqb base x ne ∙ sym (ap (λ o. is_base o x) none))
-spare_else own PairKind base x none ne =
-    ap (λ a. is_base own.leaf x || (a || (is_base own.change x || is_base own.rebuild x)))
-    (ne_eqb base x ne ∙ sym (ap (λ o. is_base o x) none))
-spare_else own Change base x none ne =
-    ap (λ a. is_base own.leaf x || (is_base own.pair x || (a || is_base own.rebuild x)))
-    (ne_eqb base x ne ∙ sym (ap (λ o. is_base o x) none))
-spare_else own Rebuild base x none ne =
-    ap (λ a. is_base own.leaf x || (is_base own.pair x || (is_base own.change x || a)))
-    (ne_eqb base x ne ∙ sym (ap (λ o. is_base o x) none))
+spare_else own Leaf base x none ne = grind (arith, ne_eqb)
+spare_else own PairKind base x none ne = grind (arith, ne_eqb)
+spare_else own Change base x none ne = grind (arith, ne_eqb)
+spare_else own Rebuild base x none ne = grind (arith, ne_eqb)
 
 -- the new row is spare
 pub spare_here : (own : Spares) (kind : Kind) (base : ℕ) → is_spare (with_spare kind base own) base ≡ true
-spare_here own Leaf base = ap (λ a. a ||
-    (is_base own.pair base || (is_base own.change base || is_base own.rebuild base)))
-    (base_same base)
-spare_here own PairKind base =
-    ap (λ a. is_base own.leaf base || (a || (is_base own.change base || is_base own.rebuild base)))
-    (base_same base) ∙ or_any (is_base own.leaf base)
-spare_here own Change base =
-    ap (λ a. is_base own.leaf base || (is_base own.pair base || (a || is_base own.rebuild base)))
-    (base_same base)
-    ∙ ap (λ a. is_base own.leaf base || a) (or_any (is_base own.pair base)) ∙ or_any
-    (is_base own.leaf base)
-spare_here own Rebuild base =
-    ap (λ a. is_base own.leaf base || (is_base own.pair base || (is_base own.change base || a)))
-    (base_same base) ∙ ap (λ a. is_base own.leaf base || (is_base own.pair base || a))
-    (or_any (is_base own.change base))
-    ∙ ap (λ a. is_base own.leaf base || a) (or_any (is_base own.pair base)) ∙ or_any
-    (is_base own.leaf base)
+spare_here own Leaf base = grind (arith, base_same)
+spare_here own PairKind base = grind (arith, base_same, or_any)
+spare_here own Change base = grind (arith, base_same, or_any)
+spare_here own Rebuild base = grind (arith, base_same, or_any)
 
 -- filters whose tests agree on each element
 pub filter_same : {A : Type 0} (p q : A → Bool) (xs : List A) → ((x : A) → Among x xs → p x ≡ q x)
@@ -120,8 +99,7 @@ module _ (pairs : List Pair) (words : ℕ) (log : Log) (number : ℕ) (own : Spa
   new_row = record { caller = number; base = base; size = kind_words kind }
 
   held_now : held_by u number ≡ held_by t number ++ new_row ∷ []
-  held_now = filter-append (λ (h : HeldRow). h.caller == number) t.held (new_row ∷ [])
-      ∙ ap (λ b. held_by t number ++ (if b then new_row ∷ [] else [])) (base_same number)
+  held_now = grind (arith, filter-append, base_same)
 
   old_base : (h : HeldRow) → Among h (held_by t number) → base ≢ h.base
   old_base h i same = let it = among-filter (λ (x : HeldRow). x.caller == number) h t.held i in
@@ -145,28 +123,12 @@ module _ (pairs : List Pair) (words : ℕ) (log : Log) (number : ℕ) (own : Spa
       ∙ append-nil (filter (λ (h : HeldRow). not (is_spare own h.base)) (held_by t number)))
 
   following : ComesAfter t u
-  following = let at_next = enabled.1.base_is in record {
-    words = refl;
-    next = omega arith;
-    grow = all_grow_same t.pieces;
-  }
+  following = grind (arith, all_grow_same)
 
   -- a caller that reserved a row is a caller with that row
   pub taken_caller : IsCallerIn t number own → IsCallerIn u number (with_spare kind base own)
-  taken_caller c = record {
-    rows = λ other b e. ⊎_elim
-        (λ k. subst (λ x. HoldsRow u number x (kind_words other)) k.1
-        (subst (λ x. HoldsRow u number base (kind_words x)) k.0
-        (among_right new_row t.held (new_row ∷ []) (inl refl))))
-        (λ k. among_left record {
-          caller = number;
-          base = b;
-          size = kind_words other;
-        } t.held (new_row ∷ []) (c.rows other b k))
-        (row_taken own kind other base b e);
-    builds = builds_on t u following (build_sizes u number (with_spare kind base own))
-        (subst (AreBuilds t) (sym sizes_taken) c.builds);
-  }
+  taken_caller c =
+      grind (arith, among_right, among_left, row_taken, builds_on, following, sizes_taken)
 
 -- a caller that reserved a row is a caller with that row
 pub caller_reserved : (old new : Caller) (kind : Kind) (base : ℕ) → IsCaller old

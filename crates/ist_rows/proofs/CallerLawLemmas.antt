@@ -1,5 +1,5 @@
 -- A caller whose token went on by its own events, in terms of its views. Serves `laws`.
-use Rattle.std.proofs.Common.{◌≡◌, ℕ, not, List, ◌∷◌, map, filter, sym, ap, ◌∙◌, subst, inl, inr, None}
+use Rattle.std.proofs.Common.{◌≡◌, ℕ, not, List, ◌∷◌, map, filter, sym, ap, ◌∙◌, subst, inl, inr, None, arith}
 use Rattle.ist_core.specs.declared.events.Event.{Event}
 use Rattle.ist_core.specs.declared.lists.HeldRow.{HeldRow}
 use Rattle.ist_core.specs.declared.pairs.Pair.{Pair}
@@ -8,7 +8,7 @@ use Rattle.ist_core.specs.declared.events.Event.TheVariants.{Reserve}
 use Rattle.ist_core.specs.LogTerms.{no_more, one_more, whose, Later, LaterBy, EachEnabled, Lawful, state_of, Log, same_log, one_event, Snapshot}
 use Rattle.ist_core.specs.TreeTerms.{AllResolvedOf}
 use Rattle.ist_core.specs.WordTerms.{start}
-use Rattle.ist_rule.specs.RuleTerms.{IsResolved, TokenFace, WentOn, now, Logged, LoggedLoad, Turned, searching, IsSound}
+use Rattle.ist_rule.specs.RuleTerms.{IsResolved, TokenFace, WentOn, now, Logged, LoggedLoad, Turned, searching}
 use Rattle.ist_rule.specs.declared.view.View.{View}
 use Rattle.ist_rule.proofs.CallLemmas.{installs_not}
 use Rattle.ist_rule.proofs.LaterLemmas.{later-goes_on}
@@ -30,11 +30,7 @@ use Rattle.ist_rows.proofs.CallerGoingLemmas.{sizes_taken}
 same_held : (who : Caller) (token : TokenFace) → IsCaller who
     → WentOn KeepsRows who.token.view token.view
     → held_by (now token.view) who.number ≡ held_by (now who.token.view) who.number
-same_held who token c g = let v = who.token.view in
-    ap (λ t. held_by t who.number) (went_now KeepsRows v token.view g)
-    ∙ held_by_went v.start v.words who.number v.log token.view.log
-    (went_lawful KeepsRows v token.view g).enabled
-    (subst (λ w. LaterBy w KeepsRows v.log token.view.log) c.mine g.later)
+same_held who token c g = grind (arith, went_now, held_by_went, went_lawful)
 
 -- a caller whose token went on by events that keep rows is still a caller
 pub caller_went : (who : Caller) (token : TokenFace) → IsCaller who
@@ -54,13 +50,17 @@ caller_went who token c g = let v = who.token.view in
 -- the refused builds of such a caller are still refused
 pub refused_went : (who : Caller) (token : TokenFace) → IsCaller who → HasRefused who
     → WentOn KeepsRows who.token.view token.view → HasRefused (record who { token = token })
-refused_went who token c r g = let v = who.token.view in
-    let lawful = went_lawful KeepsRows v token.view g in
-    let following = subst (ComesAfter (now v)) (sym (went_now KeepsRows v token.view g))
-    (after_between v.start v.words v.log token.view.log lawful (later_by-goes_on g.later)) in
-    subst (λ held. AreStuck (now token.view)
-    (map (λ (h : HeldRow). h.size) (filter (λ h. not (is_spare (spares_of who) h.base)) held)))
-    (sym (same_held who token c g)) (all_stuck_on (now v) (now token.view) following _ r)
+refused_went who token c r g =
+    grind (
+      arith,
+      went_lawful,
+      ComesAfter,
+      went_now,
+      after_between,
+      later_by-goes_on,
+      same_held,
+      all_stuck_on,
+    )
 
 -- changes that are resolved stay so if the caller installs none
 resolved_by : (pairs : List Pair) (words : ℕ) (number : ℕ) (old log : Log)
@@ -78,10 +78,7 @@ resolved_by pairs words number old _ enabled (one_more {log = log} event l (inr 
 -- resolved changes stay resolved, if the token installs none
 pub resolved_went : (v w : View) (number : ℕ) → v.who ≡ CallerOf number → IsResolved v number
     → WentOn InstallsNone v w → IsResolved w number
-resolved_went v w number mine all g =
-    subst (λ t. AllResolvedOf t w.log number) (sym (went_now InstallsNone v w g))
-    (resolved_by v.start v.words number v.log w.log (went_lawful InstallsNone v w g).enabled
-    (subst (λ who. LaterBy who InstallsNone v.log w.log) mine g.later) all)
+resolved_went v w number mine all g = grind (arith, went_now, resolved_by, went_lawful)
 
 -- ---- one event
 
@@ -95,31 +92,18 @@ pub record HasLogged (v : View) (event : Event) (before : Log) (w : View) : Type
 -- a token that logged an event has made it
 pub logged_made : (v : View) (event : Event) (w : View) (l : Logged v event w)
     → HasLogged v event l.before w
-logged_made v event w l = let s = subst IsSound l.view l.sound in record {
-  later = l.later;
-  lawful = s.lawful;
-  now_is = ap now l.view;
-  who_is = ap (λ x. x.who) l.view;
-}
+logged_made v event w l = grind arith
 
 -- a token that logged an event at a load has made it
 pub loaded_made : (v : View) (event : Event) (place word : ℕ) (w : View)
     → (l : LoggedLoad v event place word w) → HasLogged v event l.before w
-loaded_made v event place word w l = let s = subst IsSound l.view l.sound in record {
-  later = l.later;
-  lawful = s.lawful;
-  now_is = ap now l.view;
-  who_is = ap (λ x. x.who) l.view;
-}
+loaded_made v event place word w l = grind arith
 
 -- the event changes what its caller holds in exactly this way
 pub held_made : (v w : View) (number : ℕ) (event : Event) (before : Log) → v.who ≡ CallerOf number
     → whose event ≡ CallerOf number → HasLogged v event before w
     → held_by (now w) number ≡ held_after event (held_by (now v) number)
-held_made v w number event before mine its m = ap (λ t. held_by t number) m.now_is
-    ∙ held_by_own v.start v.words before number event its
-    ∙ ap (held_after event) (held_by_later v.start v.words number v.log before
-    m.lawful.enabled.0 (subst (λ who. Later who v.log before) mine m.later))
+held_made v w number event before mine its m = grind (arith, held_by_own, held_by_later)
 
 module _ (old new : Caller) (kinds : List Kind) (event : Event) (bases : List ℕ) (c : IsCaller old)
     (before : Log) (m : HasLogged old.token.view event before new.token.view)
@@ -193,12 +177,7 @@ caller_begun who token c t = let n = token.view.searches in
 pub refused_as : (new : Caller) (t : Snapshot) (number : ℕ) (own : Spares)
     → now new.token.view ≡ t → new.number ≡ number → spares_of new ≡ own
     → AreStuck t (build_sizes t number own) → HasRefused new
-refused_as new t number own now_is number_is rows_are r =
-    subst (λ o. AreStuck (now new.token.view) (build_sizes (now new.token.view) new.number o))
-    (sym rows_are)
-    (subst (λ n. AreStuck (now new.token.view) (build_sizes (now new.token.view) n own))
-    (sym number_is)
-    (subst (λ x. AreStuck x (build_sizes x number own)) (sym now_is) r))
+refused_as new t number own now_is number_is rows_are r = grind arith
 
 -- refused builds stay refused if a spare row is reserved
 pub refused_beside : (old new : Caller) (kind : Kind) (base : ℕ) → IsCaller old

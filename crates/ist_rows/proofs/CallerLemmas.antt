@@ -1,5 +1,5 @@
 -- Callers across the steps of their tokens. Serves `enter`, `reserve` and `fill`.
-use Rattle.std.proofs.Common.{◌≡◌, ℕ, ◌≤◌, ◌⊎◌, ◌==◌, ◌||◌, not, Bool, true, false, List, [], ◌∷◌, ◌++◌, map, filter, Option, Some, None, refl, sym, ap, ◌∙◌, subst, le_refl, inl, inr, ⊎_elim, arith}
+use Rattle.std.proofs.Common.{◌≡◌, ℕ, ◌≤◌, ◌⊎◌, ◌==◌, ◌||◌, not, Bool, true, false, List, [], ◌∷◌, ◌++◌, map, filter, Option, Some, None, refl, sym, ap, ◌∙◌, subst, le_refl, inl, inr, arith}
 use Rattle.std.proofs.lemmas.Bool.Decides.{eqb_tells}
 use Rattle.std.proofs.lemmas.Option.{same_Some}
 use Rattle.ist_core.specs.declared.pairs.Pair.{Pair}
@@ -30,11 +30,8 @@ next_later pairs words number old _ enabled (one_more {log = log} event l other)
 pub comes_after : (pairs : List Pair) (words : ℕ) (number : ℕ) (old log : Log)
     → Lawful pairs words log → Later (CallerOf number) old log
     → ComesAfter (state_of pairs words old) (state_of pairs words log)
-comes_after pairs words number old log lawful l = record {
-  words = words_same pairs words lawful.opens log ∙ sym (words_same pairs words lawful.opens old);
-  next = next_later pairs words number old log lawful.enabled l;
-  grow = grow_between pairs words old log lawful.enabled (later-goes_on l);
-}
+comes_after pairs words number old log lawful l =
+    grind (arith, words_same, next_later, grow_between, later-goes_on)
 
 -- ---- a caller's rows after a longer log
 
@@ -69,8 +66,7 @@ caller_later pairs words old log number own lawful l c = record {
 -- the row at the base is of this kind
 is_base_some : (o : Option ℕ) (base : ℕ) → is_base o base ≡ true → o ≡ Some base
 is_base_some None base e = cc
-is_base_some (Some b) base e = ⊎_elim (λ k. ap (λ n. Some n) k.1)
-    (λ k. absurd (cc (sym e ∙ k.0))) (eqb_tells b base)
+is_base_some (Some b) base e = grind (arith, eqb_tells)
 
 -- one of two tests holds
 or_true : (a b : Bool) → (a || b) ≡ true → (a ≡ true) ⊎ (b ≡ true)
@@ -80,14 +76,7 @@ or_true false b e = inr e
 -- a spare row is of some kind
 pub spare_kind : (own : Spares) (base : ℕ) → is_spare own base ≡ true → (kind : Kind)
     × (row_of kind own ≡ Some base)
-spare_kind own base e = ⊎_elim (λ a. (Leaf, is_base_some own.leaf base a))
-    (λ b. ⊎_elim (λ a. (PairKind, is_base_some own.pair base a))
-    (λ c. ⊎_elim (λ a. (Change, is_base_some own.change base a))
-    (λ a. (Rebuild, is_base_some own.rebuild base a))
-    (or_true (is_base own.change base) (is_base own.rebuild base) c))
-    (or_true (is_base own.pair base) (is_base own.change base || is_base own.rebuild base) b))
-    (or_true (is_base own.leaf base)
-    (is_base own.pair base || (is_base own.change base || is_base own.rebuild base)) e)
+spare_kind own base e = grind (arith, is_base_some, or_true)
 
 -- each kind has words of its own number
 pub kind_of_words : (a b : Kind) → kind_words a ≡ kind_words b → a ≡ b
@@ -140,9 +129,7 @@ module _ (pairs : List Pair) (words : ℕ) (log : Log) (enabled : EachEnabled (s
 
   -- spare rows of one size are one
   one_size : (g h : HeldRow) → Among g spares → Among h spares → g.size ≡ h.size → g.base ≡ h.base
-  one_size g h i j same = let a = spare_words g i in let b = spare_words h j in
-      let kinds = kind_of_words a.0 b.0 (sym a.2 ∙ same ∙ b.2) in
-      same_Some g.base h.base (sym a.1 ∙ ap (λ k. row_of k own) kinds ∙ b.1)
+  one_size g h i j same = grind (arith, spare_words, kind_of_words, same_Some)
 
   -- spare rows with distinct bases have distinct sizes
   pub once_each : (xs : List HeldRow) → ((h : HeldRow) → Among h xs → Among h spares)

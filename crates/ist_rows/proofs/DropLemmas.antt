@@ -1,10 +1,9 @@
 -- A caller that gives up its pair row. Serves `drop_pair`.
-use Rattle.std.proofs.Common.{◌≡◌, ℕ, ◌+◌, ◌<◌, [], ◌∷◌, Some, None, refl, sym, ap, ◌∙◌, subst}
-use Rattle.ist_core.specs.declared.events.Event.{Event}
+use Rattle.std.proofs.Common.{◌≡◌, ℕ, ◌+◌, ◌<◌, [], ◌∷◌, Some, None, refl, sym, ◌∙◌, subst, arith}
 use Rattle.ist_core.specs.declared.events.Event.TheVariants.{Lose}
 use Rattle.ist_core.specs.declared.events.Who.TheVariants.{Caller as CallerOf}
 use Rattle.ist_core.specs.WordTerms.{inner_status_offset}
-use Rattle.ist_rule.specs.RuleTerms.{TokenFace, LoggedLoad, LoadedAs, as_event, as_load, number_of, past_of, CanLoadPast}
+use Rattle.ist_rule.specs.RuleTerms.{TokenFace, LoggedLoad, LoadedAs, as_event, as_load, past_of, CanLoadPast}
 use Rattle.ist_rule.specs.declared.view.View.{View}
 use Rattle.ist_rows.specs.RowTerms.{Caller, Pair, IsCaller, HasPairBelow, HasLost}
 use Rattle.ist_rows.proofs.CallerLawLemmas.{loaded_made, caller_made}
@@ -26,18 +25,7 @@ pub has_lost : (v : View) (number pair node place word : ℕ) (w : View) → v.w
     → place ≡ node + inner_status_offset → LoadedAs v (past_of v pair) place word w
     → HasLost v number pair node w
 has_lost v number pair node place word w who at (as_load l none) = absurd (cc)
-has_lost v number pair node place word w who at (as_event event l e) = (
-  word,
-  subst (λ p. LoggedLoad v (Lose number (pair ∷ [])) p word w) at
-      (subst (λ x. LoggedLoad v x place word w) (sym is) l),
-)
-  where
-    one : (a b : Event) → Some a ≡ Some b → a ≡ b
-    one a b f = cc
-
-    is : Lose number (pair ∷ []) ≡ event
-    is = ap (λ x. Lose (number_of x) (pair ∷ [])) (sym who)
-        ∙ one (Lose (number_of v.who) (pair ∷ [])) event e
+has_lost v number pair node place word w who at (as_event event l e) = grind arith
 
 -- who lost its pair row is a caller without it
 pub caller_dropped : (who : Caller) (token : TokenFace) (pair place word : ℕ) → IsCaller who

@@ -1,12 +1,12 @@
 -- Entering: when it may be made, and what the new caller is. Serves `enter`.
-use Rattle.std.proofs.Common.{◌≡◌, ◌≢◌, ℕ, ◌+◌, ◌<◌, ◌≤◌, ◌⊎◌, ◌&&◌, ◌==◌, nat_lt, not, true, false, if◌then◌else◌, List, [], ◌∷◌, map, filter, Some, None, refl, sym, ap, ap₂, ◌∙◌, subst, inl, inr, arith}
+use Rattle.std.proofs.Common.{◌≡◌, ◌≢◌, ℕ, ◌+◌, ◌<◌, ◌≤◌, ◌⊎◌, ◌==◌, not, true, false, if◌then◌else◌, List, [], ◌∷◌, map, filter, Some, None, refl, sym, ap, ap₂, ◌∙◌, subst, inl, inr, arith}
 use Rattle.std.proofs.lemmas.Bool.Decides.{eqb_tells, nat_tests}
 use Rattle.ist_core.specs.declared.lists.HeldRow.{HeldRow}
 use Rattle.ist_core.specs.declared.events.Event.TheVariants.{Enter}
-use Rattle.ist_core.specs.declared.events.Who.TheVariants.{Maker, Caller as CallerOf, Note}
+use Rattle.ist_core.specs.declared.events.Who.TheVariants.{Maker, Caller as CallerOf}
 use Rattle.ist_core.specs.WordTerms.{callers_place}
-use Rattle.ist_core.specs.LogTerms.{Among, AreBuilds, no_build, Log, CanEnter, caller_limit, state_of, Later, IsIdleIn, shown_callers}
-use Rattle.ist_rule.specs.RuleTerms.{IsSound, now, logging, Logged, MayCome, CanAdd, awaits_seat, is_maker, noted_by, plain, split_left, split_right}
+use Rattle.ist_core.specs.LogTerms.{Among, AreBuilds, no_build, Log, caller_limit, state_of, IsIdleIn, shown_callers}
+use Rattle.ist_rule.specs.RuleTerms.{IsSound, now, Logged, MayCome, CanAdd, plain, split_left, split_right}
 use Rattle.ist_rule.specs.declared.view.View.{View}
 use Rattle.ist_core.proofs.AllLogLemmas.{callers_word}
 use Rattle.ist_rule.proofs.WatchLemmas.{idle_holds}
@@ -20,9 +20,7 @@ use Rattle.ist_rows.specs.RowTerms.{Caller, Kind, Leaf, Pair, Change, Rebuild, h
 -- after each log that may come, there are as many callers as the maker made
 made_there : (v : View) → IsSound v → v.who ≡ Maker → (log : Log) → MayCome v log
     → (state_of v.start v.words log).callers ≡ v.made
-made_there v s who log m =
-    callers_by_others v.start v.words v.log log (subst (λ w. Later w v.log log) who m.later) ∙ sym
-    (s.is_true.made who).0
+made_there v s who log m = grind (arith, callers_by_others)
 
 -- the maker may enter a caller, whatever others do meanwhile
 pub can_enter : (v : View) → IsSound v → v.who ≡ Maker → v.given ≡ v.made → v.made < caller_limit
@@ -54,31 +52,13 @@ pub record Entered (v w : View) (found : ℕ) : Type 0 where
 -- a maker that made an Enter has entered the next caller
 pub entered : (v w : View) (found : ℕ) → IsSound v → v.who ≡ Maker → Logged v (Enter found) w
     → Entered v w found
-entered v w found s who l =
-    let sound : IsSound (logging v l.before (Enter found)) = subst IsSound l.view l.sound in
-    let can : CanEnter (state_of v.start v.words l.before) found = sound.lawful.enabled.1 in
-    let made = made_there v s who l.before record {
-      later = l.later;
-      lawful = record { opens = sound.lawful.opens; enabled = sound.lawful.enabled.0 };
-    } in
-    record {
-      number = can.number ∙ made;
-      low = can.below_limit;
-      made = ap (λ x. x.made) l.view;
-      given = ap (λ x. x.given) l.view;
-      who = ap (λ x. x.who) l.view ∙ who;
-    }
+entered v w found s who l = grind (arith, made_there)
 
 -- a maker that has a token to give gives it to the caller that it entered last
 pub gives_seat : (w : View) → w.who ≡ Maker → w.given < w.made
     → (split_left w ≡ record w { given = w.given + 1 })
     × (split_right w ≡ plain w (CallerOf w.given) [])
-gives_seat w who less = let t : nat_lt w.given w.made ≡ true = grind (arith, nat_tests) in
-    let is : awaits_seat w ≡ true = ap (λ x. is_maker x && nat_lt w.given w.made) who ∙ t in (
-      ap (λ b. if b then record w { given = w.given + 1 } else w) is,
-      ap (λ b. if b then plain w (CallerOf w.given) [] else plain w (Note (noted_by w.who)) w.calls)
-          is,
-    )
+gives_seat w who less = grind (arith, nat_tests)
 
 none_held : (held : List HeldRow) (number : ℕ) → ((h : HeldRow) → Among h held → h.caller ≢ number)
     → filter (λ h. h.caller == number) held ≡ []
@@ -125,8 +105,7 @@ module _ (v w : View) (number : ℕ) (s : IsSound v) (who : v.who ≡ Maker) (al
   given = let e = entered v w number s who l in omega arith
 
   gives : (split_left w ≡ record w { given = w.given + 1 }) × (split_right w ≡ plain w (CallerOf number) [])
-  gives = let e = entered v w number s who l in let g = gives_seat w maker (omega arith) in
-      (g.0, g.1 ∙ ap (λ n. plain w (CallerOf n) []) given)
+  gives = grind (arith, entered, gives_seat, maker, given)
 
   none_held_yet : held_by (now w) number ≡ []
   none_held_yet = let same = given in new_holds_none w number sound maker (omega arith)
@@ -134,18 +113,7 @@ module _ (v w : View) (number : ℕ) (s : IsSound v) (who : v.who ≡ Maker) (al
   -- the two parts of a maker that has entered a caller
   pub parts : (left right : View) → left ≡ split_left w → right ≡ split_right w
       → Parts v number left right
-  parts left right left_is right_is = let same = given in
-      let right : right ≡ plain w (CallerOf number) [] = right_is ∙ gives.1 in record {
-        entered = record {
-          before = l.before;
-          later = l.later;
-          view = left_is ∙ gives.0 ∙ ap (λ (x : View). record x { given = x.given + 1 }) l.view;
-        };
-        token = right ∙ ap (λ x. plain x (CallerOf number) []) (sym (left_is ∙ gives.0));
-        idle = subst (λ x. IsIdleIn (CallerOf number) x.log) (sym right)
-            (sound.is_true.idle maker number (omega arith));
-        held = subst (λ x. held_by (now x) number ≡ []) (sym right) none_held_yet;
-      }
+  parts left right left_is right_is = grind (arith, given, entered, maker, none_held_yet)
 
   -- the caller that is given its token holds no row
   pub new_caller : (c : Caller) → c.token.view ≡ split_right w → c.number ≡ number

@@ -1,5 +1,5 @@
 -- A caller that took few words, or ran out of words: one part after another. Serves the crates above.
-use Rattle.std.proofs.Common.{◌≡◌, ℕ, ◌+◌, ◌≤◌, List, Result, Ok, Err, ap, ◌∙◌, subst, arith}
+use Rattle.std.proofs.Common.{◌≡◌, ℕ, ◌+◌, ◌≤◌, List, Result, Ok, Err, arith}
 use Rattle.std.proofs.Math.Nat.{le_trans}
 use Rattle.ist_core.specs.declared.events.Event.{Event}
 use Rattle.ist_core.specs.declared.pairs.Pair.{Pair}
@@ -16,21 +16,11 @@ use Rattle.ist_rows.proofs.ShortLemmas.{left_between}
 -- a caller whose token went on is a later state
 pub later_went : (P : Event → Type 0) (old new : Caller) → new.number ≡ old.number
     → WentOn P old.token.view new.token.view → IsLaterCaller old new
-later_went P old new number went = record {
-  number = number;
-  start = ap (λ x. x.start) went.same;
-  words = ap (λ x. x.words) went.same;
-  on = goes_on_by went.later;
-}
+later_went P old new number went = grind (arith, goes_on_by)
 
 -- a state after a later one is a later one
 pub later_twice : (old mid new : Caller) → IsLaterCaller old mid → IsLaterCaller mid new → IsLaterCaller old new
-later_twice old mid new a b = record {
-  number = b.number ∙ a.number;
-  start = b.start ∙ a.start;
-  words = b.words ∙ a.words;
-  on = goes_on_more a.on b.on;
-}
+later_twice old mid new a b = grind (arith, goes_on_more)
 
 -- ---- one log after another
 
@@ -66,19 +56,11 @@ module _ (old mid new : Caller) (a : IsLaterCaller old mid) (b : IsLaterCaller m
   -- few words from the middle on, in terms of the earlier state
   few_here : HasTakenFew m left mid new
       → TakesFew old.number m left v.words v.start mid.token.view.log new.token.view.log
-  few_here f =
-      subst (λ k. TakesFew k m left v.words v.start mid.token.view.log new.token.view.log) a.number
-      (subst (λ p. TakesFew mid.number m left v.words p mid.token.view.log new.token.view.log) a.start
-      (subst (λ w. TakesFew mid.number m left w mid.token.view.start mid.token.view.log
-      new.token.view.log) a.words f))
+  few_here f = grind arith
 
   out_here : HasRunOut m mid new
       → RanOut old.number m v.words v.start mid.token.view.log new.token.view.log
-  out_here f =
-      subst (λ k. RanOut k m v.words v.start mid.token.view.log new.token.view.log) a.number
-      (subst (λ p. RanOut mid.number m v.words p mid.token.view.log new.token.view.log) a.start
-      (subst (λ w. RanOut mid.number m w mid.token.view.start mid.token.view.log new.token.view.log)
-      a.words f))
+  out_here f = grind arith
 
   -- few words, and then few
   pub few_more : HasTakenFew n m old mid → HasTakenFew m left mid new → HasTakenFew n left old new
@@ -107,8 +89,7 @@ out_on n old mid new on r = (r.0, left_between same_log on r.0 r.1 (λ at since 
 
 -- of more words they ran out too
 pub out_wider : (n m : ℕ) (old new : Caller) → n ≤ m → HasRunOut n old new → HasRunOut m old new
-out_wider n m old new le r =
-    (r.0, left_between same_log same_log r.0 r.1 (λ at since until few. le_trans few (omega arith)))
+out_wider n m old new le r = grind (arith, left_between, le_trans)
 
 -- of more words, more are left
 pub few_wider : (n left k : ℕ) (old new : Caller) → HasTakenFew n left old new

@@ -28,8 +28,7 @@ use Rattle.ist_rows.proofs.FewLemmas.{later_went, later_twice, few_more, few_the
 -- an event of another takes no word for the caller
 pub other_takes : (number : ℕ) (event : Event) → whose event ≢ CallerOf number
     → taken_at number event ≡ 0
-other_takes number (Reserve caller base size) other = ap (λ (b : Bool). if b then size else 0)
-    (ne_eqb caller number (λ same. other (ap CallerOf same)))
+other_takes number (Reserve caller base size) other = grind (arith, ne_eqb)
 other_takes number _ other = refl
 
 -- nor does one that reserves nothing
@@ -69,15 +68,7 @@ taken_keeps number all (one_more event l (inr is)) = let before = taken_keeps nu
 pub taken_reserved : (v : View) (number base size : ℕ) (w : View) → v.who ≡ CallerOf number
     → Reserved v number base size w → taken_by number w.log ≡ taken_by number v.log + size
 taken_reserved v number base size w mine r =
-    let log_is : w.log ≡ Reserve number base size ∷ r.reserved.before
-    = ap (λ (y : View). y.log) r.reserved.view in
-    let later = later_more r.seen.later (subst (λ x. Later x r.before.log r.reserved.before)
-    (goes_on_who r.seen) r.reserved.later) in
-    let others : taken_by number r.reserved.before ≡ taken_by number v.log
-    = taken_later number (subst (λ who. Later who v.log r.reserved.before) mine later) in
-    ap (taken_by number) log_is
-    ∙ (ap (λ n. n + taken_at number (Reserve number base size)) others
-    ∙ ap (λ n. taken_by number v.log + n) (own_takes number base size))
+    grind (arith, later_more, goes_on_who, taken_later, own_takes)
 
 -- ---- steps that take none
 
@@ -103,17 +94,12 @@ few_kept n left old mid new a h f =
 pub few_call : {A : Type 0} (r : Result A Full) (n left : ℕ) (old mid new : Caller)
     → TakesNoWords old mid → IsLaterCaller mid new → HasTakenFewIn r n left mid new
     → HasTakenFewIn r n left old new
-few_call r n left old mid new h b f =
-    few_then old mid new h.later b n n left r (few_none n old mid h) f
+few_call r n left old mid new h b f = grind (arith, few_then, few_none)
 
 -- twice
 pub none_more : (old mid new : Caller) → TakesNoWords old mid → TakesNoWords mid new
     → TakesNoWords old new
-none_more old mid new a b = record {
-  later = later_twice old mid new a.later b.later;
-  none = subst (λ k. taken_by k new.token.view.log ≡ taken_by k mid.token.view.log) a.later.number
-      b.none ∙ a.none;
-}
+none_more old mid new a b = grind (arith, later_twice)
 
 -- nothing was done
 pub none_same : (who : Caller) → TakesNoWords who who
@@ -126,11 +112,7 @@ none_same who = record {
 pub none_kept : (P : Event → Type 0) → ((event : Event) → P event → KeepsRows event)
     → (old new : Caller) → new.number ≡ old.number → old.token.view.who ≡ CallerOf old.number
     → WentOn P old.token.view new.token.view → TakesNoWords old new
-none_kept P keeps old new number mine went = let v = old.token.view in let w = new.token.view in
-    record {
-      later = later_went P old new number went;
-      none = taken_keeps old.number keeps (subst (λ x. LaterBy x P v.log w.log) mine went.later);
-    }
+none_kept P keeps old new number mine went = grind (arith, later_went, taken_keeps)
 
 -- by loads
 pub none_seen : (old new : Caller) → new.number ≡ old.number
@@ -166,16 +148,12 @@ module _ (who : Caller) (token : TokenFace) (mine : who.token.view.who ≡ Calle
   -- by an event that reserves nothing
   pub none_logged : Logged who.token.view event token.view → taken_at who.number event ≡ 0
       → TakesNoWords who (record who { token = token })
-  none_logged l nothing =
-      by_event nothing l.before l.later (ap (λ x. x.log) l.view) (ap (λ x. x.start) l.view)
-      (ap (λ x. x.words) l.view)
+  none_logged l nothing = grind (arith, by_event)
 
   -- by one that came at a load
   pub none_logged_load : (place word : ℕ) → LoggedLoad who.token.view event place word token.view
       → taken_at who.number event ≡ 0 → TakesNoWords who (record who { token = token })
-  none_logged_load place word l nothing =
-      by_event nothing l.before l.later (ap (λ x. x.log) l.view) (ap (λ x. x.start) l.view)
-      (ap (λ x. x.words) l.view)
+  none_logged_load place word l nothing = grind (arith, by_event)
 
 -- ---- reservings
 
@@ -199,15 +177,8 @@ taken_all number base (size ∷ more) log =
 pub few_reserved_all : (old new : Caller) → IsCaller old → (base : ℕ) (sizes : List ℕ)
     → ReservedAll old.token.view old.number base sizes new.token.view
     → HasTakenFew (sum sizes) 0 old new
-few_reserved_all old new c base sizes r = let v = old.token.view in let l = r.reserved in
-    let log = with_events (reservings old.number base sizes) l.before in
-    let later = later_more r.seen.later (subst (λ x. Later x r.before.log l.before)
-    (goes_on_who r.seen) l.later) in
-    let others = taken_later old.number (subst (λ x. Later x v.log l.before) c.mine later) in
-    let rows = taken_all old.number base sizes l.before in
-    let is : taken_by old.number new.token.view.log ≡ taken_by old.number log
-    = ap (λ (x : View). taken_by old.number x.log) l.view in
-    took_few (omega arith)
+few_reserved_all old new c base sizes r =
+    grind (arith, later_more, goes_on_who, taken_later, taken_all)
 
 -- ---- refusals
 

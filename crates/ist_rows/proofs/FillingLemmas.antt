@@ -1,5 +1,5 @@
 -- Words that a caller stores one after another into a row. Serves `fill_row` and its callers.
-use Rattle.std.proofs.Common.{◌≡◌, ◌≢◌, ℕ, zero, suc, ◌+◌, ◌<◌, List, [], ◌∷◌, ◌++◌, length, take, get_or, Some, refl, sym, ap, ◌∙◌, ⊎_elim, arith}
+use Rattle.std.proofs.Common.{◌≡◌, ◌≢◌, ℕ, zero, suc, ◌+◌, ◌<◌, List, [], ◌∷◌, ◌++◌, length, take, get_or, Some, refl, sym, ap, ◌∙◌, arith}
 use Rattle.std.proofs.lemmas.List.{take_more, length-take-le}
 use Rattle.ist_core.specs.TreeTerms.{Apart}
 use Rattle.ist_rule.specs.RuleTerms.{storing, own_at}
@@ -11,9 +11,7 @@ use Rattle.ist_rows.specs.RowTerms.{Caller, storing_all, with_own, filled_with, 
 storing_all-more : (own : List OwnWord) (place : ℕ) (words : List ℕ) (word : ℕ)
     → storing_all own place (words ++ word ∷ [])
     ≡ record { place = place + length words; word = word } ∷ storing_all own place words
-storing_all-more own place [] word =
-    ap {B = List OwnWord} (λ p. record { place = p; word = word } ∷ own)
-    (let same : place ≡ place + 0 = omega arith in same)
+storing_all-more own place [] word = grind arith
 storing_all-more own place (x ∷ xs) word =
     storing_all-more (record { place = place; word = x } ∷ own) (place + 1) xs word
     ∙ ap {B = List OwnWord}
@@ -37,12 +35,7 @@ stored_else own place (word ∷ words) other out =
 pub stored_at : (own : List OwnWord) (place : ℕ) (words : List ℕ)
     → StandAt (storing_all own place words) place words
 stored_at own place [] k less = absurd (omega arith)
-stored_at own place (word ∷ words) zero less =
-    ap Some (sym (stored_else (record { place = place; word = word } ∷ own) (place + 1) words
-    (place + 0) (λ k low e. let far : place + 1 + k ≢ place + 0 = omega arith in far e)
-    ∙ ap (own_at (record { place = place; word = word } ∷ own))
-    (let same : place + 0 ≡ place = omega arith in same)
-    ∙ own_here own place word))
+stored_at own place (word ∷ words) zero less = grind (arith, stored_else, own_here)
 stored_at own place (word ∷ words) (suc k) less =
     stored_at (record { place = place; word = word } ∷ own) (place + 1) words k (omega arith)
     ∙ ap (λ p. Some (own_at (storing_all (record { place = place; word = word } ∷ own) (place + 1)
@@ -75,13 +68,9 @@ stored_step old who new base at i words less at_is was is = let x : ℕ = get_or
 pub stored_first : (own : List OwnWord) (place : ℕ) (words : List ℕ) (far : ℕ) (more : List ℕ)
     → Apart place (length words) far (length more)
     → StandAt (storing_all (storing_all own place words) far more) place words
-stored_first own place words far more apart k less = stored_at own place words k less
-    ∙ ap Some (sym (stored_else (storing_all own place words) far more (place + k)
-    (λ j low e. ⊎_elim (λ a. let out : far + j ≢ place + k = omega arith in out e)
-    (λ a. let out : far + j ≢ place + k = omega arith in out e) apart)))
+stored_first own place words far more apart k less = grind (arith, stored_at, stored_else)
 
 -- a caller that has filled one row and then another
 pub filled_twice : (old mid who : Caller) (a b : ℕ) (xs ys : List ℕ) → mid ≡ filled_with old a xs
     → who ≡ filled_with mid b ys → who ≡ filled_with (filled_with old a xs) b ys
-filled_twice old mid who a b xs ys first second =
-    second ∙ ap {B = Caller} (λ (c : Caller). filled_with c b ys) first
+filled_twice old mid who a b xs ys first second = grind arith

@@ -1,6 +1,6 @@
 -- A caller without rows of some kinds, which it has published or lost. Serves
 -- `laws.given_rows_go`.
-use Rattle.std.proofs.Common.{◌≡◌, ℕ, ◌⊎◌, ◌==◌, ◌||◌, not, Bool, true, false, if◌then◌else◌, List, [], ◌∷◌, map, filter, Some, None, refl, sym, ap, ap₂, ◌∙◌, subst, inl, inr, ⊎_elim}
+use Rattle.std.proofs.Common.{◌≡◌, ℕ, ◌⊎◌, ◌==◌, ◌||◌, not, Bool, true, false, if◌then◌else◌, List, [], ◌∷◌, map, filter, Some, None, refl, sym, ap, ap₂, ◌∙◌, subst, inl, inr, ⊎_elim, arith}
 use Rattle.std.specs.List.{list_any}
 use Rattle.std.proofs.lemmas.Option.{none-some}
 use Rattle.ist_core.specs.declared.events.Event.{Event}
@@ -49,9 +49,7 @@ row_left (kind ∷ kinds) own other = ⊎_elim (λ k. inl k.1)
 row_gone : (kinds : List Kind) (own : Spares) (other : Kind) → Among other kinds
     → row_of other (without_rows kinds own) ≡ None
 row_gone [] own other i = absurd i
-row_gone (kind ∷ kinds) own other (inl e) =
-    subst (λ k. row_of k (without_row kind (without_rows kinds own)) ≡ None) (sym e)
-    (none_here kind (without_rows kinds own))
+row_gone (kind ∷ kinds) own other (inl e) = grind (arith, none_here)
 row_gone (kind ∷ kinds) own other (inr i) =
     ⊎_elim (λ k. k.1) (λ same. same ∙ row_gone kinds own other i)
     (row_without kind other (without_rows kinds own))
@@ -72,44 +70,15 @@ kind_given (kind ∷ kinds) own (b ∷ bases) a base (inr i) =
 -- the row of a kind is spare
 spare_of : (kind : Kind) (own : Spares) (base : ℕ) → row_of kind own ≡ Some base
     → is_spare own base ≡ true
-spare_of kind own base e = at kind (ap (λ o. is_base o base) e ∙ base_same base)
-  where
-    at : (k : Kind) → is_base (row_of k own) base ≡ true → is_spare own base ≡ true
-    at Leaf f =
-        ap (λ a. a || (is_base own.pair base
-        || (is_base own.change base || is_base own.rebuild base))) f
-    at PairKind f =
-        ap (λ a. is_base own.leaf base
-        || (a || (is_base own.change base || is_base own.rebuild base))) f
-        ∙ or_any (is_base own.leaf base)
-    at Change f =
-        ap (λ a. is_base own.leaf base
-        || (is_base own.pair base || (a || is_base own.rebuild base))) f
-        ∙ ap (λ a. is_base own.leaf base || a) (or_any (is_base own.pair base))
-        ∙ or_any (is_base own.leaf base)
-    at Rebuild f =
-        ap (λ a. is_base own.leaf base
-        || (is_base own.pair base || (is_base own.change base || a))) f
-        ∙ ap (λ a. is_base own.leaf base || (is_base own.pair base || a))
-        (or_any (is_base own.change base))
-        ∙ ap (λ a. is_base own.leaf base || a) (or_any (is_base own.pair base))
-        ∙ or_any (is_base own.leaf base)
+spare_of kind own base e = grind (arith, base_same, or_any)
 
 -- a row of another kind is as spare without the row of this kind
 spare_less : (kind : Kind) (own : Spares) (base : ℕ) → is_base (row_of kind own) base ≡ false
     → is_spare (without_row kind own) base ≡ is_spare own base
-spare_less Leaf own base f =
-    ap (λ a. a || (is_base own.pair base || (is_base own.change base || is_base own.rebuild base)))
-    (sym f)
-spare_less PairKind own base f =
-    ap (λ a. is_base own.leaf base || (a || (is_base own.change base || is_base own.rebuild base)))
-    (sym f)
-spare_less Change own base f =
-    ap (λ a. is_base own.leaf base || (is_base own.pair base || (a || is_base own.rebuild base)))
-    (sym f)
-spare_less Rebuild own base f =
-    ap (λ a. is_base own.leaf base || (is_base own.pair base || (is_base own.change base || a)))
-    (sym f)
+spare_less Leaf own base f = grind arith
+spare_less PairKind own base f = grind arith
+spare_less Change own base f = grind arith
+spare_less Rebuild own base f = grind arith
 
 -- a row at none of the bases of some kinds is as spare without these
 spare_left : (kinds : List Kind) (own : Spares) (bases : List ℕ) → AreBasesOf kinds own bases
@@ -165,8 +134,7 @@ module _ (pairs : List Pair) (words : ℕ) (log : Log) (event : Event)
     (a : AreBasesOf kinds own bases) (c : IsCallerIn (state_of pairs words log) number own) where
   held_now : held_by (state_of pairs words (event ∷ log)) number
       ≡ without bases (held_by (state_of pairs words log) number)
-  held_now = held_by_own pairs words log number event mine
-      ∙ held_after-given event bases (held_by (state_of pairs words log) number) gives
+  held_now = grind (arith, held_by_own, held_after-given)
 
   -- the sizes of its builds are the same
   pub sizes_given : build_sizes (state_of pairs words (event ∷ log)) number (without_rows kinds own)

@@ -1,5 +1,5 @@
 -- Callers whose tokens went on. Serves the functions of the crates above.
-use Rattle.std.proofs.Common.{◌≡◌, ◌≤◌, List, refl, sym, ap, ◌∙◌, subst, le_refl}
+use Rattle.std.proofs.Common.{◌≡◌, ◌≤◌, List, refl, sym, ap, ◌∙◌, subst, le_refl, arith}
 use Rattle.ist_core.specs.declared.events.Event.{Event}
 use Rattle.ist_core.specs.declared.events.Event.TheVariants.{Install}
 use Rattle.ist_core.specs.LogTerms.{no_more, LaterBy}
@@ -55,22 +55,12 @@ loads_gone P who token c r g =
 -- having gone twice
 pub gone_more : (P : Event → Type 0) (old mid new : Caller) → HasGone P old mid → HasGone P mid new
     → HasGone P old new
-gone_more P old mid new a b = record {
-  caller = b.caller;
-  number = b.number ∙ a.number;
-  refused = b.refused;
-  went = went_more P old.token.view mid.token.view new.token.view a.went b.went;
-}
+gone_more P old mid new a b = grind (arith, went_more)
 
 -- having gone by events of which more may be said
 pub gone_all : (P Q : Event → Type 0) → ((event : Event) → P event → Q event) → (old new : Caller)
     → HasGone P old new → HasGone Q old new
-gone_all P Q all old new a = record {
-  caller = a.caller;
-  number = a.number;
-  refused = a.refused;
-  went = went_all P Q all old.token.view new.token.view a.went;
-}
+gone_all P Q all old new a = grind (arith, went_all)
 
 -- ---- staying ready
 
@@ -81,21 +71,12 @@ still_ready on = record { caller = on.gone.caller; refused = on.gone.refused; qu
 -- a ready caller that does nothing stays ready
 pub ready_same : (P : Event → Type 0) (who : Caller) → IsSound who.token.view → IsReady who
     → StaysReady P who who
-ready_same P who s ready = record {
-  gone = record {
-    caller = ready.caller;
-    number = refl;
-    refused = ready.refused;
-    went = went_same P who.token.view s;
-  };
-  quiet = ready.quiet;
-}
+ready_same P who s ready = grind (arith, went_same)
 
 -- staying ready twice
 pub ready_more : (P : Event → Type 0) (old mid new : Caller) → StaysReady P old mid
     → StaysReady P mid new → StaysReady P old new
-ready_more P old mid new a b =
-    record { gone = gone_more P old mid new a.gone b.gone; quiet = b.quiet }
+ready_more P old mid new a b = grind (arith, gone_more)
 
 -- staying ready by events of which more may be said
 pub ready_all : (P Q : Event → Type 0) → ((event : Event) → P event → Q event) → (old new : Caller)

@@ -1,7 +1,6 @@
 -- What a caller holds after its own events. Serves `laws.events_move_rows` and
 -- `laws.callers_go_on`.
-use Rattle.std.proofs.Common.{◌≡◌, ℕ, ◌==◌, not, Bool, true, false, if◌then◌else◌, List, [], ◌∷◌, ◌++◌, map, filter, refl, sym, ap, ◌∙◌, subst, inl, inr, ⊎_elim}
-use Rattle.std.specs.List.{list_any}
+use Rattle.std.proofs.Common.{◌≡◌, ℕ, ◌==◌, Bool, true, false, List, [], ◌∷◌, filter, refl, sym, ap, ◌∙◌, inl, inr, arith}
 use Rattle.std.proofs.lemmas.Bool.Decides.{eqb_tells}
 use Rattle.std.proofs.lemmas.List.Elements.{filter-append}
 use Rattle.ist_core.specs.declared.events.Event.{Event}
@@ -9,12 +8,12 @@ use Rattle.ist_core.specs.declared.events.Event.TheVariants.{Reserve, Install, R
 use Rattle.ist_core.specs.declared.lists.HeldRow.{HeldRow}
 use Rattle.ist_core.specs.declared.pairs.Pair.{Pair}
 use Rattle.ist_core.specs.declared.events.Who.TheVariants.{Caller as CallerOf}
-use Rattle.ist_core.specs.LogTerms.{after, no_more, one_more, whose, LaterBy, Among, AreBuilds, EachEnabled, Lawful, state_of, Log, GoesOn, Snapshot, bases_of, without}
+use Rattle.ist_core.specs.LogTerms.{after, no_more, one_more, whose, LaterBy, EachEnabled, Lawful, state_of, Log, GoesOn, Snapshot, without}
 use Rattle.ist_core.specs.WordTerms.{as_change, start}
 use Rattle.ist_core.proofs.AllWordLemmas.{among-filter, among_filter}
 use Rattle.ist_core.proofs.AllLogLemmas.{grow_between, words_same, held-resolved}
 use Rattle.ist_rule.proofs.EventLemmas.{next_between}
-use Rattle.ist_rows.specs.RowTerms.{kind_words, Spares, is_spare, held_by, KeepsRows, held_after, GivesUp}
+use Rattle.ist_rows.specs.RowTerms.{Spares, held_by, KeepsRows, held_after, GivesUp}
 use Rattle.ist_rows.proofs.ReserveLemmas.{ComesAfter, builds_on}
 use Rattle.ist_rows.proofs.CallerLemmas.{IsCallerIn}
 use Rattle.ist_rows.proofs.ShortLemmas.{held_by_step, filter_here}
@@ -59,34 +58,8 @@ held_kept t _ is = refl
 pub held_by_own : (pairs : List Pair) (words : ℕ) (log : Log) (number : ℕ) (event : Event)
     → whose event ≡ CallerOf number → held_by (state_of pairs words (event ∷ log)) number
     ≡ held_after event (held_by (state_of pairs words log) number)
-held_by_own pairs words log number event mine = at event mine
-  where
-    given : (bases : List ℕ) → filter (λ (h : HeldRow). h.caller == number)
-        (without bases (state_of pairs words log).held)
-        ≡ without bases (held_by (state_of pairs words log) number)
-    given bases = filter_swap (λ (h : HeldRow). h.caller == number)
-        (λ (h : HeldRow). not (list_any (λ base. base == h.base) bases))
-        (state_of pairs words log).held
-
-    same_number : (caller : ℕ) → CallerOf caller ≡ CallerOf number → (caller == number) ≡ true
-    same_number caller e = ⊎_elim (λ k. k.0) (λ k. absurd (k.1 (cc))) (eqb_tells caller number)
-
-    at : (e : Event) → whose e ≡ CallerOf number → held_by (state_of pairs words (e ∷ log)) number
-        ≡ held_after e (held_by (state_of pairs words log) number)
-    at (Reserve caller base size) is =
-        let row : HeldRow = record { caller = caller; base = base; size = size } in
-        filter-append (λ (h : HeldRow). h.caller == number) (state_of pairs words log).held
-        (row ∷ [])
-        ∙ ap (λ b. held_by (state_of pairs words log) number ++ (if b then row ∷ [] else []))
-        (same_number caller is)
-    at (Install caller change rows) is = given (bases_of rows)
-    at (Root caller rebuild word rows) is = given (bases_of rows)
-    at (Place caller rebuild i word rows) is = given (bases_of rows)
-    at (Lose caller bases) is = given bases
-    at (Resolve caller change) is = ap (filter (λ (h : HeldRow). h.caller == number))
-        (held-resolved (state_of pairs words log)
-        (as_change ((state_of pairs words log).pieces change)))
-    at _ is = refl
+held_by_own pairs words log number event mine =
+    grind (arith, filter_swap, eqb_tells, filter-append, held-resolved)
 
 -- an event that gives rows up takes just these away
 pub held_after-given : (event : Event) (bases : List ℕ) (held : List HeldRow)
@@ -115,11 +88,7 @@ held_by_went pairs words number old _ enabled (one_more {log = log} event l (inr
 -- a later state comes after an earlier one
 pub after_between : (pairs : List Pair) (words : ℕ) (old log : Log) → Lawful pairs words log
     → GoesOn old log → ComesAfter (state_of pairs words old) (state_of pairs words log)
-after_between pairs words old log lawful g = record {
-  words = words_same pairs words lawful.opens log ∙ sym (words_same pairs words lawful.opens old);
-  next = next_between pairs words old log lawful.enabled g;
-  grow = grow_between pairs words old log lawful.enabled g;
-}
+after_between pairs words old log lawful g = grind (arith, words_same, next_between, grow_between)
 
 -- if a caller holds the same rows, its rows are what they were
 pub caller_between : (pairs : List Pair) (words : ℕ) (old log : Log) (number : ℕ) (own : Spares)
@@ -127,15 +96,5 @@ pub caller_between : (pairs : List Pair) (words : ℕ) (old log : Log) (number :
     → held_by (state_of pairs words log) number ≡ held_by (state_of pairs words old) number
     → IsCallerIn (state_of pairs words old) number own
     → IsCallerIn (state_of pairs words log) number own
-caller_between pairs words old log number own lawful g same c = record {
-  rows = λ kind base e.
-      let row : HeldRow = record { caller = number; base = base; size = kind_words kind } in
-      (among-filter (λ (h : HeldRow). h.caller == number) row (state_of pairs words log).held
-      (subst (Among row) (sym same)
-      (among_filter (λ (h : HeldRow). h.caller == number) row (state_of pairs words old).held
-      (c.rows kind base e) (base_same number)))).0;
-  builds = builds_on (state_of pairs words old) (state_of pairs words log)
-      (after_between pairs words old log lawful g) _
-      (subst (λ held. AreBuilds (state_of pairs words old)
-      (map (λ h. h.size) (filter (λ h. not (is_spare own h.base)) held))) (sym same) c.builds);
-}
+caller_between pairs words old log number own lawful g same c =
+    grind (arith, among-filter, among_filter, base_same, builds_on, after_between)

@@ -1,12 +1,12 @@
 -- Reserving: when it may be made, and what it leaves. Serves `reserving`.
-use Rattle.std.proofs.Common.{◌≡◌, ◌≢◌, ℕ, ◌+◌, ◌-◌, ◌<◌, ◌≤◌, [], ◌∷◌, ◌++◌, refl, sym, ap, ap₂, ◌∙◌, subst, arith, not, Bool, true, false, if◌then◌else◌, List, map, filter}
+use Rattle.std.proofs.Common.{◌≡◌, ◌≢◌, ℕ, ◌+◌, ◌-◌, ◌<◌, ◌≤◌, [], ◌∷◌, ◌++◌, refl, sym, ap, ◌∙◌, subst, arith, not, Bool, true, false, if◌then◌else◌, List, map, filter}
 use Rattle.ist_core.specs.declared.events.Event.{Event}
 use Rattle.ist_core.specs.declared.events.Event.TheVariants.{Reserve}
 use Rattle.ist_core.specs.declared.events.Who.TheVariants.{Caller}
-use Rattle.ist_core.specs.WordTerms.{next_place, place_limit, ref_of, finished_word}
+use Rattle.ist_core.specs.WordTerms.{next_place, place_limit, finished_word}
 use Rattle.ist_core.specs.LogTerms.{Snapshot, sizes_held, IsFair, Later, Lawful, state_of, Log, shown_next, IsBuilding, IsStuck, AreBuilds, no_build, last_build, stuck_build, IsMerge, at_end, from_left, from_right}
 use Rattle.ist_core.proofs.AllLogLemmas.{next_within, words_same, next_word, inner_there, change_there, rebuild_there}
-use Rattle.ist_rule.specs.RuleTerms.{IsSound, now, GoesOnTo, Looked, CanExchange, WentOn, number_of}
+use Rattle.ist_rule.specs.RuleTerms.{IsSound, now, GoesOnTo, Looked, CanExchange, WentOn}
 use Rattle.ist_rule.specs.declared.view.View.{View}
 use Rattle.ist_rule.proofs.EventLemmas.{callers_later, goes_on_more, goes_on_same, goes_on_who, looked_goes_on, may_come_before, next_between}
 use Rattle.ist_rule.proofs.LaterLemmas.{later-goes_on, later_more}
@@ -27,20 +27,7 @@ pub record Took (v : View) (number base size : ℕ) (w : View) : Type 0 where
 -- a token that reserved a row has such a log
 pub took : (v : View) (number base size : ℕ) (w : View) → Reserved v number base size w
     → Took v number base size w
-took v number base size w r = let l = r.reserved in let event = Reserve number base size in
-    let start_is : w.start ≡ v.start = ap (λ x. x.start) l.view ∙ ap (λ x. x.start) r.seen.same in
-    let words_is : w.words ≡ v.words = ap (λ x. x.words) l.view ∙ ap (λ x. x.words) r.seen.same in
-    let log_is : w.log ≡ event ∷ l.before = ap (λ x. x.log) l.view in record {
-      before = l.before;
-      lawful = subst (λ p. Lawful p v.words (event ∷ l.before)) start_is
-          (subst (λ n. Lawful w.start n (event ∷ l.before)) words_is
-          (subst (Lawful w.start w.words) log_is l.sound.lawful));
-      later = later_more r.seen.later (subst (λ x. Later x r.before.log l.before)
-          (goes_on_who r.seen) l.later);
-      now_is = ap₂ (λ p n. state_of p n w.log) start_is words_is ∙ ap (state_of v.start v.words)
-          log_is;
-      who_is = ap (λ x. x.who) l.view ∙ goes_on_who r.seen;
-    }
+took v number base size w r = grind (arith, later_more, goes_on_who)
 
 -- so it went on by the reserving, if P is true of that
 pub reserved_went : (P : Event → Type 0) (v : View) (number base size : ℕ) (w : View)
@@ -85,9 +72,7 @@ may_take_on v w number size g fair log m =
 
 -- the first free word lies within the table, which is small
 pub next_low : (v : View) → IsSound v → ((now v).next ≤ v.words) × (v.words ≤ place_limit)
-next_low v s = let low = next_within v.start v.words s.lawful.opens v.log s.lawful.enabled in
-    let all = words_same v.start v.words s.lawful.opens v.log in
-    (omega arith, s.lawful.opens.within)
+next_low v s = grind (arith, next_within, words_same)
 
 -- a load of the first word gives the first free one
 pub looked_next : (v : View) (word : ℕ) (w : View) → Looked v next_place word w
@@ -107,21 +92,16 @@ read_first v next w s looked = record { before = v; seen = goes_on_same v s; loo
 -- a failed exchange after it reads the first free word again
 pub read_again : (v : View) (next : ℕ) (u : View) (found : ℕ) (w : View) → HasReadNext v next u
     → Looked u next_place found w → HasReadNext v found w
-read_again v next u found w r looked =
-    record { before = u; seen = read_on v next u r; looked = looked }
+read_again v next u found w r looked = grind (arith, read_on)
 
 -- the token is still of its table
 pub read_table : (v : View) (next : ℕ) (w : View) → HasReadNext v next w → w.table ≡ v.table
-read_table v next w r =
-    ap (λ (x : View). x.table) r.looked.view ∙ ap (λ (x : View). x.table) r.seen.same
+read_table v next w r = grind arith
 
 -- the first free word never falls on the way
 next_on : (v w : View) (place word : ℕ) → Looked v place word w → (now v).next ≤ (now w).next
-next_on v w place word l = let g = looked_goes_on v place word w l in
-    let lawful = goes_on_lawful v w g in
-    let same = ap (λ (t : Snapshot). t.next) (goes_on_now v w g) in
-    let more = next_between v.start v.words v.log w.log lawful.enabled (later-goes_on l.later) in
-    omega arith
+next_on v w place word l =
+    grind (arith, looked_goes_on, goes_on_lawful, goes_on_now, next_between, later-goes_on)
 
 -- if another word is found than was read before, the first free word lies further on
 pub next_risen : (u v w : View) (word found : ℕ) → Looked u next_place word v
@@ -133,8 +113,7 @@ next_risen u v w word found l m ne = let here = looked_next u word v l in
 -- the event that the exchange of a caller names
 pub reserving_is : (v : View) (number old size : ℕ) → v.who ≡ Caller number
     → reserving v old (old + size) ≡ Reserve number old size
-reserving_is v number old size who = let size_is : (old + size) - old ≡ size = omega arith in
-    ap₂ (λ n z. Reserve n old z) (ap number_of who) size_is
+reserving_is v number old size who = grind arith
 
 -- ---- builds after longer logs, and how the rows of a caller are merged from builds and others. Serves
 -- fairness.
@@ -156,49 +135,19 @@ finished_stays old new k (is_closed j e f) is = absurd (omega arith)
 module _ (t u : Snapshot) (b : ComesAfter t u) where
   -- a started rebuild stays started
   started_on : (rebuild : ℕ) → IsStarted t rebuild → IsStarted u rebuild
-  started_on rebuild s =
-      let it = change_there t.pieces u.pieces b.grow s.base s.change s.published in let g = it.2 in
-      let yes = s.decision in record {
-        base = s.base;
-        change = it.0;
-        published = it.1;
-        kind = ap (λ r. r.kind) g.others ∙ s.kind;
-        decision = g.decided (λ e. let n : 1 ≡ 0 = sym yes ∙ e in omega arith) ∙ s.decision;
-        to = ap (λ r. ref_of r.to) g.others ∙ s.to;
-      }
+  started_on rebuild s = grind (arith, change_there)
 
   -- a finished row stays finished
   finished_on : (node k : ℕ) → IsFinishedWith t node k → IsFinishedWith u node k
-  finished_on node k f = let it = inner_there t.pieces u.pieces b.grow node f.row f.published in
-      record {
-        row = it.0;
-        published = it.1;
-        status = finished_stays f.row.status it.0.status k it.2.status f.status;
-      }
+  finished_on node k f = grind (arith, inner_there, finished_stays)
 
   -- a building list stays one
   pub building_on : (sizes : List ℕ) → IsBuilding t sizes → IsBuilding u sizes
-  building_on sizes h =
-      let it = rebuild_there t.pieces u.pieces b.grow h.rebuild h.row h.published in record {
-        rebuild = h.rebuild;
-        row = it.0;
-        published = it.1;
-        started = started_on h.rebuild h.started;
-        k = h.k;
-        finished = subst (λ n. IsFinishedWith u n h.k) (sym it.2.target)
-            (finished_on h.row.target h.k h.finished);
-        build = h.build;
-      }
+  building_on sizes h = grind (arith, rebuild_there, started_on, finished_on)
 
   -- what is stuck stays stuck
   pub stuck_on : (sizes : List ℕ) → IsStuck t sizes → IsStuck u sizes
-  stuck_on sizes s = let size = b.words in let more_used = b.next in let short = s.no_room in
-      record {
-        next_size = s.next_size;
-        rest = s.rest;
-        building = building_on (sizes ++ s.next_size ∷ s.rest) s.building;
-        no_room = omega arith;
-      }
+  stuck_on sizes s = grind (arith, building_on)
 
   -- builds stay builds, and what is stuck stays stuck
   pub builds_on : (sizes : List ℕ) → AreBuilds t sizes → AreBuilds u sizes

@@ -29,12 +29,7 @@ few_as full f to = record { words_is = f.words_is; small = f.small; asked = to f
 pub short_from : (S T : View → View → Type 0) {A B : ℕ → Type 0} (u v : View)
     → ((x : View) → S v x → T u x) → (words : ℕ) (full : Full) (w : View)
     → RanShort S A v words full w → (A full.asked → B full.asked) → RanShort T B u words full w
-short_from S T u v on words full w s to = record {
-  before = s.before;
-  seen = on s.before s.seen;
-  looked = s.looked;
-  few = few_as full s.few to;
-}
+short_from S T u v on words full w s to = grind (arith, few_as)
 
 -- if too few words were left after loads only, the token went on by loads
 pub short_goes_on : {A : ℕ → Type 0} (v : View) (words : ℕ) (full : Full) (w : View)
@@ -53,12 +48,7 @@ pub left_between : {A B : Log → ℕ → Type 0} {pairs : List Pair} {words : �
     → GoesOn a b → GoesOn c d → (full : Full) → LeftTooFew A pairs words b c full
     → ((at : Log) → GoesOn b at → GoesOn at c → A at full.asked → B at full.asked)
     → LeftTooFew B pairs words a d full
-left_between on more full l to = record {
-  at = l.at;
-  since = prefix_more on l.since;
-  until = prefix_more l.until more;
-  left = left_as full l.left (to l.at l.since l.until);
-}
+left_between on more full l to = grind (arith, prefix_more, left_as)
 
 -- ---- the list of rows that one caller holds. Serves the condition `builds` of callers.
 

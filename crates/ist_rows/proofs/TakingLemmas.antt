@@ -1,5 +1,5 @@
 -- An exchange of the first free word, once that word was read. Serves `take` and `take_all`.
-use Rattle.std.proofs.Common.{◌≡◌, ◌≢◌, ◌∙◌, ℕ, ◌+◌, ◌-◌, ◌<◌, ◌≤◌, ◌^◌, List, length, refl, sym, ap, subst, arith}
+use Rattle.std.proofs.Common.{◌≡◌, ◌≢◌, ◌∙◌, ℕ, ◌+◌, ◌-◌, ◌<◌, ◌≤◌, ◌^◌, List, length, sym, ap, subst, arith}
 use Rattle.std.specs.List.{sum}
 use Rattle.ist_core.specs.declared.events.Who.TheVariants.{Caller}
 use Rattle.ist_core.specs.WordTerms.{next_place, place_limit}
@@ -27,12 +27,7 @@ module _ (v u : View) (next : ℕ) (r : HasReadNext v next u) where
   -- if too few words are left after it, nothing is reserved
   pub is_full : (words left size : ℕ) → left ≡ words → left < next + size
       → IsFull v words size record { next = next; asked = size; words = left } u
-  is_full words left size is small = record {
-    before = r.before;
-    seen = r.seen;
-    looked = r.looked;
-    few = record { words_is = is; small = omega arith; asked = refl };
-  }
+  is_full words left size is small = grind arith
 
   module _ (number : ℕ) (who : v.who ≡ Caller number) where
     mine : u.who ≡ Caller number

@@ -196,6 +196,4 @@ module _ (pairs : List Pair) (words : ℕ) (number : ℕ) (calls : List Call) wh
       → (o : Option Pending) → whose event ≢ Caller number
       → CallStands pairs words log number calls o
       → CallStands pairs words (event ∷ log) number calls o
-  call_by_others log event enabled o other b =
-      call_on log event enabled o (λ base rows is h. absurd
-      (installs_not number event other base rows is)) b
+  call_by_others log event enabled o other b = grind (arith, call_on, installs_not)

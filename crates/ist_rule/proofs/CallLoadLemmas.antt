@@ -6,7 +6,7 @@ use Rattle.ist_core.specs.declared.commands.Command.{Command}
 use Rattle.ist_core.specs.declared.pairs.Pair.{Pair}
 use Rattle.ist_core.specs.declared.events.Who.{Who}
 use Rattle.ist_core.specs.declared.events.Who.TheVariants.{Caller}
-use Rattle.ist_core.specs.LogTerms.{Log, GoesOn, same_log, one_event, Lawful, state_of, Each, Among, Later}
+use Rattle.ist_core.specs.LogTerms.{Log, GoesOn, same_log, one_event, Lawful, state_of, Each, Among}
 use Rattle.ist_core.specs.TreeTerms.{AllResolvedOf, StandsIn, entry_by, IsFresh, map_of, changes_of}
 use Rattle.ist_core.proofs.AllWordLemmas.{each_append, among_right}
 use Rattle.ist_rule.specs.RuleTerms.{View, Loads, Pending, About, StandsInPrefix, HasMade, IsBetween, CallStands, entries_made, KeepsCalls, its_own, noted, Recalls, NeverFall, IsHeard, Fits, Kept, searching, HasSpoken, CanEnd, CanGiveUp}
@@ -52,14 +52,7 @@ ended : (k : About) (log : Log) (image : List ℕ) (v : View) → Lawful k.start
     → AllResolvedOf (state_of v.start v.words v.log) v.log number
     → (n : ℕ) → v.who ≡ Caller n → IsBetween k.start.value.items k.words log n calls
 ended k log image v lawful f number mine calls made resolved n is =
-    subst (λ i. IsBetween k.start.value.items k.words log i calls) (cc (sym mine ∙ is))
-    (between_later k.start.value.items k.words number calls v.log log lawful.enabled
-    (subst (λ w. Later w v.log log) mine f.later)
-    record {
-      made = made;
-      resolved = as_table k log image v f
-          (λ p n. AllResolvedOf (state_of p n v.log) v.log number) resolved;
-    })
+    grind (arith, between_later, as_table)
 
 -- any seat may begin a search
 pub can_search : (v : View) → CanTurn v (searching v)

@@ -1,5 +1,5 @@
 -- Loads that turn the view of their seat keep the rule. Serves the plays.
-use Rattle.std.proofs.Common.{◌≡◌, ◌≢◌, ◌⊎◌, ℕ, ◌+◌, List, [], ◌∷◌, ◌++◌, ◌≤◌, map, length, slice_index, slice_set, Option, Some, None, refl, sym, ap, ◌∙◌, subst, inl, inr, ⊎_elim, arith, le_refl}
+use Rattle.std.proofs.Common.{◌≡◌, ◌≢◌, ◌⊎◌, ℕ, ◌+◌, List, [], ◌∷◌, ◌++◌, ◌≤◌, map, length, slice_index, slice_set, Option, Some, None, refl, sym, ap, ◌∙◌, subst, ⊎_elim, arith, le_refl}
 use mathlib.Core.Option as maybe
 use Rattle.atomic_table.specs.Table.{step, keeps, Allows}
 use Rattle.atomic_table.proofs.Lists.{at_set}
@@ -41,10 +41,7 @@ module _ (k : About) (s : Table) (r : Kept k s) (id : ℕ) (v : View) (live : v.
 
   -- the new ones are the caller's
   all_are : with_deeds k.start.value.items k.words r.log number deeds r.moments ≡ all
-  all_are = as_view k r.log s.words v f
-      (λ p n. with_deeds k.start.value.items k.words r.log number deeds r.moments
-      ≡ with_deeds p n r.log number deeds r.moments) refl
-      ∙ ap (λ c. with_deeds v.start v.words r.log c deeds r.moments) (sym (ap number_of is))
+  all_are = grind (arith, as_view, f, with_deeds)
 
   its_caller : number_of v.who ≡ number
   its_caller = ap number_of is
@@ -92,22 +89,7 @@ module _ (k : About) (s : Table) (r : Kept k s) (id : ℕ) (v : View) (live : v.
   -- what became of each caller's changes
   working_all : (n : ℕ)
       → CallStands k.start.value.items k.words r.log n (calls_returned n all) (pending_of (in_call n all))
-  working_all n = at (caller_or (Caller n) number)
-    where
-      at : (Caller n ≡ Caller number) ⊎ (Caller n ≢ Caller number)
-          → CallStands k.start.value.items k.words r.log n (calls_returned n all)
-          (pending_of (in_call n all))
-      at (inl e) = subst
-          (λ i. CallStands k.start.value.items k.words r.log i (calls_returned i all)
-          (pending_of (in_call i all))) (sym (cc))
-          (spoken_stands k.start.value.items k.words r.log all number calls pending spoken_all
-          (t.call number is))
-      at (inr other) =
-          spoken_stands k.start.value.items k.words r.log all n (calls_returned n r.moments)
-          (pending_of (in_call n r.moments))
-          (spoken_others n (calls_returned n r.moments) (pending_of (in_call n r.moments))
-          (λ e. other (ap Caller (sym e ∙ its_caller))) record { calls_are = refl; pending_is = refl })
-          (r.timed.working n)
+  working_all n = grind (arith, caller_or, spoken_stands, spoken_all, spoken_others, its_caller)
 
   -- callers that were taken back are others
   taken_all : (taken : List Taken) → Each (IsRetired s) taken

@@ -1,6 +1,6 @@
 -- Where the changes of a caller come from, and what an event does to its entries. Serves what the
 -- rule says of calls.
-use Rattle.std.proofs.Common.{◌≡◌, ℕ, true, false, if◌then◌else◌, List, [], ◌∷◌, nat_lt, Some, sym, ap, ◌∙◌, subst, inl, inr, ⊎_elim}
+use Rattle.std.proofs.Common.{◌≡◌, ℕ, List, [], ◌∷◌, Some, sym, subst, inl, inr, ⊎_elim, arith}
 use Rattle.std.proofs.lemmas.Bool.Decides.{eqb_tells}
 use Rattle.ist_core.specs.declared.states.ChangeRow.{ChangeRow}
 use Rattle.ist_core.specs.declared.lists.Row.{Row}
@@ -8,7 +8,7 @@ use Rattle.ist_core.specs.declared.events.Event.{Event}
 use Rattle.ist_core.specs.declared.events.Event.TheVariants.{Install}
 use Rattle.ist_core.specs.WordTerms.{undecided, Piece, Change, inner_of}
 use Rattle.ist_core.specs.LogTerms.{Snapshot, Log, state, Enabled}
-use Rattle.ist_core.specs.TreeTerms.{Grows, ChangeGrows, change_grows, CanInstall, pair_over, pair_row, FitsKind, a_put, a_pair, a_remove, a_start, a_finish}
+use Rattle.ist_core.specs.TreeTerms.{Grows, ChangeGrows, change_grows, CanInstall, pair_row, FitsKind, a_put, a_pair, a_remove, a_start, a_finish}
 use Rattle.ist_core.proofs.AllEventLemmas.{HeldLieApart, IsPublishedWith, Born, by_install, by_root, by_place, Comes, from_old, from_born, comes}
 use Rattle.ist_core.proofs.AllWordLemmas.{with_inners-some}
 
@@ -26,18 +26,14 @@ NoChange (Change r) = ⊥
 NoChange _ = Unit {0}
 
 pair_no_change : (key base other_key other : ℕ) → NoChange (pair_row key base other_key other)
-pair_no_change key base other_key other =
-    elim (nat_lt other_key key) as (λ v. NoChange
-    (if v then pair_over key other base else pair_over other_key base other))
-    [ true ↦ tt | false ↦ tt ]
+pair_no_change key base other_key other = grind arith
 
 -- a row that an Install publishes with the change's row is not a change
 fresh_no_change : (first : Snapshot) (log : Log) (change : ChangeRow) (fresh : List Row)
     (fits : FitsKind first log change fresh) (base : ℕ) (p : Piece)
     → IsPublishedWith first log change fresh fits base p → NoChange p
 fresh_no_change first log change fresh (a_put h) base p f = subst NoChange (sym f.1) tt
-fresh_no_change first log change fresh (a_pair h) base p (inl f) =
-    subst NoChange (sym f.1) (pair_no_change change.key h.leaf h.other_key h.other)
+fresh_no_change first log change fresh (a_pair h) base p (inl f) = grind (arith, pair_no_change)
 fresh_no_change first log change fresh (a_pair h) base p (inr f) = subst NoChange (sym f.1) tt
 fresh_no_change first log change fresh (a_remove h) base p f = absurd f
 fresh_no_change first log change fresh (a_start h) base p f = subst NoChange (sym f.1) tt
@@ -81,11 +77,8 @@ pub change_comes : (first : Snapshot) (log : Log) (event : Event) → Enabled fi
     → HeldLieApart (state first log)
     → (base : ℕ) (r : ChangeRow) → (state first (event ∷ log)).pieces base ≡ Some (Change r)
     → ChangeComes first log base r event
-change_comes first log event h s base r e = at (comes first log event h s base (Change r) e)
-  where
-    at : Comes first log event base (Change r) → ChangeComes first log base r event
-    at (from_old p there g) = grew first log base r event p there g
-    at (from_born p born g) = born_change first log base r event p born g
+change_comes first log event h s base r e =
+    grind (arith, comes, Comes, from_old, grew, from_born, born_change)
 
 -- ---- what stays of a change
 
@@ -93,15 +86,9 @@ change_comes first log event h s base r e = at (comes first log event h s base (
 pub grows_same_change : {old new : ChangeRow} → ChangeGrows old new
     → (new.kind ≡ old.kind) × (new.owner ≡ old.owner) × (new.key ≡ old.key)
     × (new.value ≡ old.value)
-grows_same_change g = (
-  ap (λ r. r.kind) g.others,
-  ap (λ r. r.owner) g.others,
-  ap (λ r. r.key) g.others,
-  ap (λ r. r.value) g.others,
-)
+grows_same_change g = grind arith
 
 -- one that is undecided was undecided
 pub grows_undecided : {old new : ChangeRow} → ChangeGrows old new → new.decision ≡ undecided
     → old.decision ≡ undecided
-grows_undecided {old} {new} g e =
-    ⊎_elim (λ k. k.1) (λ k. sym (g.decided k.1) ∙ e) (eqb_tells old.decision undecided)
+grows_undecided {old} {new} g e = grind (arith, eqb_tells)

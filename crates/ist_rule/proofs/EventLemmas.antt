@@ -6,8 +6,8 @@ use Rattle.ist_core.specs.declared.events.Event.TheVariants.{Enter, Reserve, Ins
 use Rattle.ist_core.specs.declared.events.Who.TheVariants.{Maker, Caller, Note}
 use Rattle.ist_core.specs.declared.pairs.Pair.{Pair}
 use Rattle.ist_core.specs.declared.events.Who.{Who}
-use Rattle.ist_core.specs.WordTerms.{as_change, start}
-use Rattle.ist_core.specs.LogTerms.{Snapshot, HoldsRows, Log, state, Enabled, whose, Lawful, state_of, no_more, one_more, Later, GoesOn, same_log, one_event, EachEnabled}
+use Rattle.ist_core.specs.WordTerms.{start}
+use Rattle.ist_core.specs.LogTerms.{Snapshot, HoldsRows, Log, state, Enabled, whose, state_of, no_more, one_more, Later, GoesOn, same_log, one_event, EachEnabled}
 use Rattle.ist_core.specs.TreeTerms.{published_by}
 use Rattle.ist_core.proofs.AllLogLemmas.{callers-installed, callers-resolved, next-state}
 use Rattle.ist_rule.specs.RuleTerms.{IsNamed, made_after, View, IsSound, GoesOnTo, Looked, MayCome}
@@ -17,10 +17,8 @@ use Rattle.ist_rule.proofs.LaterLemmas.{later_more}
 -- an Enter adds a caller, and no other event does
 pub callers-state : (first : Snapshot) (log : Log) (event : Event)
     → (state first (event ∷ log)).callers ≡ made_after event (state first log).callers
-callers-state first log (Install caller change rows) =
-    callers-installed (state first log) change rows
-callers-state first log (Resolve caller change) =
-    callers-resolved (state first log) (as_change ((state first log).pieces change))
+callers-state first log (Install caller change rows) = grind (arith, callers-installed)
+callers-state first log (Resolve caller change) = grind (arith, callers-resolved)
 callers-state first log _ = refl
 
 -- the number of callers never falls
@@ -53,11 +51,7 @@ authored (Lose caller bases) = by_caller caller refl (λ made. refl)
 
 -- whose event it is has a name
 pub author_named : (event : Event) → IsNamed (whose event)
-author_named event = at (authored event)
-  where
-    at : Authored event → IsNamed (whose event)
-    at (by_maker caller is who) = subst IsNamed (sym who) tt
-    at (by_caller caller who same) = subst IsNamed (sym who) tt
+author_named event = grind (arith, authored)
 
 -- no event is a note's
 pub author_no_note : (event : Event) (of : Option ℕ) → whose event ≢ Note of
@@ -65,11 +59,7 @@ author_no_note event of e = subst IsNamed e (author_named event)
 
 -- only the maker's event adds a caller
 pub made_by_others : (event : Event) (made : ℕ) → whose event ≢ Maker → made_after event made ≡ made
-made_by_others event made ne = at (authored event)
-  where
-    at : Authored event → made_after event made ≡ made
-    at (by_maker caller is who) = absurd (ne who)
-    at (by_caller caller who same) = same made
+made_by_others event made ne = grind (arith, authored)
 
 -- the author of the event holds the rows that it publishes
 pub record Published (t : Snapshot) (event : Event) : Type 0 where
@@ -85,12 +75,9 @@ pub data PublishesHeld (t : Snapshot) (event : Event) : Type 0 where
 -- each enabled event publishes no row, or its author holds the rows that it publishes
 pub publishes : (first : Snapshot) (log : Log) (event : Event) → Enabled first log event
     → PublishesHeld (state first log) event
-publishes first log (Install caller change rows) h =
-    publishes_held record { caller = caller; author_is = refl; held = h.held }
-publishes first log (Root caller rebuild word rows) h =
-    publishes_held record { caller = caller; author_is = refl; held = h.held }
-publishes first log (Place caller rebuild i word rows) h =
-    publishes_held record { caller = caller; author_is = refl; held = h.held }
+publishes first log (Install caller change rows) h = grind arith
+publishes first log (Root caller rebuild word rows) h = grind arith
+publishes first log (Place caller rebuild i word rows) h = grind arith
 publishes first log _ h = publishes_none refl
 
 -- ---- seats that went on by loads. Serves the crates above.
@@ -142,11 +129,7 @@ goes_on_more u v w a b = record {
 
 -- what may come after a seat went on may have come before
 pub may_come_before : (v w : View) → GoesOnTo v w → (log : Log) → MayCome w log → MayCome v log
-may_come_before v w g log m = record {
-  later = later_more g.later (subst (λ x. Later x w.log log) (goes_on_who g) m.later);
-  lawful = subst (λ p. Lawful p v.words log) (ap (λ x. x.start) g.same)
-      (subst (λ n. Lawful w.start n log) (ap (λ x. x.words) g.same) m.lawful);
-}
+may_come_before v w g log m = grind (arith, later_more, goes_on_who)
 
 -- ---- numbers
 

@@ -52,22 +52,12 @@ pub comes_here : (k : About) (s : Table) (r : Kept k s) (v : View) (f : Fits k r
       found = found;
       left = left;
     })
-comes_here k s r v f event place found left c =
-    as_table k r.log s.words v f (λ p n. Enabled (start p n) r.log event
-    × (touch_of (state_of p n r.log) event ≡ Some record {
-      place = place;
-      found = found;
-      left = left;
-    }))
-    (c.enabled, c.touches)
+comes_here k s r v f event place found left c = grind (arith, as_table)
 
 -- the longest log may come
 pub may_come : (k : About) (s : Table) (r : Kept k s) (v : View) → Fits k r.log s.words v
     → MayCome v r.log
-may_come k s r v f = record {
-  later = f.later;
-  lawful = as_view k r.log s.words v f (λ p n. Lawful p n r.log) r.lawful;
-}
+may_come k s r v f = grind (arith, as_view)
 
 -- an exchange is its event if it finds the word, and a load if it doesn't
 pub exchange_moves : (k : About) (slots id : ℕ) (me : Seated) (place old new : ℕ) (event : Event)
@@ -137,8 +127,7 @@ exchanged_sound v event place old found w e = ⊎_elim
 
 -- a seat that made loads keeps its search
 pub goes_on_keeps : (v w : View) → GoesOnTo v w → KeepsSearch v w
-goes_on_keeps v w g =
-    record { own = ap (λ x. x.own) g.same; since = g.since; more = g.more; loads = g.loads }
+goes_on_keeps v w g = grind arith
 
 -- a seat that made one load keeps its search
 pub looked_keeps : (v : View) (place word : ℕ) (w : View) → Looked v place word w → KeepsSearch v w
@@ -146,22 +135,12 @@ looked_keeps v place word w l = goes_on_keeps v w (looked_goes_on v place word w
 
 -- a seat that made an event keeps its search
 pub logged_keeps : (v : View) (event : Event) (w : View) → Logged v event w → KeepsSearch v w
-logged_keeps v event w l = record {
-  own = ap (λ x. x.own) l.view;
-  since = ap (λ x. x.loads.since) l.view;
-  more = [];
-  loads = ap (λ x. x.loads.list) l.view;
-}
+logged_keeps v event w l = grind arith
 
 -- a seat that made a load which is an event keeps its search
 pub logged_load_keeps : (v : View) (event : Event) (place word : ℕ) (w : View)
     → LoggedLoad v event place word w → KeepsSearch v w
-logged_load_keeps v event place word w l = record {
-  own = ap (λ x. x.own) l.view;
-  since = ap (λ x. x.loads.since) l.view;
-  more = [];
-  loads = ap (λ x. x.loads.list) l.view;
-}
+logged_load_keeps v event place word w l = grind arith
 
 -- a seat that made an exchange keeps its search
 pub exchanged_keeps : (v : View) (event : Event) (place old found : ℕ) (w : View)
@@ -173,8 +152,7 @@ exchanged_keeps v event place old found w e =
 -- a seat that made a load which may be an event keeps its search
 pub loaded_as_keeps : (v : View) (named : Naming) (place word : ℕ) (w : View)
     → LoadedAs v named place word w → KeepsSearch v w
-loaded_as_keeps v named place word w (as_event event l is) =
-    logged_load_keeps v event place word w l
+loaded_as_keeps v named place word w (as_event event l is) = grind (arith, logged_load_keeps)
 loaded_as_keeps v named place word w (as_load l none) = looked_keeps v place word w l
 
 -- one that does nothing keeps it

@@ -28,8 +28,7 @@ later_longer (one_more event p ne) (one_event _ q) le = one_more event (later_lo
 pub later_before : {who : Who} {a b log : Log} → Later who a log → GoesOn a b → GoesOn b log
     → Later who a b
 later_before p on same_log = p
-later_before no_more on (one_event event q) =
-    let long = goes_on_length on in let short = goes_on_length q in absurd (omega arith)
+later_before no_more on (one_event event q) = grind (arith, goes_on_length)
 later_before (one_more event p ne) on (one_event _ q) = later_before p on q
 
 -- a seat that made no event of a log has seen all of its own in any prefix

@@ -1,6 +1,6 @@
 -- Steps that leave the word at their place, and are events: loads, and failed exchanges. Serves the
 -- plays.
-use Rattle.std.proofs.Common.{◌≡◌, ◌≢◌, ℕ, ◌+◌, ◌⊎◌, inl, inr, eqb, slice_index, slice_set, Option, Some, None, refl, sym, ap, ◌∙◌, subst, ⊎_elim, ◌<◌, nat_lt, Bool, true, false, if◌then◌else◌, [], ◌∷◌, ◌++◌, arith}
+use Rattle.std.proofs.Common.{◌≡◌, ◌≢◌, ℕ, ◌+◌, ◌⊎◌, inl, inr, eqb, slice_index, slice_set, Option, Some, None, refl, sym, ap, ◌∙◌, subst, ⊎_elim, ◌<◌, Bool, true, false, if◌then◌else◌, [], ◌∷◌, ◌++◌, arith}
 use Rattle.std.proofs.lemmas.List.{set-get_or}
 use Rattle.std.proofs.lemmas.Bool.Decides.{eqb_tells, nat_tests}
 use mathlib.Core.Option.{some}
@@ -157,8 +157,7 @@ maker_is Spent e = absurd (cc)
 
 -- a seat that awaits another is the maker's, and entered a caller that has no seat
 pub awaits_is : (v : View) → awaits_seat v ≡ true → (v.who ≡ Maker) × (v.given < v.made)
-awaits_is v e = let t = both_true (is_maker v.who) (nat_lt v.given v.made) e in let h : v.given <
-    v.made = grind (arith, nat_tests, t.1) in (maker_is v.who t.0, h)
+awaits_is v e = grind (arith, both_true, nat_tests, maker_is)
 
 split_cases : (k : About) (s : Table) (r : Kept k s) (id : ℕ) (v : View) → v.who ≢ Spent
     → HasView s id v → (b : Bool) → awaits_seat v ≡ b
@@ -169,8 +168,7 @@ split_cases : (k : About) (s : Table) (r : Kept k s) (id : ℕ) (v : View) → v
           ++ (if b then plain v (Caller v.given) [] else plain v (Note (noted_by v.who)) v.calls)
           ∷ [];
     })
-split_cases k s r id v live mine true is = let t =
-    awaits_is v is in splits_caller k s r id v live mine t.0 t.1
+split_cases k s r id v live mine true is = grind (arith, awaits_is, splits_caller)
 split_cases k s r id v live mine false is = splits_note k s r id v live mine
 
 -- a split keeps the rule

@@ -1,6 +1,6 @@
 -- A step that is an event of its seat: what it keeps, and what the seat learns. Serves exchanges and
 -- adds.
-use Rattle.std.proofs.Common.{◌≡◌, ◌≢◌, ◌⊎◌, inl, inr, ℕ, List, [], ◌∷◌, slice_index, slice_set, Some, refl, sym, ap, ◌∙◌, subst, le_refl}
+use Rattle.std.proofs.Common.{◌≡◌, ◌≢◌, ◌⊎◌, inl, inr, ℕ, List, [], ◌∷◌, slice_index, slice_set, Some, refl, sym, ap, ◌∙◌, subst, le_refl, arith}
 use Rattle.atomic_table.specs.Table.{keeps}
 use Rattle.ist_core.specs.declared.events.Event.{Event}
 use Rattle.ist_core.specs.declared.events.Who.TheVariants.{Caller, Spent}
@@ -45,9 +45,7 @@ module _ (k : About) (s : Table) (r : Kept k s) (id : ℕ) (me : Seated) (live :
   f = r.seats id v mine live
 
   owns_now : (u : View) → Fits k r.log s.words u → Owns k.start.value.items k.words log' words' u
-  owns_now u g = subst (λ ws. Owns k.start.value.items k.words log' ws u) words_following
-      (owns_after k.start.value.items k.words r.lawful.opens r.log event enabled' s.words r.image u
-      g.owns g.is_true.fresh)
+  owns_now u g = grind (arith, owns_after, enabled')
 
   -- the callers that were taken back are others
   taken_by_others : (taken : List Taken) → Each (IsRetired s) taken

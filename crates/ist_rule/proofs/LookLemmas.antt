@@ -1,12 +1,11 @@
 -- A step that changes no word: the seat sees the whole log, and takes a view that fits. Serves
 -- loads and the turns of a call.
-use Rattle.std.proofs.Common.{◌≢◌, ℕ, List, sym, subst, ◌≡◌, ◌+◌, ◌^◌, ◌<◌, ◌≤◌, length, slice_get, slice_index, slice_set, Some, refl, ap, ◌∙◌, le_refl, arith}
+use Rattle.std.proofs.Common.{◌≢◌, ℕ, List, sym, subst, ◌≡◌, ◌^◌, ◌<◌, ◌≤◌, length, slice_index, slice_set, refl, ap, ◌∙◌, le_refl, arith}
 use Rattle.ist_core.specs.declared.pairs.Pair.{Pair}
-use Rattle.ist_core.specs.declared.events.Who.TheVariants.{Spent, Caller}
-use Rattle.ist_core.specs.declared.lists.HeldRow.{HeldRow}
+use Rattle.ist_core.specs.declared.events.Who.TheVariants.{Spent}
 use Rattle.ist_core.specs.declared.loads.Load.{Load}
-use Rattle.ist_core.specs.LogTerms.{Log, Lawful, Among, Each, same_log, state_of, Later, IsShown}
-use Rattle.ist_rule.specs.RuleTerms.{View, About, IsWellMade, IsTrueIn, IsSound, Fits, own_at, Recalls, IsRetired, IsTimed, HasView, Kept, Seated, looks, seeing, Looked, Turned}
+use Rattle.ist_core.specs.LogTerms.{Log, Lawful, Each, same_log, state_of, Later, IsShown}
+use Rattle.ist_rule.specs.RuleTerms.{View, About, IsSound, Fits, Recalls, IsRetired, IsTimed, HasView, Kept, Seated, looks, seeing, Looked, Turned}
 use Rattle.std.proofs.lemmas.List.{set-get_or}
 use Rattle.std.proofs.lemmas.Option.{get_or_from_slice_get}
 use Rattle.atomic_table.specs.Table.{step, Act, keeps, Valid, carried_after, stepped, Allows}
@@ -25,8 +24,7 @@ module _ (k : About) (log : Log) (image : List ℕ) (v : View) (f : Fits k log i
     → ℕ → Type 0) where
   -- from the table to the view
   pub as_view : P k.start.value.items k.words → P v.start v.words
-  as_view h = subst (λ p. P p v.words) (sym f.start_is)
-      (subst (P k.start.value.items) (sym f.words_is) h)
+  as_view h = grind arith
 
   -- from the view to the table
   pub as_table : P v.start v.words → P k.start.value.items k.words
@@ -35,10 +33,7 @@ module _ (k : About) (log : Log) (image : List ℕ) (v : View) (f : Fits k log i
 -- a view that has seen the whole log and fits is sound
 pub sound_of : (k : About) (image : List ℕ) (w : View) → Lawful k.start.value.items k.words w.log
     → w.who ≢ Spent → Fits k w.log image w → IsSound w
-sound_of k image w lawful live f =
-    let it = as_view k w.log image w f (λ p n. Lawful p n w.log × IsWellMade p n w
-    × IsTrueIn p n w.log w) (lawful, f.well_made, f.is_true) in
-    record { lawful = it.0; live = live; well_made = it.1; is_true = it.2 }
+sound_of k image w lawful live f = grind arith
 
 -- what to show at a step that finds a word at the place and leaves y: a new view under the rule,
 -- and what it learns
@@ -85,9 +80,7 @@ module _ (k : About) (s : Table) (r : Kept k s) (v : View) (f : Fits k r.log s.w
     -- the lengths of the loads are at most the log's
     lengths : (loads : List Load) → Each (Recalls k.start.value.items k.words r.log) loads
         → Each (λ l. l.length ≤ length r.log) loads
-    lengths loads all = each_map (Recalls k.start.value.items k.words r.log)
-        (λ l. l.length ≤ length r.log) loads
-        (λ l _ q. let short = goes_on_length q.goes_on in let same = q.length_is in omega arith) all
+    lengths loads all = grind (arith, each_map, goes_on_length)
 
     fits_seeing : Fits k r.log s.words w
     fits_seeing =
@@ -99,20 +92,7 @@ module _ (k : About) (s : Table) (r : Kept k s) (v : View) (f : Fits k r.log s.w
 
     -- what the load learns
     pub looked : v.who ≢ Spent → word < 2 ^ 64 → Looked v place word w
-    looked live fits = record {
-      later = f.later;
-      sound = sound_of k s.words w r.lawful live fits_seeing;
-      view = refl;
-      stood = as_view k r.log s.words v f (λ p n. (shown : ℕ)
-          → IsShown (state_of p n r.log) place shown → word ≡ shown) stood;
-      mine = as_view k r.log s.words v f
-          (λ p n. (h : HeldRow) → Among h (state_of p n r.log).held → v.who ≡ Caller h.caller
-          → (j : ℕ) → j < h.size → place ≡ h.base + j → word ≡ own_at v.own place)
-          (λ h i who j less at. get_or_from_slice_get s.words place (own_at v.own place) 0
-          (subst (λ q. slice_get s.words q ≡ Some (own_at v.own q)) (sym at)
-          (f.owns h i who j less)));
-      fits = fits;
-    }
+    looked live fits = grind (arith, sound_of, fits_seeing, stood, get_or_from_slice_get)
 
 -- a load is allowed, and learns the word at the place
 pub sees : (k : About) (s : Table) (r : Kept k s) (id : ℕ) (me : Seated) (place : ℕ) (then : ℕ

@@ -30,25 +30,12 @@ maker_keeps number _ noted e = absurd (cc)
 first_well_made : (table : TableName) (pairs : List Pair) (words : ℕ)
     → IsWellMade pairs words (opened_view table pairs words)
 first_well_made table pairs words =
-    well_made_plain pairs words (opened_view table pairs words) Maker []
-    (λ number keeps. absurd (maker_keeps number Maker keeps refl)) tt
-    record {
-      spoken = λ number is. absurd (maker_caller number is);
-      silent = λ _ number above. tt;
-      linear = none_linear (map_of pairs);
-    }
+    grind (arith, well_made_plain, maker_keeps, maker_caller, none_linear)
 
 -- the first view and the empty log
 first_true : (table : TableName) (pairs : List Pair) (words : ℕ)
     → IsTrueIn pairs words [] (opened_view table pairs words)
-first_true table pairs words = record {
-  low = λ number is. absurd (maker_caller number is);
-  made = λ _. (refl, omega arith, omega arith);
-  idle = λ _ number above. tt;
-  fresh = λ place far. refl;
-  call = λ number is. absurd (maker_caller number is);
-  taken = tt;
-}
+first_true table pairs words = grind (arith, maker_caller)
 
 only : (v : View) (i : ℕ) (u : View) → get_elem? (v ∷ []) i ≡ some u → (v ≡ u) × (i ≡ 0)
 only v zero u e = (some-injective v u e, refl)
@@ -98,35 +85,7 @@ opens k words same opened of_pairs = let v = first_view k in
 -- a view fits as well with another name of its table
 fits_named : (k : About) (log : Log) (image : List ℕ) (v : View) (table : TableName)
     → Fits k log image v → Fits k log image (record v { table = table })
-fits_named k log image v table f = let m = f.well_made in let t = f.is_true in record {
-  start_is = f.start_is;
-  words_is = f.words_is;
-  later = f.later;
-  owns = f.owns;
-  well_made = record {
-    stands = m.stands;
-    stamps = m.stamps;
-    recalls = m.recalls;
-    in_order = m.in_order;
-    since = m.since;
-    olds = m.olds;
-    taken_stand = m.taken_stand;
-    taken_seen = m.taken_seen;
-    taken_once = m.taken_once;
-    taken_given = m.taken_given;
-    maker_takes = m.maker_takes;
-    in_none = m.in_none;
-    moments = m.moments;
-  };
-  is_true = record {
-    low = t.low;
-    made = t.made;
-    idle = t.idle;
-    fresh = t.fresh;
-    call = t.call;
-    taken = t.taken;
-  };
-}
+fits_named k log image v table f = grind arith
 
 -- a load at which a seat learns which table it is of keeps the rule
 pub names_moves : (k : About) (slots id : ℕ) (me : Seated) (table : TableName) → me.0.who ≢ Spent
@@ -148,28 +107,17 @@ names_moves k slots id me table live s r _ mine fits = let v = me.0 in
 pub named_view : (k : About) {x y : TableId} {pairs : List Pair} {v w : View}
     → w ≡ record v { table = name_of x } → v ≡ first_view k → k.start.value.items ≡ pairs → x ≡ y
     → w ≡ opened_view (name_of y) pairs k.words
-named_view k {x = x} {pairs = pairs} named first same table =
-    named ∙ ap (λ (v : View). record v { table = name_of x }) first
-    ∙ ap (λ p. opened_view (name_of x) p k.words) same ∙ ap (λ t. opened_view (name_of t) pairs k.words) table
+named_view k {x = x} {pairs = pairs} named first same table = grind arith
 
 -- the first view with its table's name is sound
 pub opened_sound : (table : TableName) (pairs : List Pair) (words : ℕ) → CanOpen pairs words
     → IsSound (opened_view table pairs words)
-opened_sound table pairs words can = record {
-  lawful = record { opens = can; enabled = tt };
-  live = maker_live;
-  well_made = first_well_made table pairs words;
-  is_true = first_true table pairs words;
-}
+opened_sound table pairs words can = grind (arith, opens, maker_live, first_well_made, first_true)
 
 -- an event is made by the maker or by a caller
 none_makes : (event : Event) → whose event ≢ Maker → ((number : ℕ) → whose event ≢ Caller number)
     → ⊥
-none_makes event ne idle = at (authored event)
-  where
-    at : Authored event → ⊥
-    at (by_maker caller is who) = ne who
-    at (by_caller caller who same) = idle caller who
+none_makes event ne idle = grind (arith, authored, Authored, by_maker, by_caller)
 
 -- a log without an event of the maker or of a caller is empty
 no_event : {log : Log} → Later Maker [] log → ((number : ℕ) → IsIdleIn (Caller number) log)

@@ -1,5 +1,5 @@
 -- The moments of a caller, when others speak and when it does. Serves the conjunct `timed`.
-use Rattle.std.proofs.Common.{◌≡◌, ◌≢◌, ◌⊎◌, ℕ, ◌≤◌, List, [], ◌∷◌, ◌++◌, length, Option, Some, None, refl, sym, ap, ◌∙◌, subst, inl, inr, ⊎_elim, arith}
+use Rattle.std.proofs.Common.{◌≡◌, ◌≢◌, ◌⊎◌, ℕ, ◌≤◌, List, [], ◌∷◌, ◌++◌, length, Option, Some, None, refl, ap, ◌∙◌, subst, inl, inr, arith}
 use Rattle.std.proofs.lemmas.Bool.Decides.{eqb_tells}
 use Rattle.ist_core.specs.declared.calls.Call.{Call}
 use Rattle.ist_core.specs.declared.commands.Command.{Command}
@@ -25,20 +25,11 @@ pub caller_or : (w : Who) (number : ℕ) → (w ≡ Caller number) ⊎ (w ≢ Ca
 caller_or Maker number = inr (λ e. absurd (cc))
 caller_or (Note of) number = inr (λ e. absurd (cc))
 caller_or Spent number = inr (λ e. absurd (cc))
-caller_or (Caller n) number = ⊎_elim (λ t. inl (ap Caller t.1)) (λ t. inr (λ e. t.1 (cc)))
-    (eqb_tells n number)
+caller_or (Caller n) number = grind (arith, eqb_tells)
 
 -- no moments are linearizable
 pub none_linear : (m : Map) → IsLinearizable m []
-none_linear m = record {
-  well_formed = tt;
-  order = [];
-  calls = tt;
-  all = tt;
-  once = tt;
-  legal = refl;
-  real_time = tt;
-}
+none_linear m = grind arith
 
 -- moments of any follow those of one who makes none
 pub later_any : {who other : Who} {earlier moments : Moments}
@@ -76,24 +67,21 @@ later_goes_on (one_later moment l other) = one_moment moment (later_goes_on l)
 pub moments_between : {a b all : Moments} → MomentsGoOn a all → MomentsGoOn b all
     → length a ≤ length b → MomentsGoOn a b
 moments_between p same_moments le = p
-moments_between same_moments (one_moment moment q) le =
-    let short = go_on_length q in absurd (omega arith)
+moments_between same_moments (one_moment moment q) le = grind (arith, go_on_length)
 moments_between (one_moment moment p) (one_moment _ q) le = moments_between p q le
 
 -- who went on by moments of others did so to each prefix between
 pub moments_before : {who : Who} {a b all : Moments} → MomentsLater who a all → MomentsGoOn a b
     → MomentsGoOn b all → MomentsLater who a b
 moments_before p on same_moments = p
-moments_before no_later on (one_moment moment q) =
-    let long = go_on_length on in let short = go_on_length q in absurd (omega arith)
+moments_before no_later on (one_moment moment q) = grind (arith, go_on_length)
 moments_before (one_later moment p other) on (one_moment _ q) = moments_before p on q
 
 -- a longer prefix has the moments of this one too
 pub moments_longer : {who : Who} {a b all : Moments} → MomentsLater who a all → MomentsGoOn b all
     → length a ≤ length b → MomentsLater who b all
 moments_longer p same_moments le = no_later
-moments_longer no_later (one_moment moment q) le =
-    let short = go_on_length q in absurd (omega arith)
+moments_longer no_later (one_moment moment q) le = grind (arith, go_on_length)
 moments_longer (one_later moment p other) (one_moment _ q) le =
     one_later moment (moments_longer p q le) other
 
@@ -107,10 +95,8 @@ silent_before number (one_moment moment p) h = silent_before number p h.1
 pub spoken_other : (moment : Moment) (moments : Moments) (number : ℕ) (calls : List Call)
     (pending : Option Pending) → moment.caller ≢ number → HasSpoken moments number calls pending
     → HasSpoken (moment ∷ moments) number calls pending
-spoken_other moment moments number calls pending other s = record {
-  calls_are = calls_of_other number moment moments other ∙ s.calls_are;
-  pending_is = ap pending_of (in_call_other number moment moments other) ∙ s.pending_is;
-}
+spoken_other moment moments number calls pending other s =
+    grind (arith, calls_of_other, in_call_other)
 
 -- so do moments of others
 pub spoken_later : (number : ℕ) (earlier moments : Moments) (calls : List Call)
@@ -143,9 +129,7 @@ pub spoken_stands : (pairs : List Pair) (words : ℕ) (log : Log) (moments : Mom
     → HasSpoken moments number calls pending → CallStands pairs words log number calls pending
     → CallStands pairs words log number (calls_returned number moments)
     (pending_of (in_call number moments))
-spoken_stands pairs words log moments number calls pending s c =
-    subst (λ p. CallStands pairs words log number (calls_returned number moments) p) (sym s.pending_is)
-    (subst (λ cs. CallStands pairs words log number cs pending) (sym s.calls_are) c)
+spoken_stands pairs words log moments number calls pending s c = grind arith
 
 -- what a caller made, by what became of its changes
 made_of : (pairs : List Pair) (words : ℕ) (log : Log) (number : ℕ) (calls : List Call)
@@ -161,10 +145,7 @@ pub working_linear : (pairs : List Pair) (words : ℕ) (log : Log) (moments : Mo
     → ((number : ℕ) → CallStands pairs words log number (calls_returned number moments)
     (pending_of (in_call number moments)))
     → LinearizesTo (map_of pairs) moments (map_after_entries (map_of pairs) (changes_of pairs words log))
-working_linear pairs words log moments lawful kept working =
-    kept_linearizes pairs words log moments lawful kept
-    (λ number. made_of pairs words log number (calls_returned number moments) (in_call number moments)
-    (working number))
+working_linear pairs words log moments lawful kept working = grind (arith, kept_linearizes, made_of)
 
 -- ---- the caller's own moments
 
@@ -183,20 +164,7 @@ pub record IsBegunAs (o : Option Begun) (pending : Pending) : Type 0 where
 pub begun_as : (o : Option Begun) (pending : Pending) → pending_of o ≡ Some pending
     → IsBegunAs o pending
 begun_as None pending e = absurd (cc)
-begun_as (Some begun) pending e = record {
-  begun = begun;
-  in_it = refl;
-  command = ap (command_in pending) e;
-  length_is = ap (length_in pending) e;
-}
-  where
-    command_in : Pending → Option Pending → Option Command
-    command_in d None = d.command
-    command_in d (Some p) = p.command
-
-    length_in : Pending → Option Pending → ℕ
-    length_in d None = d.length
-    length_in d (Some p) = p.length
+begun_as (Some begun) pending e = grind arith
 
 module _ (pairs : List Pair) (words : ℕ) (log : Log) (moments : Moments) (number : ℕ)
     (calls : List Call) where

@@ -1,6 +1,6 @@
 -- What one event does to the entries and the undecided changes of one caller. Serves the conjunct
 -- `call` of the rule.
-use Rattle.std.proofs.Common.{◌≡◌, ◌≢◌, ℕ, ◌⊎◌, ◌==◌, Bool, true, false, if◌then◌else◌, List, [], ◌∷◌, ◌++◌, Option, Some, None, refl, ap, ◌∙◌, inl, inr, append-nil}
+use Rattle.std.proofs.Common.{◌≡◌, ◌≢◌, ℕ, ◌⊎◌, ◌==◌, Bool, true, false, if◌then◌else◌, List, [], ◌∷◌, ◌++◌, Option, Some, None, refl, ap, ◌∙◌, inl, inr, append-nil, arith}
 use Rattle.std.proofs.lemmas.Bool.Decides.{eqb_tells}
 use Rattle.std.proofs.lemmas.List.Elements.{filter-append}
 use Rattle.ist_core.specs.declared.commands.Command.{Command}
@@ -44,9 +44,7 @@ module _ (pairs : List Pair) (words : ℕ) (log : Log) (number by base : ℕ) (r
       → entry_of (state_of pairs words log).pieces ((state_of pairs words log).pieces base) ≡ new
       → entries_by number (changes_of pairs words (Decide by base true ∷ log)) ≡ before
       ++ entries_by number new
-  following_yes new e = filter-append (λ entry. entry.owner == number) (changes_of pairs words log)
-      (entry_of (state_of pairs words log).pieces ((state_of pairs words log).pieces base))
-      ∙ ap (λ xs. before ++ entries_by number xs) e
+  following_yes new e = grind (arith, filter-append)
 
   -- the entries after a yes, by whether the change has a command
   with_command : (o : Option Command) → command_of r ≡ o

@@ -1,13 +1,13 @@
 -- Where undecided changes come from at each event, and which stay decided. Serves the conjunct `call`.
-use Rattle.std.proofs.Common.{◌≡◌, ◌≢◌, ℕ, Bool, List, [], ◌∷◌, Option, Some, option_map, sym, ap, ◌∙◌, subst, inl, inr}
+use Rattle.std.proofs.Common.{◌≡◌, ◌≢◌, ℕ, Bool, List, [], ◌∷◌, Option, Some, sym, ap, ◌∙◌, subst, inl, inr, arith}
 use Rattle.ist_core.specs.declared.commands.Command.{Command}
 use Rattle.ist_core.specs.declared.pairs.Pair.{Pair}
 use Rattle.ist_core.specs.declared.states.ChangeRow.{ChangeRow}
 use Rattle.ist_core.specs.declared.lists.Row.{Row}
 use Rattle.ist_core.specs.declared.events.Event.{Event}
 use Rattle.ist_core.specs.declared.events.Event.TheVariants.{Install, Decide, Resolve}
-use Rattle.ist_core.specs.WordTerms.{undecided, Change, with_decision, start}
-use Rattle.ist_core.specs.LogTerms.{Snapshot, decision_word, Log, state, Happened, Resolves, Enabled, EachEnabled, state_of}
+use Rattle.ist_core.specs.WordTerms.{undecided, Change, start}
+use Rattle.ist_core.specs.LogTerms.{Snapshot, Log, state, Happened, Resolves, Enabled, EachEnabled, state_of}
 use Rattle.ist_core.specs.TreeTerms.{CanInstall, IsUpdate, AllResolvedOf, command_of}
 use Rattle.ist_core.proofs.AllWordLemmas.{changed_at-same}
 use Rattle.ist_core.proofs.AllLogLemmas.{change_there, said_something}
@@ -68,17 +68,7 @@ module _ (pairs : List Pair) (words : ℕ) (log : Log) (event : Event)
       → (state_of pairs words log).pieces base ≡ Some (Change r)
       → (new : ChangeRow) → (state_of pairs words (event ∷ log)).pieces base ≡ Some (Change new)
       → new.decision ≢ undecided
-  decided_now by base said is r there new now =
-      at said (subst (λ e. (state first (e ∷ log)).pieces base ≡ Some (Change new)) is now)
-    where
-      at : (b : Bool) → (state first (Decide by base b ∷ log)).pieces base ≡ Some (Change new)
-          → new.decision ≢ undecided
-      at b e f =
-          let made = changed_at-same (state_of pairs words log).pieces base
-          (with_decision (decision_word b)) ∙ ap
-          (option_map (with_decision (decision_word b))) there in
-          let same : record r { decision = decision_word b } ≡ new = cc (sym made ∙ e) in
-          said_something b (ap (λ x. x.decision) same ∙ f)
+  decided_now by base said is r there new now = grind (arith, changed_at-same, said_something)
 
 -- what was resolved is decided
 pub record WasDecided (t : Snapshot) (base : ℕ) : Type 0 where
@@ -103,20 +93,14 @@ module _ (pairs : List Pair) (words : ℕ) where
 
   resolved_now : (log : Log) (event : Event) → Enabled (start pairs words) log event → (base : ℕ)
       → Resolves base event → WasDecided (state_of pairs words log) base
-  resolved_now log (Resolve caller change) h base is =
-      subst (WasDecided (state_of pairs words log)) is record {
-        change = h.change;
-        published = h.published;
-        decided = h.decided;
-      }
+  resolved_now log (Resolve caller change) h base is = grind arith
   resolved_now log _ h base is = absurd is
 
   -- a change that was resolved is decided
   pub resolved_decided : (log : Log) → EachEnabled (start pairs words) log → (base : ℕ)
       → Happened (Resolves base) log → WasDecided (state_of pairs words log) base
   resolved_decided [] enabled base is = absurd is
-  resolved_decided (event ∷ log) enabled base (inl is) =
-      decided_on log event enabled base (resolved_now log event enabled.1 base is)
+  resolved_decided (event ∷ log) enabled base (inl is) = grind (arith, decided_on, resolved_now)
   resolved_decided (event ∷ log) enabled base (inr is) =
       decided_on log event enabled base (resolved_decided log enabled.0 base is)
 

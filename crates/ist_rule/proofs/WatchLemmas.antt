@@ -9,7 +9,7 @@ use Rattle.ist_core.specs.declared.events.Event.TheVariants.{Reserve, Install, R
 use Rattle.ist_core.specs.declared.events.Who.TheVariants.{Caller}
 use Rattle.ist_core.specs.declared.states.InnerRow.{InnerRow}
 use Rattle.ist_core.specs.LogTerms.{Among, Each, Snapshot, bases_of, Log, state, Enabled, EachEnabled, state_of, no_more, one_more, whose, Later, IsIdleIn, IsShown, shown_next, shown_callers, shown_status, shown_slot, shown_row, shown_free}
-use Rattle.ist_core.specs.WordTerms.{Change, as_change, start, rows_within, rows_from, placed_parts, anchor, anchor_status_place, anchor_slot_place, inner_status_offset, slot_place, Ref, ChangeAt, Piece, Inner, words_of, size_of, as_inner, SlotHolds, in_anchor, in_row}
+use Rattle.ist_core.specs.WordTerms.{Change, start, rows_within, rows_from, placed_parts, anchor, anchor_status_place, inner_status_offset, slot_place, Ref, ChangeAt, Piece, Inner, words_of, size_of, SlotHolds, in_anchor, in_row}
 use Rattle.ist_core.proofs.AllWordLemmas.{among-append, among_left, each-among, among-pieces_of, same_value}
 use Rattle.ist_core.proofs.AllEventLemmas.{HeldLieApart, without-fate, sound, moves_or_reserves, sound_start, grow_step}
 use Rattle.ist_core.proofs.AllPlaceLemmas.{each-flat_map, get_below, placed, claimed_within, claimed_apart}
@@ -18,7 +18,7 @@ use Rattle.ist_rule.proofs.ChangeLemmas.{NoChange, ChangeComes, stood, is_instal
 use Rattle.ist_rule.proofs.CallLemmas.{installs_not, between_on}
 use Rattle.ist_core.proofs.AllLogLemmas.{held-resolved, rows_holder, lost_holder, inner_there}
 use Rattle.std.proofs.lemmas.Bool.Decides.{eqb_tells}
-use Rattle.ist_core.specs.TreeTerms.{place_of_status, place_of_slot, place_in}
+use Rattle.ist_core.specs.TreeTerms.{place_of_status, place_of_slot}
 
 -- ---- what callers hold, when others make events. Serves the conjuncts `owns` and `unborn`, and stores.
 
@@ -45,12 +45,8 @@ held_by_others first log (Lose caller bases) can s h i other =
     ⊎_elim (λ k. k) (λ b. absurd (other
     (ap Caller (sym (lost_holder (state first log) log caller bases s can h i b)))))
     (without-fate bases (state first log).held h i)
-held_by_others first log (Reserve caller base size) can s h i other =
-    among_left h (state first log).held (record { caller = caller; base = base; size = size } ∷ [])
-    i
-held_by_others first log (Resolve caller change) can s h i other =
-    subst (Among h) (sym (held-resolved (state first log)
-    (as_change ((state first log).pieces change)))) i
+held_by_others first log (Reserve caller base size) can s h i other = grind (arith, among_left)
+held_by_others first log (Resolve caller change) can s h i other = grind (arith, held-resolved)
 held_by_others first log _ can s h i other = i
 
 -- a held row stays along a log that goes on by others
@@ -214,9 +210,7 @@ no_change o e base is = cc (sym e ∙ ap (λ x. not (is_change_ref x)) is)
 
 -- the place of the status of an inner row
 pub status_place_inner : (node : ℕ) → node ≢ anchor → place_of_status node ≡ node + inner_status_offset
-status_place_inner node ne = ⊎_elim (λ k. absurd (ne k.1))
-    (λ k. ap (λ b. if b then anchor_status_place else node + inner_status_offset) k.0)
-    (eqb_tells node anchor)
+status_place_inner node ne = grind (arith, eqb_tells)
 
 -- the place of the anchor's status
 pub status_place_anchor : (node : ℕ) → node ≡ anchor → place_of_status node ≡ anchor_status_place
@@ -225,8 +219,4 @@ status_place_anchor node e = ap place_of_status e
 -- the place of a slot of an inner row
 pub place_inner : (t : Snapshot) (node i : ℕ) (r : InnerRow) → t.pieces node ≡ Some (Inner r)
     → node ≢ anchor → place_of_slot t node i ≡ slot_place node r.degree i
-place_inner t node i r e ne =
-    ⊎_elim (λ k. absurd (ne k.1)) (λ k. ap
-    (λ b. if b then anchor_slot_place else place_in node i (as_inner (t.pieces node))) k.0)
-    (eqb_tells node anchor)
-    ∙ ap (λ o. place_in node i (as_inner o)) e
+place_inner t node i r e ne = grind (arith, eqb_tells)

@@ -24,8 +24,7 @@ module _ (v : View) (s : IsSound v) (log : Log) (m : MayCome v log) where
   u = state_of v.start v.words log
 
   low : (number : ℕ) → v.who ≡ Caller number → number < u.callers
-  low number who = let before = s.is_true.low number who in let more =
-      callers_later v.start v.words v.log log m.later in omega arith
+  low number who = grind (arith, callers_later)
 
   -- an inner row is still there
   inner_later : (node : ℕ) (row : InnerRow) → (now v).pieces node ≡ Some (Inner row)

@@ -1,5 +1,5 @@
 -- Seats that went on by loads, by events of their own and by stores. Serves the crates above.
-use Rattle.std.proofs.Common.{◌≡◌, ℕ, ◌+◌, ◌≤◌, ◌∷◌, sym, ap, ap₂, ◌∙◌, subst, le_refl, inl, inr, arith}
+use Rattle.std.proofs.Common.{◌≡◌, ℕ, ◌+◌, ◌≤◌, ◌∷◌, sym, ap, subst, inl, inr, arith}
 use Rattle.std.proofs.Math.Nat.{le_trans}
 use Rattle.ist_core.specs.declared.events.Event.{Event}
 use Rattle.ist_core.specs.declared.events.Who.{Who}
@@ -40,46 +40,27 @@ went_who P v w h = ap (λ x. x.who) h.same
 -- the state after the log of a seat that went on, by the table of the first view
 pub went_now : (P : Event → Type 0) (v w : View) → WentOn P v w
     → now w ≡ state_of v.start v.words w.log
-went_now P v w h =
-    ap₂ (λ p n. state_of p n w.log) (ap (λ x. x.start) h.same) (ap (λ x. x.words) h.same)
+went_now P v w h = grind arith
 
 -- the log of a seat that went on is lawful for the table of the first view
 pub went_lawful : (P : Event → Type 0) (v w : View) → WentOn P v w → Lawful v.start v.words w.log
-went_lawful P v w h = subst (λ p. Lawful p v.words w.log) (ap (λ x. x.start) h.same)
-    (subst (λ n. Lawful w.start n w.log) (ap (λ x. x.words) h.same) h.sound.lawful)
+went_lawful P v w h = grind arith
 
 -- rows grow
 pub went_grow : (P : Event → Type 0) (v w : View) → WentOn P v w
     → AllGrow (now v).pieces (now w).pieces
-went_grow P v w h = subst (λ t. AllGrow (now v).pieces t.pieces) (sym (went_now P v w h))
-    (grow_between v.start v.words v.log w.log (went_lawful P v w h).enabled
-    (goes_on_by h.later))
+went_grow P v w h = grind (arith, went_now, grow_between, went_lawful, goes_on_by)
 
 -- what is true of all its events may be said of them
 pub went_all : (P Q : Event → Type 0) → ((event : Event) → P event → Q event) → (v w : View)
     → WentOn P v w → WentOn Q v w
-went_all P Q all v w h = record {
-  later = later_by_all all h.later;
-  sound = h.sound;
-  same = h.same;
-  loaded = h.loaded;
-}
+went_all P Q all v w h = grind (arith, later_by_all)
 
 -- ---- which steps make a seat go on so
 
 -- a seat that made loads went on so
 pub goes_on_went : (P : Event → Type 0) (v w : View) → GoesOnTo v w → WentOn P v w
-goes_on_went P v w g = let own : w.own ≡ v.own = ap (λ x. x.own) g.same in record {
-  later = later_by g.later;
-  sound = g.sound;
-  same = g.same ∙ ap {B = View} (λ own. record v {
-    log = w.log;
-    own = own;
-    loads = w.loads;
-    loaded = w.loaded;
-  }) (sym own);
-  loaded = g.loaded;
-}
+goes_on_went P v w g = grind (arith, later_by)
 
 -- a seat that does nothing went on
 pub went_same : (P : Event → Type 0) (v : View) → IsSound v → WentOn P v v
@@ -111,8 +92,7 @@ event_went P v event w before count later view sound more is made = record {
 -- a seat that made an event that P is true of went on
 pub logged_went : (P : Event → Type 0) (v : View) (event : Event) (w : View) → Logged v event w
     → P event → made_after event v.made ≡ v.made → WentOn P v w
-logged_went P v event w l =
-    event_went P v event w l.before v.loaded l.later l.view l.sound (le_refl v.loaded)
+logged_went P v event w l = grind (arith, event_went)
 
 -- a seat that made a load which is such an event went on
 pub logged_load_went : (P : Event → Type 0) (v : View) (event : Event) (place word : ℕ) (w : View)
@@ -134,27 +114,4 @@ goes_on_grow v w g = went_grow (λ event. ⊥) v w (goes_on_went (λ event. ⊥)
 
 -- going on twice
 pub went_more : (P : Event → Type 0) (u v w : View) → WentOn P u v → WentOn P v w → WentOn P u w
-went_more P u v w a b = record {
-  later = later_by_more a.later (subst (λ x. LaterBy x P v.log w.log) (went_who P u v a) b.later);
-  sound = b.sound;
-  same = b.same ∙ ap {B = View} (λ (x : View). record x {
-    log = w.log;
-    own = w.own;
-    loads = w.loads;
-    loaded = w.loaded;
-  }) a.same;
-  loaded = le_trans a.loaded b.loaded;
-}
-  where
-    start_is : w.start ≡ u.start
-    start_is = ap (λ x. x.start) b.same ∙ ap (λ x. x.start) a.same
-
-    words_is : w.words ≡ u.words
-    words_is = ap (λ x. x.words) b.same ∙ ap (λ x. x.words) a.same
-
-    now_is : now w ≡ state_of u.start u.words w.log
-    now_is = ap₂ (λ p n. state_of p n w.log) start_is words_is
-
-    lawful : Lawful u.start u.words w.log
-    lawful = subst (λ p. Lawful p u.words w.log) start_is
-        (subst (λ n. Lawful w.start n w.log) words_is b.sound.lawful)
+went_more P u v w a b = grind (arith, later_by_more, went_who, le_trans)

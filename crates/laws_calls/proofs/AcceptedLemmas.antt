@@ -67,8 +67,7 @@ last_or_sooner P event _ before _ (one_event _ sooner) here again = again sooner
 -- each event between is one by which the log went on
 pub event_by : (P : Event → Type 0) (earlier log : Log) → GoesOnBy P earlier log → (event : Event)
     → (before : Log) → GoesOn earlier before → GoesOn (event ∷ before) log → P event
-event_by P earlier _ no_more event before since until = let longer = goes_on_length until in
-    let low = goes_on_length since in absurd (omega arith)
+event_by P earlier _ no_more event before since until = grind (arith, goes_on_length)
 event_by P earlier _ (one_more {log = log} last later p) event before since until =
     last_or_sooner P event last before log until p
     (λ sooner. event_by P earlier log later event before since sooner)

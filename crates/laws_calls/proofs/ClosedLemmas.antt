@@ -139,8 +139,7 @@ module _ (pairs : List Pair) (words : ℕ) (opens : CanOpen pairs words) where
       → DueRowsAreClosed (start pairs words) earlier caller
       → DueRowsAreClosed (start pairs words) log caller
   due_stay P earlier log caller no_count later h closed node made =
-      closed_above_stays earlier log (goes_on_by later) h node
-      (closed node (made_before P earlier caller node no_count log later made))
+      grind (arith, closed_above_stays, goes_on_by, made_before)
 
   -- a Count also keeps this if it leaves the count below the limit, or if a row on the chain isn't
   -- open after it
@@ -183,8 +182,7 @@ module _ (pairs : List Pair) (words : ℕ) (opens : CanOpen pairs words) where
 -- an event of another is no Install of the caller, of a start or of anything
 pub others_start_nothing : (caller : ℕ) (event : Event) → whose event ≢ Caller caller
     → InstallsNoStart caller event
-others_start_nothing caller (Install by base rows) other =
-    λ same change is kind. other (ap Caller same)
+others_start_nothing caller (Install by base rows) other = grind arith
 others_start_nothing caller _ other = tt
 
 -- an event of others is no Count of the caller

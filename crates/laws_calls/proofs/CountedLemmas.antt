@@ -1,5 +1,5 @@
 -- An update that is its caller's one entry since may be counted. Serves the law on Counts.
-use Rattle.std.proofs.Common.{List, None, Some, ap, arith, false, inl, inr, length, length-append, refl, subst, sym, true, ℕ, if◌then◌else◌, ◌++◌, ◌+◌, ◌<◌, ◌==◌, ◌∙◌, ◌∷◌, ◌≡◌, ◌≢◌, ◌≤◌, ◌⊎◌}
+use Rattle.std.proofs.Common.{List, None, Some, ap, arith, inl, inr, length, length-append, subst, sym, true, ℕ, if◌then◌else◌, ◌++◌, ◌+◌, ◌<◌, ◌==◌, ◌∙◌, ◌∷◌, ◌≡◌, ◌≤◌}
 use Rattle.std.proofs.lemmas.Bool.Decides.{eqb_tells}
 use Rattle.std.proofs.lemmas.List.Elements.{filter-append}
 use Rattle.ist_core.specs.declared.commands.Command.TheVariants.{Put, Remove}
@@ -36,13 +36,7 @@ update_command x (inr remove) = (
 -- an entry of the owner is one of its entries
 own_entry : (ps : Pieces) (x : ChangeRow) (caller : ℕ) → x.owner ≡ caller → (command : Command)
     → length (entries_by caller (entry_for ps x (Some command))) ≡ 1
-own_entry ps x caller own command = at (eqb_tells x.owner caller)
-  where
-    at : (((x.owner == caller) ≡ true) × (x.owner ≡ caller))
-        ⊎ (((x.owner == caller) ≡ false) × (x.owner ≢ caller))
-        → length (entries_by caller (entry_for ps x (Some command))) ≡ 1
-    at (inl k) = rw k.0 refl
-    at (inr k) = absurd (k.1 own)
+own_entry ps x caller own command = grind (arith, eqb_tells)
 
 module _ (pairs : List Pair) (words : ℕ) where
   -- how many entries a caller has

@@ -2,11 +2,11 @@
 -- settled law.
 use Rattle.std.proofs.Common.{List, None, Some, [], ap, arith, false, inl, inr, refl, subst, sym, true, ℕ, if◌then◌else◌, ◌+◌, ◌<◌, ◌==◌, ◌∙◌, ◌∷◌, ◌≡◌, ◌≢◌, ◌≤◌, ◌⊎◌}
 use Rattle.std.proofs.lemmas.Bool.Decides.{eqb_tells}
-use Rattle.ist_core.specs.declared.events.Event.TheVariants.{Count, Install, Place, Root}
+use Rattle.ist_core.specs.declared.events.Event.TheVariants.{Count, Place, Root}
 use Rattle.ist_core.specs.declared.events.Event.{Event}
 use Rattle.ist_core.specs.declared.pairs.Pair.{Pair}
 use Rattle.ist_core.specs.declared.states.InnerRow.{InnerRow}
-use Rattle.ist_core.specs.LogTerms.{decision_word, side_of, CanOpen, EachEnabled, state_of, Log, state, Snapshot}
+use Rattle.ist_core.specs.LogTerms.{side_of, CanOpen, EachEnabled, state_of, Log, state, Snapshot}
 use Rattle.ist_core.specs.WordTerms.{limit, Change, Inner, Leaf, Piece, Rebuild, counted, drawn, with_decision, with_root, with_slot, with_status, ChangeAt, word_of, start, finished_word, marked_word}
 use Rattle.ist_core.specs.TreeTerms.{CanCount, WasLinked}
 use Rattle.ist_core.proofs.AllEventLemmas.{Born}
@@ -43,22 +43,19 @@ count-with_status status (Change r) x e = absurd (cc)
 count-with_status status (Rebuild r) x e = absurd (cc)
 
 count-with_decision : (decision : ℕ) → KeepsCounts (with_decision decision)
-count-with_decision decision (Inner r) x e =
-    (r, refl, ap (λ y. y.count) (inner_is _ x e), ap (λ y. y.size) (inner_is _ x e))
+count-with_decision decision (Inner r) x e = grind (arith, inner_is)
 count-with_decision decision (Leaf r) x e = absurd (cc)
 count-with_decision decision (Change r) x e = absurd (cc)
 count-with_decision decision (Rebuild r) x e = absurd (cc)
 
 count-with_root : (word : ℕ) → KeepsCounts (with_root word)
-count-with_root word (Inner r) x e =
-    (r, refl, ap (λ y. y.count) (inner_is _ x e), ap (λ y. y.size) (inner_is _ x e))
+count-with_root word (Inner r) x e = grind (arith, inner_is)
 count-with_root word (Leaf r) x e = absurd (cc)
 count-with_root word (Change r) x e = absurd (cc)
 count-with_root word (Rebuild r) x e = absurd (cc)
 
 count-drawn : KeepsCounts drawn
-count-drawn (Inner r) x e =
-    (r, refl, ap (λ y. y.count) (inner_is _ x e), ap (λ y. y.size) (inner_is _ x e))
+count-drawn (Inner r) x e = grind (arith, inner_is)
 count-drawn (Leaf r) x e = absurd (cc)
 count-drawn (Change r) x e = absurd (cc)
 count-drawn (Rebuild r) x e = absurd (cc)
@@ -117,11 +114,7 @@ module _ (pairs : List Pair) (words : ℕ) (opens : CanOpen pairs words) where
   unfolding counts
   born_uncounted log _ h node x e none (born.by_install {caller = caller} {change = change}
       {rows = rows} can new) =
-      let most = count_at_most node pairs words (Install caller change rows ∷ log) h (Inner x) e in
-      let zero = no_counts log h.0 node none in at most zero
-    where
-      at : x.count ≤ counts node log → counts node log ≡ 0 → x.count ≡ 0
-      at a b = omega arith
+      grind (arith, count_at_most, no_counts, counts)
   born_uncounted log _ h node x e none (born.by_root {caller = caller} {rebuild = rebuild}
       {word = word} {rows = rows} i p) =
       let most = count_at_most node pairs words (Root caller rebuild word rows ∷ log) h (Inner x)
@@ -161,8 +154,7 @@ module _ (pairs : List Pair) (words : ℕ) (opens : CanOpen pairs words) where
   turned_count log _ node x p old (by_place {i = i} {word = word} h here is) =
       same_count log _ node x p (with_slot i word) (count-with_slot i word) old is
   turned_count log _ node x p old (by_decide {said = said} h is) =
-      same_count log _ node x p (with_decision (decision_word said))
-      (count-with_decision (decision_word said)) old is
+      grind (arith, same_count, count-with_decision)
   turned_count log _ node x p old (by_count h is) = let it = count-counted p x (sym is) in
       is_counted it.0 h (old ∙ ap (λ y. Some y) it.1) it.2 it.3
   turned_count log _ node x p old (by_mark h is) =
@@ -172,8 +164,7 @@ module _ (pairs : List Pair) (words : ℕ) (opens : CanOpen pairs words) where
       (count-with_status (finished_word keys)) old is
   turned_count log _ node x p old (by_root {word = word} h is) =
       same_count log _ node x p (with_root word) (count-with_root word) old is
-  turned_count log _ node x p old (by_draw h is) =
-      same_count log _ node x p drawn count-drawn old is
+  turned_count log _ node x p old (by_draw h is) = grind (arith, same_count, count-drawn)
 
   count_comes : (log : Log) (event : Event) → EachEnabled (start pairs words) (event ∷ log)
       → (node : ℕ) (x : InnerRow)
@@ -235,8 +226,7 @@ module _ (pairs : List Pair) (words : ℕ) (opens : CanOpen pairs words) where
   -- a row that was made due was linked
   made_due_linked : (caller node : ℕ) (log : Log) → EachEnabled (start pairs words) log
       → MadeDue (start pairs words) caller node log → WasLinked (start pairs words) log node
-  made_due_linked caller node _ h (due_now {log = log} row e l) =
-      inr (on_chain_was_linked (start pairs words) log h.1.update.change.node node h.1.on_chain)
+  made_due_linked caller node _ h (due_now {log = log} row e l) = grind (arith, on_chain_was_linked)
   made_due_linked caller node _ h (due_before {log = log} event made) =
       inr (made_due_linked caller node log h.0 made)
 

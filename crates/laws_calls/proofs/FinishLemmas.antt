@@ -1,6 +1,6 @@
 -- The slots of rows that were linked are set, and their leaves have strictly increasing keys.
 -- Serves the finish law.
-use Rattle.std.proofs.Common.{List, Option, Some, ap, arith, map, subst, sym, ℕ, ⊎_elim, ◌∙◌, ◌≡◌, ◌≢◌, length, refl, take, ◌*◌, ◌++◌, ◌+◌, ◌∷◌}
+use Rattle.std.proofs.Common.{List, Option, Some, ap, arith, map, subst, sym, ℕ, ⊎_elim, ◌∙◌, ◌≡◌, ◌≢◌, length, take, ◌*◌, ◌++◌, ◌+◌, ◌∷◌}
 use Rattle.std.specs.List.Sorted.{IsStrictlyIncreasing}
 use Rattle.ist_core.specs.declared.pairs.Pair.{Pair}
 use Rattle.ist_core.specs.declared.events.Event.TheVariants.{Finish}
@@ -8,7 +8,7 @@ use Rattle.ist_core.specs.declared.events.Event.{Event}
 use Rattle.ist_core.specs.declared.states.InnerRow.{InnerRow}
 use Rattle.ist_core.specs.LogTerms.{CanOpen, EachEnabled, state_of, GoesOn, Log, Snapshot, one_event, same_log}
 use Rattle.ist_core.specs.TreeTerms.{HasLeaves, PlacedLeaf, WasLinked, CountsFor, no_key, of_child, of_target, one_key, IsFinishedWith, Entry, changes_of, map_after_entries, pair_of, IsChild, Linked, at_anchor, below, map_of, pairs_of}
-use Rattle.ist_core.specs.WordTerms.{InnerAt, Ref, Unset, ref_of, unset_word, anchor, SlotHolds, logical, past_rebuild, rebuild_reads, start, Inner, in_anchor, in_row, finished_word}
+use Rattle.ist_core.specs.WordTerms.{InnerAt, Ref, Unset, ref_of, unset_word, anchor, SlotHolds, logical, past_rebuild, start, Inner, finished_word}
 use Rattle.ist_core.proofs.AllLogLemmas.{frozen_reads, enabled_before, finished_leaves_stay}
 use Rattle.ist_core.proofs.AllPlaceLemmas.{Mentions, leaves_lie, next_from_rises, names, one_home, anchor_free, slot_once, key_of_leaf, leaves_under, same_leaves, one_parent, no_row}
 use Rattle.laws_links.specs.Linking.{IsFinished}
@@ -35,9 +35,7 @@ passed_set : (t : Snapshot) (o : Option Ref) (k : ℕ) → CountsFor t o k
 passed_set t _ _ no_key e = cc
 passed_set t _ _ one_key e = cc
 passed_set t _ _ (of_child f) e = cc
-passed_set t _ _ (of_target h f) e =
-    let read : Some (InnerAt h.row.target) ≡ Some Unset = sym (ap rebuild_reads h.published) ∙ e in
-    cc
+passed_set t _ _ (of_target h f) e = grind arith
 
 module _ (pairs : List Pair) (words : ℕ) (opens : CanOpen pairs words) where
   -- ---- slots
@@ -70,8 +68,7 @@ module _ (pairs : List Pair) (words : ℕ) (opens : CanOpen pairs words) where
   -- a finished row was linked
   pub finished_was_linked : (log : Log) → EachEnabled (start pairs words) log → (node k : ℕ)
       → IsFinishedWith (state_of pairs words log) node k → WasLinked (start pairs words) log node
-  finished_was_linked log h node k f = let some = f.status in
-      closed_was_linked pairs words opens log h node f.row f.published (λ o. omega arith)
+  finished_was_linked log h node k f = grind (arith, closed_was_linked)
 
   -- ---- increasing keys
 
@@ -127,28 +124,15 @@ module _ (pairs : List Pair) (words : ℕ) (opens : CanOpen pairs words) where
       → IsChild (state_of pairs words at) anchor i node → (leaves : List PlacedLeaf)
       → HasLeaves (state_of pairs words at).pieces (Some (InnerAt node)) leaves
       → map pair_of leaves ≡ pairs_of (map_now pairs words at)
-  child_pairs at h node i c leaves has = here c.holds
-    where
-      t : Snapshot
-      t = state_of pairs words at
-
-      here : SlotHolds t anchor i c.word → map pair_of leaves ≡ pairs_of (map_now pairs words at)
-      here (in_anchor a b e) = let all = contents_at pairs words opens at h in
-          let reached = subst (λ o. HasLeaves t.pieces o all.leaves)
-          (ap (logical t.pieces) e ∙ c.reads) all.reached in
-          ap (map pair_of) (same_leaves t.pieces (Some (InnerAt node)) leaves all.leaves has
-          reached)
-          ∙ sym all.pairs_are
-      here (in_row r p g) = absurd (no_row t.pieces anchor r (anchor_free pairs words at h) refl p)
+  child_pairs at h node i c leaves has =
+      grind (arith, contents_at, same_leaves, no_row, anchor_free)
 
   -- a linked row that was the anchor's child still is
   still_child : (earlier log : Log) → GoesOn earlier log → EachEnabled (start pairs words) log
       → (node i : ℕ) → IsChild (state_of pairs words earlier) anchor i node
       → Linked (state_of pairs words log) node
       → (j : ℕ) × IsChild (state_of pairs words log) anchor j node
-  still_child earlier log on h _ i c at_anchor = absurd
-      (child_no_anchor pairs words opens earlier
-      (enabled_before (start pairs words) earlier log on h) anchor i anchor c refl)
+  still_child earlier log on h _ i c at_anchor = grind (arith, child_no_anchor, enabled_before)
   still_child earlier log on h _ i c (below {node = node} {child = child} j l d) =
       let same = one_parent pairs words opens earlier log on h anchor i node j child c d in
       (j, subst (λ n. IsChild (state_of pairs words log) n j child) (sym same.0) d)

@@ -1,5 +1,5 @@
 -- Ideal subtrees over rows that are added to others. Serves the law on ideal subtrees.
-use Rattle.std.proofs.Common.{List, None, Option, Some, [], refl, ap, subst, sym, ℕ, ⊎_elim, ◌∙◌, ◌∷◌, ◌++◌, ◌≡◌}
+use Rattle.std.proofs.Common.{List, None, Some, [], refl, ap, subst, sym, ℕ, ◌∙◌, ◌∷◌, ◌++◌, ◌≡◌, arith}
 use Rattle.std.proofs.lemmas.List.{map-append, append-nil}
 use Rattle.ist_core.specs.declared.lists.Row.{Row}
 use Rattle.ist_core.specs.declared.states.InnerRow.{InnerRow}
@@ -26,15 +26,13 @@ module _ (ps qs : Pieces) (own : List ℕ)
   pub ideal_over : (ref : Ref) (leaves : List PlacedLeaf) (above : ℕ) (bases : List ℕ)
       → IsIdeal ps ref leaves above bases → ((base : ℕ) → Among base bases → Among base own)
       → IsIdeal qs ref leaves above bases
-  ideal_over ref leaves above bases ideal i =
-      ideal_kept ps qs ref leaves above bases ideal (stand bases i)
+  ideal_over ref leaves above bases ideal i = grind (arith, ideal_kept, stand)
 
   -- ideal parts are ideal wherever their leaves and rows are
   pub parts_over : (words : List ℕ) (following : List (List PlacedLeaf)) (above : ℕ) (bases : List ℕ)
       → AreIdeal ps words following above bases → ((base : ℕ) → Among base bases → Among base own)
       → AreIdeal qs words following above bases
-  parts_over words following above bases are i =
-      parts_kept ps qs words following above bases are (stand bases i)
+  parts_over words following above bases are i = grind (arith, parts_kept, stand)
 
 -- ideal parts with one more at the end are ideal parts
 pub parts_more : (ps : Pieces) (words : List ℕ) (following : List (List PlacedLeaf)) (above : ℕ)
@@ -67,8 +65,7 @@ no_leaf (a ∷ b ∷ c ∷ d ∷ rest) r e = cc
 -- a leaf after rows are put was there before
 pub leaf_stood : (ps : Pieces) (rows : List Row) (base : ℕ) (r : LeafRow)
     → with_inners ps rows base ≡ Some (Leaf r) → ps base ≡ Some (Leaf r)
-leaf_stood ps rows base r e = ⊎_elim (λ put. absurd (no_leaf put.0.words r put.3)) (λ stood. stood)
-    (with_inners-some ps rows base (Leaf r) e)
+leaf_stood ps rows base r e = grind (arith, no_leaf, with_inners-some)
 
 -- putting joined lists of rows puts the second and then the first
 pub with_both : (ps : Pieces) (xs ys : List Row)
@@ -79,8 +76,7 @@ with_both ps (x ∷ xs) ys = ap (λ qs. with_row qs x.base (inner_of x.words)) (
 -- a row that is put at a free base is also there if the rows are put among others
 pub put_stands : (ps qs : Pieces) (rows : List Row) (base : ℕ) (p : Piece)
     → ps base ≡ None → with_inners ps rows base ≡ Some p → with_inners qs rows base ≡ Some p
-put_stands ps qs rows base p none e = ⊎_elim (λ put. put) (λ stood. absurd (cc (stood.0)))
-    (put_or_stood ps qs rows base p e)
+put_stands ps qs rows base p none e = grind (arith, put_or_stood)
 
 -- ---- two lists of rows that share no base, put where no row was before
 
@@ -91,17 +87,11 @@ module _ (ps : Pieces) (xs ys : List Row)
   bases_both = map-append (λ (row : Row). row.base) xs ys
 
   left_free : (base : ℕ) → Among base (bases_of xs) → ps base ≡ None
-  left_free base i =
-      free base (subst (Among base) (sym bases_both) (among_left base (bases_of xs) (bases_of ys)
-      i))
+  left_free base i = grind (arith, bases_both, among_left)
 
   leaf_beside : (base : ℕ) (r : LeafRow) → ps base ≡ Some (Leaf r)
       → with_inners ps (xs ++ ys) base ≡ Some (Leaf r)
-  leaf_beside base r e =
-      with_inners-other ps (xs ++ ys) base (λ i. clash (ps base) (free base i) e) ∙ e
-    where
-      clash : (o : Option Piece) → o ≡ None → o ≡ Some (Leaf r) → ⊥
-      clash o e f = cc
+  leaf_beside base r e = grind (arith, with_inners-other)
 
   -- a leaf after the first rows are put is there after both lists are
   pub left_leaf : (base : ℕ) (r : LeafRow) → with_inners ps xs base ≡ Some (Leaf r)
@@ -116,8 +106,7 @@ module _ (ps : Pieces) (xs ys : List Row)
   -- an inner row of the first list is there after both lists are put
   pub left_inner : (base : ℕ) (r : InnerRow) → Among base (bases_of xs)
       → with_inners ps xs base ≡ Some (Inner r) → with_inners ps (xs ++ ys) base ≡ Some (Inner r)
-  left_inner base r i e = ap (λ qs. qs base) (with_both ps xs ys)
-      ∙ put_stands ps (with_inners ps ys) xs base (Inner r) (left_free base i) e
+  left_inner base r i e = grind (arith, with_both, put_stands, left_free)
 
   -- an inner row of the second list is there after both lists are put
   pub right_inner : (base : ℕ) (r : InnerRow) → Among base (bases_of ys)

@@ -48,13 +48,7 @@ module _ (pairs : List Pair) (words : ℕ) (opens : CanOpen pairs words) (log : 
   is_load : (place word least : ℕ) → least ≤ length at
       → ((other : ℕ) → IsShown t place other → word ≡ other)
       → IsLoad pairs words log place least (load_of place word)
-  is_load place word least since tells = record {
-    tells = λ other shown. tells other
-        (subst (λ xs. IsShown (state_of pairs words xs) place other) then_is shown);
-    place_is = refl;
-    since = since;
-    within = goes_on_length on;
-  }
+  is_load place word least since tells = grind (arith, then_is, goes_on_length)
 
   -- a word of a published row
   row_load : (base k word : ℕ) (p : Piece) → t.pieces base ≡ Some p

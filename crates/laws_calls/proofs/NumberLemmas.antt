@@ -13,7 +13,7 @@ use Rattle.ist_core.specs.declared.events.Event.TheVariants.{Finish}
 use Rattle.ist_core.specs.declared.events.Event.{Event}
 use Rattle.ist_core.specs.declared.pairs.Pair.{Pair}
 use Rattle.ist_core.specs.declared.states.InnerRow.{InnerRow}
-use Rattle.ist_core.specs.TreeTerms.{Entry, changes_of, map_after_entries, HasLeaves, PlacedLeaf, SlotsHaveLeaves, no_slot, one_slot, pair_of, row_here, Linked, at_anchor, below, Map, map_after, map_of}
+use Rattle.ist_core.specs.TreeTerms.{Entry, changes_of, map_after_entries, HasLeaves, PlacedLeaf, SlotsHaveLeaves, no_slot, one_slot, row_here, Linked, at_anchor, below, Map, map_after, map_of}
 use Rattle.ist_core.specs.LogTerms.{CanOpen, EachEnabled, state_of, Log, one_event, same_log, Snapshot}
 use Rattle.ist_core.specs.WordTerms.{Inner, Pieces, InnerAt, Ref, anchor, SlotHolds, in_anchor, in_row, logical, start, finished_word}
 use Rattle.ist_core.proofs.AllPlaceLemmas.{is_sorted-rising, anchor_free, no_row, one_kept, one_less, length-pairs_of}
@@ -24,7 +24,6 @@ use Rattle.laws_links.proofs.UntouchedLemmas.{not_the_anchor}
 use Rattle.laws_links.proofs.ContentLemmas.{finishing_linked}
 use Rattle.laws_links.proofs.KeepingContentLemmas.{leaves_step}
 use Rattle.laws_links.proofs.NumberLemmas.{number_is}
-use Rattle.laws_histories.specs.Telling.{map_now}
 use Rattle.laws_histories.proofs.ChangeLemmas.{changes_on}
 use Rattle.laws_histories.proofs.ContentLemmas.{contents_at}
 use Rattle.laws_calls.specs.Finishing.{is_put, puts_in}
@@ -59,9 +58,7 @@ row_few : (t : Snapshot) (node i word : ℕ) (leaves : List PlacedLeaf) → node
     → HasFew t.pieces (logical t.pieces word) (length leaves)
 row_few t node i word leaves ne has (in_anchor a b e) = absurd (ne a)
 row_few t node i word leaves ne (row_here r e slots) (in_row s f g) =
-    let same = same_inner (t.pieces node) s r f e in
-    slot_few t.pieces r.slots leaves slots i word (subst (λ x. slice_get x.slots i ≡ Some word) same
-    g)
+    grind (arith, same_inner, slot_few)
 
 -- ---- maps
 
@@ -124,12 +121,7 @@ module _ (pairs : List Pair) (words : ℕ) (opens : CanOpen pairs words) where
       → HasFew (state_of pairs words log).pieces (logical (state_of pairs words log).pieces
       (state_of pairs words log).anchor)
       (length pairs + puts_in (changes_of pairs words log))
-  contents_few log h = let has = contents_at pairs words opens log h in
-      let long = ap length has.pairs_are ∙ length-map has.leaves pair_of in
-      let map_is = length-pairs_of (map_now pairs words log) in
-      let low = len_after (map_of pairs) (changes_of pairs words log) in
-      let first = map_long pairs opens.rising in
-      record { leaves = has.leaves; reached = has.reached; few = omega arith }
+  contents_few log h = grind (arith, contents_at, length-map, length-pairs_of, len_after, map_long)
 
   -- a linked row has at most as many leaves below it as the tree
   linked_few : (log : Log) → EachEnabled (start pairs words) log → (most : ℕ)

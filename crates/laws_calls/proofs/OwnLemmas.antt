@@ -1,5 +1,5 @@
 -- Changes and the callers that install them. Serves the laws on owners.
-use Rattle.std.proofs.Common.{List, Some, ap, inl, inr, refl, subst, sym, ℕ, ⊎_elim, ◌∙◌, ◌∷◌, ◌≡◌, ◌≢◌, ◌⊎◌, None, Option, arith, false, length, slice_get, true, ◌*◌, ◌+◌, ◌==◌}
+use Rattle.std.proofs.Common.{List, Some, ap, inl, inr, refl, subst, sym, ℕ, ⊎_elim, ◌∙◌, ◌∷◌, ◌≡◌, ◌≢◌, ◌⊎◌, None, arith, false, length, slice_get, true, ◌*◌, ◌+◌, ◌==◌}
 use Rattle.ist_core.specs.declared.events.Event.TheVariants.{Decide, Install}
 use Rattle.ist_core.specs.declared.events.Event.{Event}
 use Rattle.ist_core.specs.declared.events.Who.TheVariants.{Caller}
@@ -243,9 +243,4 @@ module _ (pairs : List Pair) (words : ℕ) (opens : CanOpen pairs words) where
   slot_before log event h node i word rebuild (in_anchor a b e) is =
       ((state_of pairs words log).anchor, in_anchor a b refl)
   slot_before log event h node i word rebuild (in_row r e slot) is =
-      at ((state_of pairs words log).pieces node) refl
-    where
-      at : (o : Option Piece) → (state_of pairs words log).pieces node ≡ o
-          → (old : ℕ) × SlotHolds (state_of pairs words log) node i old
-      at None none = absurd (rebuild_slot_old log event h node i word rebuild r e slot is none)
-      at (Some p) there = row_slot_before log event h node i word r p e slot there
+      grind (arith, rebuild_slot_old, row_slot_before)

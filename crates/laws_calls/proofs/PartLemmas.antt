@@ -36,8 +36,7 @@ cut_more (n ∷ ns) m xs =
 pub parts_next : (n j : ℕ) (leaves : List PlacedLeaf)
     → parts_to n (j + 1) leaves ≡ parts_to n j leaves ++ share_of n j leaves ∷ []
 unfolding part_start
-parts_next n j leaves =
-    ap (λ ns. cut ns leaves) (lens_more n j) ∙ cut_more (lens_to n j) (part_len n j) leaves
+parts_next n j leaves = grind (arith, lens_more, cut_more)
 
 -- the first `degree` parts are all parts
 pub parts_all : (leaves : List PlacedLeaf)
@@ -65,14 +64,8 @@ length-lens f a (suc j) = let rest = length-lens f (a + 1) j in omega arith
 pub keys_next : (n j : ℕ) (leaves : List PlacedLeaf) (leaf : PlacedLeaf) (others : List PlacedLeaf)
     → 1 ≤ j → share_of n j leaves ≡ leaf ∷ others → keys_of_parts (parts_to n (j + 1) leaves)
     ≡ keys_of_parts (parts_to n j leaves) ++ leaf.row.key ∷ []
-keys_next n j leaves leaf others some is = let many = length-cut (lens_to n j) leaves in
-    let count = length-lens (part_len n) 0 j in
-    ap (λ ps. first_keys (λ (l : PlacedLeaf). l.row.key) (drop 1 ps)) (parts_next n j leaves)
-    ∙ ap (first_keys (λ (l : PlacedLeaf). l.row.key))
-    (drop_first (parts_to n j leaves) (share_of n j leaves) (omega arith))
-    ∙ ap (λ p. first_keys (λ (l : PlacedLeaf). l.row.key) (drop 1 (parts_to n j leaves) ++ p ∷ []))
-    is
-    ∙ first_keys_more (λ (l : PlacedLeaf). l.row.key) (drop 1 (parts_to n j leaves)) leaf others
+keys_next n j leaves leaf others some is =
+    grind (arith, length-cut, length-lens, parts_next, drop_first, first_keys_more)
 
 -- ---- one part
 

@@ -102,9 +102,7 @@ module _ (pairs : List Pair) (words : ℕ) (opens : CanOpen pairs words) where
     -- a root over few keys is a whole ideal subtree
     by_few : IsRoot qs word can.k can.leaves can.row.target (bases_of rows) → can.k < share_from
         → (base : ℕ) → ref_of word ≡ Some (InnerAt base) → IsWholeRow u base
-    by_few (root_whole ref less e ideal) few base f =
-        of_ideal ref can.leaves can.row.target (bases_of rows) ideal base
-        (same_Some ref (InnerAt base) (sym e ∙ f))
+    by_few (root_whole ref less e ideal) few base f = grind (arith, of_ideal, same_Some)
     by_few (root_top b row all e top unset one) few base f = absurd (omega arith)
 
     -- a root over many keys is only its top row

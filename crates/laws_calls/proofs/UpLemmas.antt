@@ -29,8 +29,7 @@ counted_node caller a b counts = counts.1
 -- what is counted from an index on is counted from the one before on
 from_before : (caller i : ℕ) (rows : List ℕ) (event : Event) → CountsFrom caller rows (i + 1) event
     → CountsFrom caller rows i event
-from_before caller i rows event from node counts =
-    let it = from node counts in let high = it.1 in (it.0, omega arith, it.2)
+from_before caller i rows event from node counts = grind arith
 
 -- what is counted from an index on by all events is counted from the index before on
 all_before : (caller i : ℕ) (rows : List ℕ) (earlier log : Log)
@@ -152,10 +151,7 @@ grows_sized _ _ (rebuild_grows g) h = tt
 installed_sized : (first : Snapshot) (log : Log) (at : ℕ) (change : ChangeRow) (fresh : List Row)
     (fits : FitsKind first log change fresh) (base : ℕ) (p : Piece)
     → IsInstalledWith first log at change fresh fits base p → IsSized p
-installed_sized = installed_has IsSized (λ r. tt) (λ r. tt)
-    (λ key left right. record
-    { degree = omega arith; size = omega arith; status = Open; status_is = refl })
-    (λ r rootless undrawn. tt)
+installed_sized = grind (arith, installed_has)
 
 -- the row at the base is an inner row, and is sized
 record StandsSized (ps : Pieces) (base : ℕ) : Type 0 where
@@ -166,9 +162,7 @@ record StandsSized (ps : Pieces) (base : ℕ) : Type 0 where
 -- a top row
 top_sized : (ps : Pieces) (base : ℕ) (r : InnerRow) (leaves : List PlacedLeaf) (above : ℕ) → IsTop
     ps base r leaves above → HasRowNumbers r
-top_sized ps base r leaves above top = let a = least_degree-le (length leaves) in
-    let b = top.degree in let c = top.size in let d = top.two in
-    record { degree = omega arith; size = omega arith; status = Open; status_is = top.status }
+top_sized ps base r leaves above top = grind (arith, least_degree-le)
 
 -- a top row is one of these
 top_stands : (ps : Pieces) (base : ℕ) (r : InnerRow) (leaves : List PlacedLeaf) (above : ℕ)
@@ -179,15 +173,12 @@ top_stands ps base r leaves above top =
 -- a row among these
 tree_sized : (ps : Pieces) (rows : List ℕ) (base : ℕ) (p : Piece) → Each (StandsSized ps) rows
     → Among base rows → ps base ≡ Some p → IsSized p
-tree_sized ps rows base p all i e =
-    let it = each-among (StandsSized ps) base rows all i in known IsSized (ps base) p (Inner it.row)
-    e it.published it.sized
+tree_sized ps rows base p all i e = grind (arith, each-among, known)
 
 -- what an event publishes
 born_sized : (first : Snapshot) (log : Log) (event : Event) (base : ℕ) (p : Piece)
     → Enabled first log event → Born first log base p event → IsSized p
-born_sized first log _ base p can (by_install {change = at} h born) =
-    installed_sized first log at h.change h.fresh h.fits base p born
+born_sized first log _ base p can (by_install {change = at} h born) = grind (arith, installed_sized)
 born_sized first log _ base p can (by_root {word = word} {rows = rows} i e) =
     let qs = with_inners (state first log).pieces rows in tree_sized qs (bases_of rows) base p
     (root_rows qs (StandsSized qs) (top_stands qs) word can.k can.leaves can.row.target

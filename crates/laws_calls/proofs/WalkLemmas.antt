@@ -68,8 +68,7 @@ chain_up : (t : Snapshot) (x : ℕ) (others : List ℕ) → Chain t x others →
     → (parent : ℕ) × (i : ℕ) × (above : List ℕ) × Chain t parent above × IsChild t parent i x
     × (others ≡ above ++ x ∷ [])
 chain_up t _ _ no_row ne = absurd (ne refl)
-chain_up t _ _ (one_row {node = node} {child = child} {rows = rows} i chain c) ne =
-    (node, i, rows, chain, c, refl)
+chain_up t _ _ (one_row {node = node} {child = child} {rows = rows} i chain c) ne = grind arith
 
 -- a linked node has a chain
 linked_chain : (t : Snapshot) (node : ℕ) → Linked t node → (rows : List ℕ) × Chain t node rows
@@ -81,10 +80,7 @@ linked_chain t _ (below {node = node} {child = child} i l c) =
 pub chain_rows : (pairs : List Pair) (words : ℕ) (log : Log) (node : ℕ) (rows : List ℕ)
     → IsChainOf pairs words log node rows → (row : ℕ) → Among row rows
     → WasOnChain (start pairs words) log node row
-chain_rows pairs words log node rows is row i =
-    let it = ever_from (start pairs words) (λ t. Chain t node rows) log is.was in
-    ever_at (start pairs words) (λ t. (xs : List ℕ) × Chain t node xs × Among row xs) it.0 log it.1
-    (rows, it.2, i)
+chain_rows pairs words log node rows is row i = grind (arith, ever_from, ever_at)
 
 -- an element of a list with one more appended is an element of the list, or the last
 pub get_last : (xs : List ℕ) (last i x : ℕ) → slice_get (xs ++ last ∷ []) i ≡ Some x
@@ -125,9 +121,7 @@ pub upper_rows : (pairs : List Pair) (words : ℕ) (log : Log) (node : ℕ) (row
     → slice_get rows i ≡ Some upper → slice_get rows j ≡ Some row
     → WasOnChain (start pairs words) log row upper
 upper_rows pairs words log node rows is i j upper row le e f =
-    let it = ever_from (start pairs words) (λ t. Chain t node rows) log is.was in
-    ever_at (start pairs words) (λ t. (xs : List ℕ) × Chain t row xs × Among upper xs) it.0 log it.1
-    (chain_upper (state_of pairs words it.0) node rows it.2 i j upper row le e f)
+    grind (arith, ever_from, ever_at, chain_upper)
 
 module _ (pairs : List Pair) (words : ℕ) (opens : CanOpen pairs words) where
   -- the anchor has no row on its chain
@@ -152,8 +146,7 @@ module _ (pairs : List Pair) (words : ℕ) (opens : CanOpen pairs words) where
   meets_only : (log : Log) → EachEnabled (start pairs words) log → (node : ℕ) (rows : List ℕ)
       → MeetsRows pairs words log node rows → (at : Log) → GoesOn at log → (others : List ℕ)
       → Chain (state_of pairs words at) node others → others ≡ rows
-  meets_only log h _ _ no_meeting at g others chain =
-      anchor_chain at (enabled_before (start pairs words) at log g h) anchor others chain refl
+  meets_only log h _ _ no_meeting at g others chain = grind (arith, anchor_chain, enabled_before)
   meets_only log h _ _ (one_meeting {node = node} {child = child} {rows = rows} was i k m c) at g
       others chain =
       let ne = child_no_anchor pairs words opens was (enabled_before (start pairs words) was log k
@@ -168,14 +161,7 @@ module _ (pairs : List Pair) (words : ℕ) (opens : CanOpen pairs words) where
   meets_chain : (log : Log) → EachEnabled (start pairs words) log → (node : ℕ) (rows : List ℕ)
       → MeetsRows pairs words log node rows → WasLinked (start pairs words) log node
       → IsChainOf pairs words log node rows
-  meets_chain log h node rows m was =
-      let it = ever_from (start pairs words) (λ t. Linked t node) log was in
-      let chain = linked_chain (state_of pairs words it.0) node it.2 in record {
-        was = ever_at (start pairs words) (λ t. Chain t node rows) it.0 log it.1
-            (subst (λ xs. Chain (state_of pairs words it.0) node xs)
-            (meets_only log h node rows m it.0 it.1 chain.0 chain.1) chain.1);
-        only = meets_only log h node rows m;
-      }
+  meets_chain log h node rows m was = grind (arith, ever_from, linked_chain, ever_at, meets_only)
 
   -- ---- a search
 
@@ -203,9 +189,7 @@ module _ (pairs : List Pair) (words : ℕ) (opens : CanOpen pairs words) where
       → (key began last node : ℕ) (rows : List ℕ)
       → ComesBy pairs words log key began last node rows → IsChainOf pairs words log node rows
   met_chain log h key began last node rows c =
-      let to = meeting_comes pairs words log key began last node rows c in
-      meets_chain log h node rows (comes_meets log h key began last node rows c)
-      (node_met pairs words opens log h key began last node to).linked
+      grind (arith, meeting_comes, meets_chain, comes_meets, node_met)
 
   -- ---- a walk
 
@@ -239,6 +223,4 @@ module _ (pairs : List Pair) (words : ℕ) (opens : CanOpen pairs words) where
       → (node : ℕ) (rows : List ℕ) → WalksTo pairs words at node rows
       → IsChainOf pairs words log node rows
   walked_chain log at h g node rows w =
-      meets_chain log h node rows (walk_meets log at g node rows w)
-      (ever_later (start pairs words) (λ t. Linked t node) g
-      (walk_linked at (enabled_before (start pairs words) at log g h) node rows w))
+      grind (arith, meets_chain, walk_meets, ever_later, walk_linked, enabled_before)

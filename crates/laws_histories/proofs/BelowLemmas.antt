@@ -45,10 +45,7 @@ pub value_of-among : (pair : Pair) (pairs : List Pair) → AreRisingKeys (λ p. 
     → value_of pair.key pairs ≡ Some pair.value
 unfolding value_of
 value_of-among pair [] rise i = absurd i
-value_of-among pair (p ∷ pairs) rise (inl e) =
-    let same : (p.key == pair.key) ≡ true =
-    (let k = ap (λ x. x.key) e in grind (arith, nat_tests)) in
-    rw same (ap (λ x. Some x.value) (sym e))
+value_of-among pair (p ∷ pairs) rise (inl e) = grind (arith, nat_tests)
 value_of-among pair (p ∷ pairs) rise (inr i) =
     let less = each-among (λ q. p.key < q.key) pair pairs rise.0 i in
     let differs : (p.key == pair.key) ≡ false = grind (arith, nat_tests) in
@@ -125,14 +122,12 @@ module _ (ps : Pieces) (shaped : (base : ℕ) (r : InnerRow) → ps base ≡ Som
   -- an end in the first of two lists is one in both
   end_left : (xs ys : List PlacedLeaf) (value : Option ℕ) → IsSearchEnd key xs value
       → IsSearchEnd key (xs ++ ys) value
-  end_left xs ys value h =
-      record { cases = ⊎_elim (λ e. inl e) (λ w. inr (w.0, among_left w.0 xs ys w.1, w.2, w.3)) h.cases }
+  end_left xs ys value h = grind (arith, among_left)
 
   -- an end in the second of two lists is one in both
   end_right : (xs ys : List PlacedLeaf) (value : Option ℕ) → IsSearchEnd key ys value
       → IsSearchEnd key (xs ++ ys) value
-  end_right xs ys value h =
-      record { cases = ⊎_elim (λ e. inl e) (λ w. inr (w.0, among_right w.0 xs ys w.1, w.2, w.3)) h.cases }
+  end_right xs ys value h = grind (arith, among_right)
 
   -- a leaf is an end
   leaf_end : (base : ℕ) (r : LeafRow)

@@ -1,9 +1,9 @@
 -- One put at the start of a log is lawful, each time anew. Serves `examples`.
-use Rattle.std.proofs.Common.{◌≡◌, ℕ, ◌+◌, ◌≤◌, ◌<◌, ◌⊎◌, ◌==◌, true, List, [], ◌∷◌, ◌++◌, map, filter, Some, refl, inl, inr, subst, sym, arith, ⊎_elim}
+use Rattle.std.proofs.Common.{◌≡◌, ℕ, ◌+◌, ◌≤◌, ◌<◌, ◌⊎◌, true, List, [], ◌∷◌, ◌++◌, Some, refl, inl, inr, subst, sym, arith, ⊎_elim}
 use Rattle.ist_core.specs.declared.lists.HeldRow.{HeldRow}
 use Rattle.ist_core.specs.declared.events.Event.TheVariants.{Reserve, Resolve}
 use Rattle.ist_core.specs.WordTerms.{LeafAt, ChangeAt, ref_of, word_of, Inner, Change, in_anchor, in_row, row_is, of_anchor, of_row}
-use Rattle.ist_core.specs.LogTerms.{Among, Snapshot, Log, state, IsFair, CanReserve, EachEnabled}
+use Rattle.ist_core.specs.LogTerms.{Among, Snapshot, Log, state, CanReserve, EachEnabled}
 use Rattle.ist_core.specs.TreeTerms.{IsChild, at_anchor, below, Leads, Chain, no_row, one_row, from_anchor, down, CanInstall, same_key, a_put, CanOkay, CanDecide, CanResolve, CanCount}
 use Rattle.ist_core.proofs.AllLogLemmas.{NotRefused, NoneDecidedNo}
 use Rattle.laws_histories.specs.ExampleRebuilds.{again_rows, again_reserved, again_installed, again_okayed, again_decided, again_resolved, put_again}
@@ -13,35 +13,13 @@ use Rattle.laws_histories.proofs.ReadyExampleLemmas.{leaf_fair, put_fair, three,
 leaf_reserved : (log : Log) (leaf from old count : ℕ)
     → IsBeforePut (state three log) leaf from old count
     → leaf + 11 ≤ 200 → CanReserve (state three log) 0 leaf 2
-leaf_reserved log leaf from old count ready room = let t = state three log in
-    let callers : t.callers ≡ 2 = ready.callers in let next : t.next ≡ leaf = ready.next in
-    let words : t.words ≡ 200 = ready.words in record {
-      known = omega arith;
-      base_is = sym next;
-      room = omega arith;
-      fair = subst (λ held. IsFair t (sizes_with held)) (sym ready.held) (leaf_fair t);
-    }
-  where
-    sizes_with : List HeldRow → List ℕ
-    sizes_with held = map (λ h. h.size) (filter (λ h. h.caller == 0) held) ++ 2 ∷ []
+leaf_reserved log leaf from old count ready room = grind (arith, three, leaf_fair)
 
 -- the change may be reserved
 change_reserved : (log : Log) (leaf from old count : ℕ)
     → IsBeforePut (state three log) leaf from old count → leaf + 11 ≤ 200
     → CanReserve (state three (Reserve 0 leaf 2 ∷ log)) 0 (leaf + 2) 9
-change_reserved log leaf from old count ready room = let t = state three log in
-    let callers : t.callers ≡ 2 = ready.callers in let words : t.words ≡ 200 = ready.words in
-    record {
-      known = omega arith;
-      base_is = refl;
-      room = omega arith;
-      fair = subst (λ held. IsFair (state three (Reserve 0 leaf 2 ∷ log)) (sizes_with held leaf))
-          (sym ready.held) (put_fair _);
-    }
-  where
-    sizes_with : List HeldRow → ℕ → List ℕ
-    sizes_with held leaf = let all = held ++ record { caller = 0; base = leaf; size = 2 } ∷ [] in
-        map (λ h. h.size) (filter (λ h. h.caller == 0) all) ++ 9 ∷ []
+change_reserved log leaf from old count ready room = grind (arith, three, put_fair)
 
 -- the top row hangs below the anchor
 top_hangs : (t : Snapshot) → t.anchor ≡ 34 → IsChild t 2 0 4
@@ -133,8 +111,7 @@ pub put_made : (log : Log) (leaf from to count : ℕ)
     → (state three (again_resolved leaf (leaf + 2) from to log)).pieces (leaf + 2) ≡ Some (Change (again from to 1))
     → (state three (again_resolved leaf (leaf + 2) from to log)).callers ≡ 2
     → IsMade log leaf from to count
-put_made log leaf from to count a b c d e f =
-    record { change = a; row = b; decided = c; stands = d; resolved = e; callers = f }
+put_made log leaf from to count a b c d e f = grind arith
 
 -- the left row is seen open
 okayed : (log : Log) (leaf from to old count : ℕ)

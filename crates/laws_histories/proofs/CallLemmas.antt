@@ -1,6 +1,6 @@
 -- The calls of a pass as the log grows: those that are placed, and one more. Serves
 -- `laws.calls_stand_on` and `laws.calls_are_added`.
-use Rattle.std.proofs.Common.{◌≡◌, ℕ, ◌+◌, ◌<◌, ◌≤◌, ◌⊎◌, if◌then◌else◌, Bool, true, false, List, [], ◌∷◌, ◌++◌, map, filter, length, slice_get, Some, refl, sym, ap, ◌∙◌, subst, inl, inr, ⊎_elim, arith, length-append, append_assoc, append-nil}
+use Rattle.std.proofs.Common.{◌≡◌, ℕ, ◌+◌, ◌<◌, ◌≤◌, ◌⊎◌, true, false, List, [], ◌∷◌, ◌++◌, map, filter, length, slice_get, Some, refl, sym, ap, ◌∙◌, subst, inl, inr, ⊎_elim, arith, length-append, append_assoc, append-nil}
 use Rattle.std.proofs.lemmas.List.{map-append}
 use Rattle.std.proofs.lemmas.List.Elements.{filter-append}
 use Rattle.std.proofs.lemmas.Option.{slice_get_within}
@@ -47,10 +47,8 @@ stamps_up told stamp (call ∷ calls) h all =
 pub keep_calls : (pairs : List Pair) (words : ℕ) (earlier log : Log) (number told stamp : ℕ) (calls : List Call)
     → GoesOn earlier log → MadeNoEntry pairs words number earlier log → told ≤ stamp
     → HasCalls pairs words earlier number told calls → HasCalls pairs words log number stamp calls
-keep_calls pairs words earlier log number told stamp calls g none low has = record {
-  stand = stand_on pairs words earlier log number calls g none has.stand;
-  stamps = stamps_up told stamp calls low has.stamps;
-}
+keep_calls pairs words earlier log number told stamp calls g none low has =
+    grind (arith, stand_on, stamps_up)
 
 -- ---- order
 
@@ -58,15 +56,7 @@ keep_calls pairs words earlier log number told stamp calls g none low has = reco
 pub after_within : (m : Map) (entries : List Entry) (number : ℕ) (calls : List Call)
     → StandAmong m entries number calls → (call : Call) → Among call calls
     → position_after call ≤ length entries
-after_within m entries number calls s call i = at (is_change call) refl
-  where
-    at : (v : Bool) → is_change call ≡ v
-        → (if v then call.position + 1 else call.position) ≤ length entries
-    at true e =
-        let below =
-        slice_get_within entries call.position (entry_by number call)
-        (s.made call i e) in omega arith
-    at false e = (s.read call i e).within
+after_within m entries number calls s call i = grind (arith, slice_get_within)
 
 -- calls that follow each other, with one that follows them all
 follow_more : (calls : List Call) (last : Call) → AllFollow calls
@@ -109,12 +99,7 @@ due_reading number calls last plain = ap (map (entry_by number))
 due_update : (number : ℕ) (calls : List Call) (last : Call) → is_change last ≡ true
     → map (entry_by number) (filter is_change (calls ++ last ∷ []))
     ≡ map (entry_by number) (filter is_change calls) ++ entry_by number last ∷ []
-due_update number calls last changing = ap (map (entry_by number))
-    (filter-append is_change calls (last ∷ []) ∙ ap (λ xs. filter is_change calls ++ xs) (one last changing))
-    ∙ map-append (entry_by number) (filter is_change calls) (last ∷ [])
-  where
-    one : (call : Call) → is_change call ≡ true → filter is_change (call ∷ []) ≡ call ∷ []
-    one call e = rw e refl
+due_update number calls last changing = grind (arith, filter-append, map-append)
 
 -- if one more call has a higher stamp, all stamps are up to this one
 stamps_last : (stamp : ℕ) (calls : List Call) (last : Call) → stamp < last.stamp

@@ -183,10 +183,5 @@ map_at_on pairs words log longer position g low =
 pub position_on : (pairs : List Pair) (words : ℕ) (seen began log longer : Log)
     → GoesOn seen began → GoesOn log longer → (key : ℕ) (value : Option ℕ)
     → HasPosition pairs words began log key value → HasPosition pairs words seen longer key value
-position_on pairs words seen began log longer g on key value h = record {
-  position = h.position;
-  from = le_trans (changes_rise (start pairs words) seen began g) h.from;
-  to = le_trans h.to (changes_rise (start pairs words) log longer on);
-  value_is = h.value_is
-      ∙ ap (λ m. fin.get m key) (sym (map_at_on pairs words log longer h.position on h.to));
-}
+position_on pairs words seen began log longer g on key value h =
+    grind (arith, le_trans, changes_rise, map_at_on)

@@ -1,14 +1,13 @@
 -- The contents are the pairs of the map after the changes. Serves `laws.changes_are_told`.
-use Rattle.std.proofs.Common.{◌≡◌, ℕ, T, List, [], ◌∷◌, map, refl, sym, ap, ◌∙◌, subst, ◌≤◌, true, false, length, slice_get, Some, inl, inr, arith}
+use Rattle.std.proofs.Common.{◌≡◌, ℕ, T, List, [], ◌∷◌, map, refl, sym, ap, ◌∙◌, subst, Some, arith}
 use Rattle.std.specs.Cmp.{nat_cmp_total}
 use Rattle.std.specs.Ordering.{nat_cmp}
 use Rattle.std.specs.List.Sorted.{IsStrictlyIncreasing}
 use Rattle.ist_core.specs.declared.pairs.Pair.{Pair}
 use Rattle.ist_core.specs.declared.commands.Command.TheVariants.{Put}
-use Rattle.ist_core.specs.declared.calls.Call.{Call}
-use Rattle.ist_core.specs.TreeTerms.{map_of, pairs_of, pair_of, HasContents, Entry, changes_of, is_change, entry_by, IsRead, StandAmong, StandsIn, IsFresh}
+use Rattle.ist_core.specs.TreeTerms.{map_of, pairs_of, pair_of, HasContents, Entry, changes_of, IsRead, StandAmong, StandsIn, IsFresh}
 use Rattle.ist_core.specs.WordTerms.{anchor, start, in_anchor, logical, degree, square_root, root_up_to, part_len, part_lens, ideal_words, ideal_words_within, ref_of, rows_within}
-use Rattle.ist_core.specs.LogTerms.{Log, EachEnabled, CanOpen, state_of, Among, same_log, woven, IsLegal}
+use Rattle.ist_core.specs.LogTerms.{Log, EachEnabled, CanOpen, state_of, same_log, woven, IsLegal}
 use Rattle.ist_core.proofs.AllPlaceLemmas.{is_sorted-rising, anchor_free, names, one_home, AreRisingKeys, leaves_under, slot_reads_as, leaves_lie, next_from_rises, pairs-entries, entry, pair}
 use Rattle.laws_links.proofs.ExistLemmas.{HasSome}
 use Rattle.laws_links.proofs.ContentLemmas.{contents_exist}
@@ -74,9 +73,7 @@ module _ (pairs : List Pair) (words : ℕ) (opens : CanOpen pairs words) where
   -- some leaves lie in the tree
   leaves_at : (log : Log) → EachEnabled (start pairs words) log
       → HasSome (state_of pairs words log).pieces (logical (state_of pairs words log).pieces (state_of pairs words log).anchor)
-  leaves_at log h =
-      let it =
-      contents_exist pairs words opens log h in record { leaves = it.1.leaves; reached = it.1.reached }
+  leaves_at log h = grind (arith, contents_exist)
 
   -- the keys of the pairs of these leaves are strictly increasing
   rise_at : (log : Log) (h : EachEnabled (start pairs words) log)
@@ -130,27 +127,11 @@ new_value = grind (arith, nat_tests, gets)
 
 -- the put is placed among the changes
 writer_among : StandAmong (map_of start_pairs) (the_entry ∷ []) 1 (the_put ∷ [])
-writer_among = record {
-  made = λ call i changing. at call i;
-  exactly = refl;
-  read = λ call i plain. absurd (plainly call i plain);
-  in_order = (tt, tt);
-}
-  where
-    at : (call : Call) → Among call (the_put ∷ [])
-        → slice_get (the_entry ∷ []) call.position ≡ Some (entry_by 1 call)
-    at call (inl e) =
-        subst (λ c. slice_get (the_entry ∷ []) c.position ≡ Some (entry_by 1 c)) (sym e) refl
-    at call (inr i) = absurd i
-
-    plainly : (call : Call) → Among call (the_put ∷ []) → is_change call ≡ false → ⊥
-    plainly call (inl e) plain = true≢false (subst (λ c. is_change c ≡ false) e plain)
-    plainly call (inr i) plain = absurd i
+writer_among = grind (arith, true≢false)
 
 -- so it is placed in the log
 pub writer_stands : StandsIn start_pairs 100 late_finished 1 (the_put ∷ [])
-writer_stands = subst (λ es. StandAmong (map_of start_pairs) es 1 (the_put ∷ []))
-    (sym late_changes) writer_among
+writer_stands = grind (arith, late_changes, writer_among)
 
 -- the early find reads the map at its position
 early_read : IsRead (map_of start_pairs) (the_entry ∷ []) early_find
@@ -162,50 +143,15 @@ late_read = record { within = omega arith; reply = sym new_value }
 
 -- both finds are placed among the changes
 reader_among : StandAmong (map_of start_pairs) (the_entry ∷ []) 2 (early_find ∷ late_find ∷ [])
-reader_among = record {
-  made = λ call i changing. absurd (changing_none call i changing);
-  exactly = refl;
-  read = λ call i plain. reads call i;
-  in_order = ((record { position = omega arith; stamp = omega arith }, tt), (tt, tt));
-}
-  where
-    changing_none : (call : Call) → Among call (early_find ∷ late_find ∷ []) → is_change call ≡ true
-        → ⊥
-    changing_none call (inl e) changing = true≢false (sym (subst (λ c. is_change c ≡ true) e changing))
-    changing_none call (inr (inl e)) changing =
-        true≢false (sym (subst (λ c. is_change c ≡ true) e changing))
-    changing_none call (inr (inr i)) changing = i
-
-    reads : (call : Call) → Among call (early_find ∷ late_find ∷ [])
-        → IsRead (map_of start_pairs) (the_entry ∷ []) call
-    reads call (inl e) =
-        subst (λ c. IsRead (map_of start_pairs) (the_entry ∷ []) c) (sym e) early_read
-    reads call (inr (inl e)) =
-        subst (λ c. IsRead (map_of start_pairs) (the_entry ∷ []) c) (sym e) late_read
-    reads call (inr (inr i)) = absurd i
+reader_among = grind (arith, true≢false, early_read, late_read)
 
 -- so they are placed in the log
 pub reader_stands : StandsIn start_pairs 100 late_finished 2 (early_find ∷ late_find ∷ [])
-reader_stands = subst (λ es. StandAmong (map_of start_pairs) es 2 (early_find ∷ late_find ∷ []))
-    (sym late_changes) reader_among
+reader_stands = grind (arith, late_changes, reader_among)
 
 -- the early find is placed before the put
 early_among : StandAmong (map_of start_pairs) [] 2 (early_find ∷ [])
-early_among = record {
-  made = λ call i changing. absurd (changing_none call i changing);
-  exactly = refl;
-  read = λ call i plain. reads call i;
-  in_order = (tt, tt);
-}
-  where
-    changing_none : (call : Call) → Among call (early_find ∷ []) → is_change call ≡ true → ⊥
-    changing_none call (inl e) changing = true≢false (sym (subst (λ c. is_change c ≡ true) e changing))
-    changing_none call (inr i) changing = i
-
-    reads : (call : Call) → Among call (early_find ∷ []) → IsRead (map_of start_pairs) [] call
-    reads call (inl e) = subst (λ c. IsRead (map_of start_pairs) [] c)
-        (sym e) record { within = omega arith; reply = sym old_value }
-    reads call (inr i) = absurd i
+early_among = grind (arith, true≢false, old_value)
 
 -- so it is placed in the log of that moment
 pub early_stands : StandsIn start_pairs 100 late_marked 2 (early_find ∷ [])
@@ -219,8 +165,7 @@ resolved_changes = refl
 
 -- the late find is fresh
 pub late_fresh : IsFresh start_pairs 100 late_resolved 1 late_find
-late_fresh =
-    record { position = subst (λ es. length es ≤ 1) (sym resolved_changes) (omega arith); later = omega arith }
+late_fresh = grind (arith, resolved_changes)
 
 -- the two passes, woven
 pub calls_woven : woven (changes_of start_pairs 100 late_finished)

@@ -144,9 +144,7 @@ module _ (pairs : List Pair) (words : ℕ) where
       → (state_of pairs words earlier).pieces base ≡ Some (Change old)
       → old.decision ≢ decided_yes → (state_of pairs words log).pieces base ≡ Some (Change new)
       → new.decision ≡ decided_yes → Turning earlier log base
-  turning earlier log g h base old new e not_yet f said = turns_since earlier log g h base new
-      (λ other p turned. not_yet (ap (λ c. c.decision) (same_change ((state_of pairs words earlier).pieces base) old other e p) ∙ turned))
-      f said
+  turning earlier log g h base old new e not_yet f said = grind (arith, turns_since, same_change)
 
 module _ (pairs : List Pair) (words : ℕ) (opens : CanOpen pairs words) where
   -- a change at a finished node gets no Okay any more

@@ -1,12 +1,12 @@
 -- A row is due after eight puts. Serves `examples`.
-use Rattle.std.proofs.Common.{ℕ, ◌+◌, Option, Some, None, inl, inr, subst, sym, arith, [], ◌∷◌, refl}
+use Rattle.std.proofs.Common.{ℕ, ◌+◌, Option, Some, None, arith, [], ◌∷◌, refl}
 use Rattle.ist_core.specs.declared.states.ChangeRow.{ChangeRow}
 use Rattle.ist_core.specs.declared.events.Event.TheVariants.{Enter}
-use Rattle.ist_core.specs.WordTerms.{degree, square_root, root_up_to, part_len, part_lens, ideal_words, ideal_words_within, ChangeAt, word_of, first_row, Piece, Leaf, Inner, Change, Rebuild, as_change, counted, with_slot, with_decision, rows_within, rows_from, ref_of}
-use Rattle.ist_core.specs.LogTerms.{Among, Snapshot, resolved, side_of, Log, state, CanEnter, EachEnabled}
+use Rattle.ist_core.specs.WordTerms.{degree, square_root, root_up_to, part_len, part_lens, ideal_words, ideal_words_within, ChangeAt, word_of, Piece, Leaf, Inner, Change, Rebuild, as_change, counted, with_slot, with_decision, rows_within, ref_of}
+use Rattle.ist_core.specs.LogTerms.{Snapshot, resolved, Log, state, CanEnter, EachEnabled}
 use Rattle.ist_core.proofs.AllWordLemmas.{among-pieces_of}
 use Rattle.ist_core.proofs.AllLogLemmas.{NotRefused, NoneDecidedNo, none_refused-with_row, none_refused-changed_at, slot_keeps, yes_keeps}
-use Rattle.laws_histories.specs.ExampleRebuilds.{three_pairs, again_decided, put_again, both_entered, four_puts, eight_puts}
+use Rattle.laws_histories.specs.ExampleRebuilds.{again_decided, put_again, both_entered, four_puts, eight_puts}
 use Rattle.laws_histories.proofs.ReadyExampleLemmas.{three, ten, again, before_put}
 use Rattle.laws_histories.proofs.BusyExampleLemmas.{put_enabled, put_made}
 
@@ -24,9 +24,7 @@ count_keeps (Rebuild r) h = h
 resolve_keeps : (t : Snapshot) (o : Option ChangeRow) → NoneDecidedNo t.pieces
     → NoneDecidedNo (resolved t o).pieces
 resolve_keeps t None none = none
-resolve_keeps t (Some change) none =
-    none_refused-changed_at _ change.node (with_slot change.index (side_of change))
-    (slot_keeps change.index (side_of change)) none
+resolve_keeps t (Some change) none = grind (arith, none_refused-changed_at, slot_keeps)
 
 -- a put refuses nothing
 pub put_keeps : (log : Log) (leaf from to : ℕ) → NoneDecidedNo (state three log).pieces
@@ -49,15 +47,7 @@ put_keeps log leaf from to none = let change = leaf + 2 in
 -- no change is refused at the start
 pub at_opening : NoneDecidedNo three.pieces
 unfolding NotRefused rows_within degree square_root root_up_to part_len part_lens ideal_words ideal_words_within
-at_opening base p e = by_row (among-pieces_of (rows_from first_row three_pairs) base p e)
-  where
-    by_row : Among (base, p) (rows_from first_row three_pairs) → NotRefused p
-    by_row (inl e) = subst (λ row. NotRefused row.1) (sym e) tt
-    by_row (inr (inl e)) = subst (λ row. NotRefused row.1) (sym e) tt
-    by_row (inr (inr (inl e))) = subst (λ row. NotRefused row.1) (sym e) tt
-    by_row (inr (inr (inr (inl e)))) = subst (λ row. NotRefused row.1) (sym e) tt
-    by_row (inr (inr (inr (inr (inl e))))) = subst (λ row. NotRefused row.1) (sym e) tt
-    by_row (inr (inr (inr (inr (inr e))))) = absurd e
+at_opening base p e = grind (arith, among-pieces_of, NotRefused)
 
 -- caller 0 enters
 first_entered : CanEnter three 0

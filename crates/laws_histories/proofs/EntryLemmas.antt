@@ -1,5 +1,5 @@
 -- The changes of a log are exactly the puts and removes that were decided yes. Serves `laws.updates_are_entries`.
-use Rattle.std.proofs.Common.{◌≡◌, ℕ, zero, suc, ◌+◌, ◌⊎◌, true, List, [], ◌∷◌, ◌++◌, length, slice_get, Option, Some, None, option_map, refl, sym, ap, ◌∙◌, subst, inl, inr, ⊎_elim, arith, append_assoc, ◌==◌, is_some}
+use Rattle.std.proofs.Common.{◌≡◌, ℕ, zero, suc, ◌+◌, ◌⊎◌, true, List, [], ◌∷◌, ◌++◌, length, slice_get, Option, Some, None, option_map, refl, sym, ap, ◌∙◌, subst, inl, inr, ⊎_elim, arith, append_assoc}
 use Rattle.ist_core.specs.declared.commands.Command.{Command}
 use Rattle.ist_core.specs.declared.pairs.Pair.{Pair}
 use Rattle.ist_core.specs.declared.states.ChangeRow.{ChangeRow}
@@ -181,8 +181,7 @@ module _ (pairs : List Pair) (words : ℕ) (opens : CanOpen pairs words) where
       → (position : ℕ) (entry : Entry)
       → slice_get (changes_of pairs words log) position ≡ Some entry
       → (base : ℕ) × IsEntryOf pairs words log position base
-  entry_update log h position entry e = let s = source log h position entry e in
-      (s.base, subst (λ p. IsEntryOf pairs words log p s.base) (sym s.position_is) (entry_made log h s.caller s.base s.earlier s.decided s.command s.change s.published s.command_is))
+  entry_update log h position entry e = grind (arith, source, entry_made)
 
 -- ---- each change of a log changes the map: a put, or a remove that takes a leaf away. Serves `laws.updates_are_entries`.
 
@@ -199,10 +198,7 @@ module _ (pairs : List Pair) (words : ℕ) (opens : CanOpen pairs words) where
       → t.pieces leaf ≡ Some (Leaf row) → row.key ≡ change.key
       → Each (λ entry. makes_entry entry.command entry.reply ≡ true)
       (entry_for t.pieces change (command_of change))
-  remove_entry t change leaf row kind from e key =
-      let test : (row.key == change.key) ≡ true = grind (arith, nat_tests) in
-      let some : is_some (reply_of t.pieces change) ≡ true = rw (from, e, test) refl in
-      rw kind (some, tt)
+  remove_entry t change leaf row kind from e key = grind (arith, nat_tests)
 
   -- a start and a finish make no entry
   no_entry : (t : Snapshot) (change : ChangeRow) → command_of change ≡ None
@@ -220,8 +216,7 @@ module _ (pairs : List Pair) (words : ℕ) (opens : CanOpen pairs words) where
       put_entry t change kind
   entry_changes t change (beside_high other k leaf pair kind from is less to p new) =
       put_entry t change kind
-  entry_changes t change (takes_out leaf kind from is to) =
-      remove_entry t change leaf is.row kind from is.published is.key_is
+  entry_changes t change (takes_out leaf kind from is to) = grind (arith, remove_entry)
   entry_changes t change (begins target rebuild kind from to has) =
       no_entry t change (start_commands change kind)
   entry_changes t change (ends rebuild row kind from e f set) =

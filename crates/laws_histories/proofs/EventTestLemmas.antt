@@ -108,26 +108,12 @@ pub record IsNoChangeWord (word : ℕ) : Type 0 where
 -- 7 is Unset, which no reference below is
 pub plain_leaf : (word base : ℕ) → ref_of word ≡ Some (LeafAt base) → IsNoChangeWord word
 unfolding ref_of
-plain_leaf word base e = record {
-  no_change = λ change k. cc;
-  set = λ k.
-      let at : ref_of 7 ≡ Some (LeafAt base) =
-      subst (λ w. ref_of w ≡ Some (LeafAt base)) k e
-      in
-      cc;
-}
+plain_leaf word base e = grind arith
 
 -- the word of an inner row is plain
 pub plain_row : (word base : ℕ) → ref_of word ≡ Some (InnerAt base) → IsNoChangeWord word
 unfolding ref_of
-plain_row word base e = record {
-  no_change = λ change k. cc;
-  set = λ k.
-      let at : ref_of 7 ≡ Some (InnerAt base) =
-      subst (λ w. ref_of w ≡ Some (InnerAt base)) k e
-      in
-      cc;
-}
+plain_row word base e = grind arith
 
 -- the word is plain, or nothing is said
 abbrev pub plain_by : (word : ℕ) (o : Option Ref) → ref_of word ≡ o → Option (IsNoChangeWord word)

@@ -3,9 +3,9 @@ use Rattle.std.proofs.Common.{◌≡◌, ◌≢◌, ℕ, ◌<◌, List, ◌∷�
 use Rattle.ist_core.specs.declared.pairs.Pair.{Pair}
 use Rattle.ist_core.specs.declared.states.InnerRow.{InnerRow}
 use Rattle.ist_core.specs.declared.events.Event.{Event}
-use Rattle.ist_core.specs.WordTerms.{child_count, anchor, Ref, Unset, InnerAt, ref_of, Pieces, Leaf, Inner, start, SlotHolds, in_anchor, in_row, IsChildFor, of_anchor, of_row, past_rebuild, logical}
+use Rattle.ist_core.specs.WordTerms.{child_count, anchor, Ref, Unset, InnerAt, ref_of, Pieces, Inner, start, SlotHolds, in_anchor, in_row, IsChildFor, of_anchor, of_row, past_rebuild, logical}
 use Rattle.ist_core.specs.LogTerms.{Snapshot, Log, EachEnabled, CanOpen, state_of}
-use Rattle.ist_core.specs.TreeTerms.{Leads, from_anchor, down, value_in}
+use Rattle.ist_core.specs.TreeTerms.{Leads, from_anchor, down}
 use Rattle.ist_core.proofs.AllLogLemmas.{leaf_there, inner_there, grow_after}
 use Rattle.ist_core.proofs.AllPlaceLemmas.{anchor_free, no_row, names, child_above}
 use Rattle.ist_core.proofs.AllWordLemmas.{same_leaf, same_inner}
@@ -20,8 +20,7 @@ use Rattle.laws_histories.proofs.SearchLemmas.{row_finds}
 pub finds_once : (ps : Pieces) (key : ℕ) (ref : Option Ref) (v w : Option ℕ) → Finds ps key ref v
     → Finds ps key ref w → v ≡ w
 finds_once ps key _ _ _ in_nothing in_nothing = refl
-finds_once ps key _ _ _ (in_leaf {base = base} r e) (in_leaf x f) =
-    ap (λ y. value_in (Some (Leaf y)) key) (same_leaf (ps base) r x e f)
+finds_once ps key _ _ _ (in_leaf {base = base} r e) (in_leaf x f) = grind (arith, same_leaf)
 finds_once ps key _ _ w (in_node {base = base} {word = word} {value = v} r e g f) other =
     finds_once ps key (logical ps word) v w f
     (row_finds ps key base w r (child_count r.keys key) word other e refl g)
@@ -39,10 +38,8 @@ finds_set ps key _ _ (in_node r f g h) e = cc
 pub finds_above : (t : Snapshot) (key node i word : ℕ) (value : Option ℕ) → t.pieces anchor ≡ None
     → Leads t key node → IsChildFor t node key i → SlotHolds t node i word
     → Finds t.pieces key (logical t.pieces word) value → Gives t key value
-finds_above t key node i word value free led index (in_anchor a b e) f =
-    subst (λ w. Finds t.pieces key (logical t.pieces w) value) (sym e) f
-finds_above t key _ i word value free from_anchor index (in_row r p g) f =
-    absurd (no_row t.pieces anchor r free refl p)
+finds_above t key node i word value free led index (in_anchor a b e) f = grind arith
+finds_above t key _ i word value free from_anchor index (in_row r p g) f = grind (arith, no_row)
 finds_above t key _ i word value free (down {child = child} j led x c) (of_anchor a b) (in_row r p g) f =
     absurd (no_row t.pieces child r free a p)
 finds_above t key _ i word value free (down {node = node} {child = child} j led x c) (of_row s q is) (in_row r p g) f =

@@ -1,6 +1,6 @@
 -- Each call has its item among the items of the woven history, and what follows it is never placed
 -- before it. Serves `laws.calls_have_places`.
-use Rattle.std.proofs.Common.{◌≡◌, ℕ, zero, suc, ◌+◌, ◌≤◌, not, if◌then◌else◌, Bool, true, false, List, [], ◌∷◌, map, filter, slice_get, Some, refl, sym, ap, ◌∙◌, subst, inl, inr, arith, ◌<◌, length, ⊎_elim, length-append}
+use Rattle.std.proofs.Common.{◌≡◌, ℕ, zero, suc, ◌+◌, if◌then◌else◌, Bool, true, false, List, [], ◌∷◌, map, slice_get, Some, refl, sym, ap, ◌∙◌, subst, inl, inr, arith, ◌<◌, length, ⊎_elim, length-append}
 use Rattle.ist_core.specs.declared.calls.Call.{Call}
 use Rattle.ist_core.specs.declared.pairs.Pair.{Pair}
 use Rattle.ist_core.specs.declared.events.Event.TheVariants.{Decide}
@@ -20,9 +20,7 @@ among_changes : (position : ℕ) (entries : List Entry) (i : ℕ) (entry : Entry
     → slice_get entries i ≡ Some entry
     → Among (change_at (position + i) entry) (changes_from position entries)
 among_changes position [] i entry e = absurd (cc)
-among_changes position (x ∷ entries) zero entry e = let same : x ≡ entry = cc in
-    let here : position + zero ≡ position = omega arith in
-    inl (ap (λ n. change_at n entry) here ∙ ap (λ y. change_at position y) (sym same))
+among_changes position (x ∷ entries) zero entry e = grind arith
 among_changes position (x ∷ entries) (suc i) entry e =
     let next : position + 1 + i ≡ position + suc i = omega arith in
     inr (subst (λ n. Among (change_at n entry) (changes_from (position + 1) entries)) next (among_changes (position + 1) entries i entry e))
@@ -37,9 +35,7 @@ among_map f x (y ∷ xs) (inr h) = inr (among_map f x xs h)
 among_readings_of : (pass : PassCalls) (call : Call) → Among call pass.calls
     → is_change call ≡ false
     → Among (record { number = pass.number; call = call }) (readings_of pass)
-among_readings_of pass call i plain = let test = λ (c : Call). not (is_change c) in
-    among_map (λ (c : Call). record { number = pass.number; call = c }) call
-    (filter test pass.calls) (among_filter test call pass.calls i (ap not plain))
+among_readings_of pass call i plain = grind (arith, among_map, among_filter)
 
 -- a call of one of the passes that changes nothing is one of the readings
 among_readings : (passes : List PassCalls) (pass : PassCalls) → Among pass passes → (call : Call)
@@ -47,8 +43,7 @@ among_readings : (passes : List PassCalls) (pass : PassCalls) → Among pass pas
     → Among (record { number = pass.number; call = call }) (readings passes)
 among_readings [] pass h call i plain = absurd h
 among_readings (one ∷ passes) pass (inl e) call i plain =
-    among_left (record { number = pass.number; call = call }) (readings_of one) (readings passes)
-    (subst (λ p. Among (record { number = pass.number; call = call }) (readings_of p)) e (among_readings_of pass call i plain))
+    grind (arith, among_left, among_readings_of)
 among_readings (one ∷ passes) pass (inr h) call i plain =
     among_right (record { number = pass.number; call = call }) (readings_of one) (readings passes)
     (among_readings passes pass h call i plain)
@@ -86,16 +81,7 @@ calls_placed pairs words log passes all pass h call i = at (is_change call) refl
 -- a call that follows another is never placed before it
 pub follower_later : (number other : ℕ) (call later : Call) → Follows call later
     → ¬ (StandsBefore (item_of other later) (item_of number call))
-follower_later number other call later f = at (is_change call) (is_change later) f.position
-  where
-    at : (u v : Bool) → (if u then call.position + 1 else call.position) ≤ later.position
-        → ¬ (StandsBefore (if v then change_at later.position (entry_by other later) else reading_by record { number = other; call = later })
-        (if u then change_at call.position (entry_by number call) else reading_by record { number = number; call = call }))
-    at true true low h = absurd (omega arith)
-    at true false low h = absurd (omega arith)
-    at false true low h = absurd (omega arith)
-    at false false low (inl h) = absurd (omega arith)
-    at false false low (inr h) = absurd (let up = f.stamp in let down = h.1 in omega arith)
+follower_later number other call later f = grind arith
 
 -- ---- of one change there is one entry, and an entry is of one change. Serves `laws.updates_are_entries`.
 
@@ -104,10 +90,7 @@ module _ (pairs : List Pair) (words : ℕ) (opens : CanOpen pairs words) where
   undecided_later : (caller base other : ℕ) (a b : Log)
       → EachEnabled (start pairs words) (Decide other base true ∷ b)
       → ¬ (GoesOn (Decide caller base true ∷ a) b)
-  undecided_later caller base other a b h g =
-      let said =
-      decided_after pairs words caller base a b g h.0 h.1.change h.1.pending.published in
-      let none = h.1.pending.unset in omega arith
+  undecided_later caller base other a b h g = grind (arith, decided_after)
 
   -- a change is decided yes after only one log
   one_decision : (log : Log) → EachEnabled (start pairs words) log → (c d base : ℕ) (a b : Log)
@@ -129,9 +112,7 @@ module _ (pairs : List Pair) (words : ℕ) (opens : CanOpen pairs words) where
   -- of one change there is one entry
   pub entries_once : (log : Log) → EachEnabled (start pairs words) log → (base p q : ℕ)
       → IsEntryOf pairs words log p base → IsEntryOf pairs words log q base → p ≡ q
-  entries_once log h base p q x y = x.position_is ∙ ap (λ l. length (changes_of pairs words l))
-      (one_decision log h x.caller y.caller base x.earlier y.earlier x.decided y.decided)
-      ∙ sym y.position_is
+  entries_once log h base p q x y = grind (arith, one_decision)
 
   -- after the decision of an update there are more changes
   more_changes : (log : Log) → EachEnabled (start pairs words) log → (position base : ℕ)

@@ -1,6 +1,6 @@
 -- To which nodes the search for a key is led, from event to event: a node drops out only once it is finished. Serves the
 -- search law and the changes law.
-use Rattle.std.proofs.Common.{◌≡◌, ◌≢◌, ℕ, ◌<◌, List, [], ◌∷◌, Some, ◌⊎◌, Option, sym, ap, ◌∙◌, subst, inl, inr, ⊎_elim}
+use Rattle.std.proofs.Common.{◌≡◌, ◌≢◌, ℕ, ◌<◌, List, [], ◌∷◌, Some, ◌⊎◌, Option, sym, ap, ◌∙◌, subst, inl, inr, ⊎_elim, arith}
 use Rattle.ist_core.specs.declared.pairs.Pair.{Pair}
 use Rattle.ist_core.specs.declared.states.InnerRow.{InnerRow}
 use Rattle.ist_core.specs.declared.states.ChangeRow.{ChangeRow}
@@ -90,16 +90,13 @@ AllNeeds pairs words = (log : Log) → EachEnabled (start pairs words) log → N
 no_inner : (ps : Pieces) (ref : Option Ref) (child : ℕ)
     → (ref ≡ Some Empty) ⊎ ((base : ℕ) × (ref ≡ Some (LeafAt base)))
     → past_rebuild ps ref ≡ Some (InnerAt child) → ⊥
-no_inner ps ref child (inl e) h =
-    let x : Some Empty ≡ Some (InnerAt child) = sym (ap (past_rebuild ps) e) ∙ h in cc
-no_inner ps ref child (inr e) h =
-    let x : Some (LeafAt e.0) ≡ Some (InnerAt child) = sym (ap (past_rebuild ps) e.1) ∙ h in cc
+no_inner ps ref child (inl e) h = grind arith
+no_inner ps ref child (inr e) h = grind arith
 
 -- what a rebuild reads as
 target_read : (t : Snapshot) (rebuild target : ℕ) → HasTarget t rebuild target
     → past_rebuild t.pieces (Some (RebuildAt rebuild)) ≡ Some (InnerAt target)
-target_read t rebuild target h =
-    ap rebuild_reads h.published ∙ ap (λ n. Some (InnerAt n)) h.target_is
+target_read t rebuild target h = grind arith
 
 module _ (pairs : List Pair) (words : ℕ) where
   -- an inner row that a change takes out of its slot is put back by it, or is finished
@@ -108,21 +105,16 @@ module _ (pairs : List Pair) (words : ℕ) where
       → past_rebuild (state_of pairs words log).pieces (ref_of change.from) ≡ Some (InnerAt child)
       → (past_rebuild (state_of pairs words log).pieces (ref_of change.to) ≡ Some (InnerAt child))
       ⊎ IsFinished (state_of pairs words log) child
-  left_finished log change n (into_nothing leaf kind from to new) child e =
-      absurd (no_inner (state_of pairs words log).pieces _ child (inl from) e)
+  left_finished log change n (into_nothing leaf kind from to new) child e = grind (arith, no_inner)
   left_finished log change n (over_leaf old leaf kind from is to new) child e =
       absurd (no_inner (state_of pairs words log).pieces _ child (inr (old, from)) e)
   left_finished log change n (beside_low other k leaf pair kind from is less to p new) child e =
       absurd (no_inner (state_of pairs words log).pieces _ child (inr (other, from)) e)
   left_finished log change n (beside_high other k leaf pair kind from is less to p new) child e =
       absurd (no_inner (state_of pairs words log).pieces _ child (inr (other, from)) e)
-  left_finished log change n (takes_out leaf kind from is to) child e =
-      absurd (no_inner (state_of pairs words log).pieces _ child (inr (leaf, from)) e)
+  left_finished log change n (takes_out leaf kind from is to) child e = grind (arith, no_inner)
   left_finished log change n (begins target rebuild kind from to h) child e =
-      let t = state_of pairs words log in
-      let same : Some (InnerAt target) ≡ Some (InnerAt child) =
-      sym (ap (past_rebuild t.pieces) from) ∙ e in
-      inl (ap (past_rebuild t.pieces) to ∙ target_read t rebuild target h ∙ same)
+      grind (arith, target_read)
   left_finished log change n (ends rebuild row kind from e f set) child h =
       let t = state_of pairs words log in
       let read : Some (InnerAt row.target) ≡ Some (InnerAt child) =

@@ -34,14 +34,12 @@ the_rebuild root = record { target = 11; parent = 4; index = 0; root = root; dra
 -- the row of the rebuild may be reserved
 rebuild_reserved : CanReserve (state three eight_puts) 0 112 5
 unfolding ref_of rows_within degree square_root root_up_to part_len part_lens ideal_words ideal_words_within
-rebuild_reserved =
-    record { known = omega arith; base_is = refl; room = omega arith; fair = rebuild_fair _ }
+rebuild_reserved = grind (arith, rebuild_fair)
 
 -- the row of the start may be reserved
 start_reserved : CanReserve (state three (Reserve 0 112 5 ∷ eight_puts)) 0 117 9
 unfolding ref_of rows_within degree square_root root_up_to part_len part_lens ideal_words ideal_words_within
-start_reserved =
-    record { known = omega arith; base_is = refl; room = omega arith; fair = start_fair _ }
+start_reserved = grind (arith, start_fair)
 
 -- both rows are held
 abbrev start_held : Log
@@ -115,10 +113,17 @@ resolved = record {
 
 -- the log is enabled up to the moment when the rebuild is in the top row's slot
 started : EachEnabled three left_started
-started = (
-  (((((eight_puts_enabled, rebuild_reserved), start_reserved), installed), okayed), decided),
-  resolved,
-)
+started =
+    grind (
+      arith,
+      eight_puts_enabled,
+      rebuild_reserved,
+      start_reserved,
+      installed,
+      okayed,
+      decided,
+      resolved,
+    )
 
 -- ---- the left row is marked, passed and finished
 

@@ -1,5 +1,5 @@
 -- A search by its loads is a search by the logs at which it looked. Serves the search law.
-use Rattle.std.proofs.Common.{◌≡◌, ◌≢◌, ℕ, ◌+◌, ◌<◌, ◌≤◌, ◌==◌, nat_le, if◌then◌else◌, Bool, true, false, List, [], ◌∷◌, length, slice_get, Option, Some, None, refl, sym, ap, ◌∙◌, subst, arith, le_refl}
+use Rattle.std.proofs.Common.{◌≡◌, ◌≢◌, ℕ, ◌+◌, ◌<◌, ◌≤◌, ◌==◌, nat_le, true, false, List, [], ◌∷◌, length, slice_get, Option, Some, None, refl, sym, ap, ◌∙◌, subst, arith, le_refl}
 use Rattle.std.proofs.lemmas.Bool.Decides.{nat_tests}
 use Rattle.std.proofs.lemmas.List.Sums.{count_by-le-length}
 use Rattle.ist_core.specs.declared.loads.Load.{Load}
@@ -7,9 +7,9 @@ use Rattle.ist_core.specs.declared.pairs.Pair.{Pair}
 use Rattle.ist_core.specs.declared.states.InnerRow.{InnerRow}
 use Rattle.ist_core.specs.declared.states.LeafRow.{LeafRow}
 use Rattle.ist_core.specs.declared.states.ChangeRow.{ChangeRow}
-use Rattle.ist_core.specs.WordTerms.{anchor, anchor_slot_place, slot_place, Ref, Empty, Unset, LeafAt, InnerAt, ChangeAt, RebuildAt, ref_of, decided_yes, Piece, Leaf, Inner, Change, Rebuild, words_of, as_inner, start, SlotHolds, in_anchor, in_row, IsChildFor, of_anchor, of_row, rebuild_reads, past_rebuild, logical}
+use Rattle.ist_core.specs.WordTerms.{anchor, anchor_slot_place, slot_place, Ref, InnerAt, ChangeAt, ref_of, decided_yes, Piece, Leaf, Inner, Change, Rebuild, words_of, start, SlotHolds, in_anchor, in_row, IsChildFor, of_anchor, of_row, rebuild_reads, past_rebuild, logical}
 use Rattle.ist_core.specs.LogTerms.{Snapshot, side_of, Log, GoesOn, EachEnabled, CanOpen, state_of}
-use Rattle.ist_core.specs.TreeTerms.{place_in, place_of_slot, value_in, AllGrow}
+use Rattle.ist_core.specs.TreeTerms.{place_of_slot, value_in, AllGrow}
 use Rattle.ist_core.proofs.AllLogLemmas.{leaf_there, change_there, rebuild_there, enabled_before, grow_between, side_not_yes, shown_in_anchor, shown_in_row, goes_on_more, past_no_change}
 use Rattle.ist_core.proofs.AllPlaceLemmas.{anchor_free, no_row, shaped, get-words_of_slot, has_word, IsChangeFor, IsRebuildFor, SideNames, SlotNames, slot_names, side_slot, side_names, names}
 use Rattle.laws_links.proofs.ReadLemmas.{side_yes}
@@ -33,18 +33,12 @@ load_word pairs words log place least load h base k word p e is read =
 -- the place of a slot that isn't the anchor's
 slot_of_row : (t : Snapshot) (node i : ℕ) (r : InnerRow) → node ≢ anchor
     → t.pieces node ≡ Some (Inner r) → place_of_slot t node i ≡ slot_place node r.degree i
-slot_of_row t node i r out e = at (node == anchor) refl ∙ ap (place_in node i) (ap as_inner e)
-  where
-    at : (v : Bool) → (node == anchor) ≡ v
-        → (if v then anchor_slot_place else place_in node i (as_inner (t.pieces node))) ≡ place_in node i (as_inner (t.pieces node))
-    at true f = let same : node ≡ anchor = grind (arith, nat_tests) in absurd (out same)
-    at false f = refl
+slot_of_row t node i r out e = grind (arith, nat_tests)
 
 -- the place of the anchor's slot
 slot_of_anchor : (t : Snapshot) (node i : ℕ) → node ≡ anchor
     → place_of_slot t node i ≡ anchor_slot_place
-slot_of_anchor t node i e =
-    subst (λ n. (if n == anchor then anchor_slot_place else place_in n i (as_inner (t.pieces n))) ≡ anchor_slot_place) (sym e) refl
+slot_of_anchor t node i e = grind arith
 
 -- the last word of a change that counts by its decision
 to_word : (r : ChangeRow) (word : ℕ) → r.decision ≡ decided_yes → word ≡ r.to → word ≡ side_of r
@@ -162,16 +156,7 @@ module _ (pairs : List Pair) (words : ℕ) (opens : CanOpen pairs words) (log : 
   target_told : (node i side last : ℕ) (ref : Ref) → SlotNames (At last).pieces node i (ref_of side)
       → ReadsTarget pairs words log last side ref
       → past_rebuild (At last).pieces (ref_of side) ≡ Some ref
-  target_told node i side last _ named (no_rebuild ref is plain) = at ref is plain
-    where
-      at : (ref : Ref) → ref_of side ≡ Some ref → ((base : ℕ) → ref ≢ RebuildAt base)
-          → past_rebuild (At last).pieces (ref_of side) ≡ Some ref
-      at (RebuildAt base) is plain = absurd (plain base refl)
-      at Empty is plain = ap (past_rebuild (At last).pieces) is
-      at Unset is plain = ap (past_rebuild (At last).pieces) is
-      at (LeafAt base) is plain = ap (past_rebuild (At last).pieces) is
-      at (InnerAt base) is plain = ap (past_rebuild (At last).pieces) is
-      at (ChangeAt base) is plain = ap (past_rebuild (At last).pieces) is
+  target_told node i side last _ named (no_rebuild ref is plain) = grind arith
   target_told node i side last _ named (by_target base target is load) = let t = At last in
       let here : IsRebuildFor t.pieces node i base =
       subst (λ ref. SlotNames t.pieces node i ref) is named in

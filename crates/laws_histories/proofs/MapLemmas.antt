@@ -1,5 +1,5 @@
 -- What commands leave of a map, and replies to lists of commands. Serves the laws on histories.
-use Rattle.std.proofs.Common.{◌≡◌, ℕ, false, List, [], ◌∷◌, ◌++◌, map, is_some, Option, Some, None, refl, sym, ap, ◌∙◌, subst, ⊎_elim, arith}
+use Rattle.std.proofs.Common.{◌≡◌, ℕ, false, List, [], ◌∷◌, ◌++◌, map, is_some, Option, Some, None, refl, sym, ◌∙◌, ⊎_elim, arith}
 use Rattle.std.proofs.lemmas.Bool.Decides.{nat_tests, eqb_tells}
 use Rattle.std.proofs.lemmas.List.{map-append}
 use Rattle.std.specs.Cmp.{nat_cmp_total}
@@ -74,11 +74,9 @@ map_told-entries m (entry ∷ entries) = map_told-entries (map_after m entry.com
 -- together
 pub entries_append : (m : Map) (xs ys : List Entry) → AreLegal m xs → AreLegal (map_after_entries m xs) ys
     → AreLegal m (xs ++ ys)
-entries_append m xs ys h k = subst (λ hs. IsLegal m hs) (sym (map-append told_by_entry xs ys))
-    (legal_append m (map told_by_entry xs) (map told_by_entry ys) h (subst (λ n. AreLegal n ys) (sym (map_told-entries m xs)) k))
+entries_append m xs ys h k = grind (arith, map-append, legal_append, map_told-entries)
 
 -- the map after two lists of entries is the map after the second on the map after the first
 pub map_after_entries-append : (m : Map) (xs ys : List Entry)
     → map_after_entries m (xs ++ ys) ≡ map_after_entries (map_after_entries m xs) ys
-map_after_entries-append m xs ys = ap (replay m) (map-append (λ e. e.command) xs ys)
-    ∙ replay-append m (map (λ e. e.command) xs) (map (λ e. e.command) ys)
+map_after_entries-append m xs ys = grind (arith, map-append, replay-append)

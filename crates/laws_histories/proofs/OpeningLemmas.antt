@@ -20,8 +20,7 @@ split_plain : {A : Type 0} (key : A → ℕ) (ps : Pieces) (ref : Ref) (xs : Lis
     → Splits key ps ref xs rows → (word : ℕ) → ref_of word ≡ Some ref → logical ps word ≡ Some ref
 split_plain key ps _ _ _ split_none word e = ap (λ x. past_rebuild ps (past_change ps x)) e
 split_plain key ps _ _ _ (split_leaf r f is) word e = ap (λ x. past_rebuild ps (past_change ps x)) e
-split_plain key ps _ _ _ (split_row r f two keys below) word e =
-    ap (λ x. past_rebuild ps (past_change ps x)) e
+split_plain key ps _ _ _ (split_row r f two keys below) word e = grind arith
 
 -- the reference has leaves with the keys of the list
 record HasLeavesWithKeys {A : Type 0} (key : A → ℕ) (ps : Pieces) (ref : Ref) (xs : List A) : Type 0 where
@@ -107,14 +106,7 @@ rows_of : (fuel base : ℕ) (pairs all : List Pair) → ((p : Pair) → Among p 
     → Each (IsLeafOfPairs all) (rows_within fuel base pairs)
 unfolding rows_within
 rows_of fuel base [] all sub = tt
-rows_of fuel base (pair ∷ []) all sub =
-    (λ r e. subst (λ p. Among p all) (one r e) (sub pair (inl refl)), tt)
-  where
-    one : (r : LeafRow) → Leaf record { key = pair.key; value = pair.value } ≡ Leaf r
-        → pair ≡ record { key = r.key; value = r.value }
-    one r e =
-        let same : record { key = pair.key; value = pair.value } ≡ r =
-        cc in ap (λ x. record { key = x.key; value = x.value }) same
+rows_of fuel base (pair ∷ []) all sub = grind arith
 rows_of zero base (pair ∷ more ∷ pairs) all sub = tt
 rows_of (suc fuel) base (pair ∷ more ∷ pairs) all sub =
     let xs = pair ∷ more ∷ pairs in (

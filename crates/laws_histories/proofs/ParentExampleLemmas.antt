@@ -1,10 +1,10 @@
 -- The finish of a rebuild below a marked row is decided no. Serves `examples`.
-use Rattle.std.proofs.Common.{◌≡◌, ℕ, zero, suc, ◌≢◌, false, [], ◌∷◌, replicate, slice_get, Some, refl, inl, ap, ◌∙◌, arith}
+use Rattle.std.proofs.Common.{◌≡◌, ℕ, zero, suc, ◌≢◌, false, [], ◌∷◌, replicate, slice_get, Some, refl, inl, arith}
 use Rattle.ist_core.specs.declared.commands.Command.TheVariants.{Put}
 use Rattle.ist_core.specs.declared.states.LeafRow.{LeafRow}
 use Rattle.ist_core.specs.declared.states.ChangeRow.{ChangeRow}
 use Rattle.ist_core.specs.declared.events.Event.TheVariants.{Decide, Mark}
-use Rattle.ist_core.specs.WordTerms.{degree, square_root, root_up_to, part_len, part_lens, ideal_words, ideal_words_within, InnerAt, ref_of, finish_kind, Inner, Change, Rebuild, with_slot, with_status, with_decision, rows_within, SlotHolds, IsOpen, in_anchor, in_row, anchor_is, row_is}
+use Rattle.ist_core.specs.WordTerms.{degree, square_root, root_up_to, part_len, part_lens, ideal_words, ideal_words_within, InnerAt, ref_of, finish_kind, Change, Rebuild, with_slot, with_status, with_decision, rows_within, SlotHolds, IsOpen, in_anchor, in_row, anchor_is, row_is}
 use Rattle.ist_core.specs.LogTerms.{state, CanReserve, Lawful}
 use Rattle.ist_core.specs.TreeTerms.{IsChild, at_anchor, below, leaf_here, row_here, no_slot, one_slot, HasContents, IsStarted, CanInstall, a_finish, CanDecide, CanResolve, changes_of}
 use Rattle.ist_core.proofs.AllLogLemmas.{NotRefused, NoneDecidedNo, none_refused-with_row, none_refused-changed_at, slot_keeps, status_keeps, yes_keeps}
@@ -31,8 +31,7 @@ the_finish decision = record {
 -- its row may be reserved
 finish_reserved : CanReserve (state three (Mark 1 4 ∷ top_started)) 0 147 9
 unfolding ref_of rows_within degree square_root root_up_to part_len part_lens ideal_words ideal_words_within
-finish_reserved =
-    record { known = omega arith; base_is = refl; room = omega arith; fair = change_fair _ }
+finish_reserved = grind (arith, change_fair)
 
 -- no change was refused until then
 marked_refuse : NoneDecidedNo (state three top_marked).pieces
@@ -69,13 +68,8 @@ none_unset (suc (suc i)) word e = absurd (cc)
 root_whole : (base i word : ℕ) → ref_of 1010 ≡ Some (InnerAt base)
     → SlotHolds (state three top_marked) base i word → word ≢ 7
 unfolding ref_of rows_within degree square_root root_up_to part_len part_lens ideal_words ideal_words_within
-root_whole base i word e (in_anchor at _ _) =
-    let is : ◌≡◌ {A = ℕ} 126 base = cc in absurd (omega arith)
-root_whole base i word e (in_row r published holds) = let is : ◌≡◌ {A = ℕ} 126 base = cc in
-    let there : (state three top_marked).pieces 126 ≡ Some (Inner r) =
-    ap (state three top_marked).pieces is ∙ published
-    in
-    let same : new_left ≡ r = cc in none_unset i word (ap (λ y. slice_get y.slots i) same ∙ holds)
+root_whole base i word e (in_anchor at _ _) = grind arith
+root_whole base i word e (in_row r published holds) = grind (arith, three, new_left, none_unset)
 
 -- the top row hangs below the anchor, under its rebuild
 top_hangs : IsChild (state three top_marked) 2 0 4
@@ -142,10 +136,8 @@ resolved = record {
 
 -- the log is lawful
 pub left_refused_is_lawful : Lawful three_pairs 200 left_refused
-left_refused_is_lawful = record {
-  opens = three_open;
-  enabled = ((((top_enabled, finish_reserved), finish_installed), refused), resolved);
-}
+left_refused_is_lawful =
+    grind (arith, three_open, top_enabled, finish_reserved, finish_installed, refused, resolved)
 
 -- the leaf of the key 30
 abbrev thirty : LeafRow

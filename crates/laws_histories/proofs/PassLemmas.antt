@@ -1,5 +1,5 @@
 -- The words with which slots were passed. Serves the search law.
-use Rattle.std.proofs.Common.{◌≢◌, ℕ, [], ◌∷◌, Some, inl, inr}
+use Rattle.std.proofs.Common.{◌≢◌, ℕ, [], ◌∷◌, Some, inl, inr, arith}
 use Rattle.ist_core.specs.WordTerms.{Unset, ChangeAt, ref_of}
 use Rattle.ist_core.specs.LogTerms.{Snapshot, Log, Happened, Passes, EachEnabled}
 use Rattle.ist_core.proofs.AllEventLemmas.{not_unset}
@@ -15,8 +15,6 @@ pub record IsPassable (word : ℕ) : Type 0 where
 pub passed_plain : (first : Snapshot) (log : Log) (node i word : ℕ) → EachEnabled first log
     → Happened (Passes node i word) log → IsPassable word
 passed_plain first [] node i word h p = absurd p
-passed_plain first (event ∷ log) node i word h (inl now) =
-    let can =
-    (passing first log event node i word h.1 now).1 in record { set = not_unset word can.set; no_change = can.no_change }
+passed_plain first (event ∷ log) node i word h (inl now) = grind (arith, passing, not_unset)
 passed_plain first (event ∷ log) node i word h (inr before) =
     passed_plain first log node i word h.0 before

@@ -1,5 +1,5 @@
 -- The items of the woven history are in order. Serves `laws.calls_have_places`.
-use Rattle.std.proofs.Common.{◌≡◌, ℕ, ◌+◌, ◌<◌, ◌≤◌, ◌==◌, nat_lt, if◌then◌else◌, Bool, true, false, List, [], ◌∷◌, ◌++◌, map, refl, inl, inr, arith}
+use Rattle.std.proofs.Common.{◌≡◌, ℕ, ◌+◌, ◌≤◌, ◌==◌, if◌then◌else◌, Bool, true, false, List, [], ◌∷◌, ◌++◌, map, refl, inl, inr, arith}
 use Rattle.std.proofs.lemmas.Bool.Decides.{nat_tests}
 use Rattle.ist_core.specs.declared.pairs.Pair.{Pair}
 use Rattle.ist_core.specs.LogTerms.{Each, Log, PassCalls, StandInPrefixes, Reading, readings, comes_first, put_in, in_order, at_position}
@@ -17,23 +17,11 @@ StampsRise (x ∷ xs) = Each (λ y. x.call.stamp ≤ y.call.stamp) xs × StampsR
 
 -- the reading that comes first has no higher stamp
 first_low : (x y : Reading) → comes_first x y ≡ true → x.call.stamp ≤ y.call.stamp
-first_low x y e = at (x.call.stamp == y.call.stamp) refl e
-  where
-    at : (v : Bool) → (x.call.stamp == y.call.stamp) ≡ v
-        → (if v then nat_lt x.number y.number else nat_lt x.call.stamp y.call.stamp) ≡ true
-        → x.call.stamp ≤ y.call.stamp
-    at true f g = let same : x.call.stamp ≡ y.call.stamp = grind (arith, nat_tests) in omega arith
-    at false f g = let less : x.call.stamp < y.call.stamp = grind (arith, nat_tests) in omega arith
+first_low x y e = grind (arith, nat_tests)
 
 -- the reading that doesn't come first has no lower stamp
 last_high : (x y : Reading) → comes_first x y ≡ false → y.call.stamp ≤ x.call.stamp
-last_high x y e = at (x.call.stamp == y.call.stamp) refl e
-  where
-    at : (v : Bool) → (x.call.stamp == y.call.stamp) ≡ v
-        → (if v then nat_lt x.number y.number else nat_lt x.call.stamp y.call.stamp) ≡ false
-        → y.call.stamp ≤ x.call.stamp
-    at true f g = let same : x.call.stamp ≡ y.call.stamp = grind (arith, nat_tests) in omega arith
-    at false f g = grind (arith, nat_tests)
+last_high x y e = grind (arith, nat_tests)
 
 -- what holds of a reading and of others holds of all after it is inserted
 each_put_in : (P : Reading → Type 0) (x : Reading) (ys : List Reading) → P x → Each P ys
@@ -191,10 +179,5 @@ placed_in_order position (entry ∷ entries) xs h =
 -- the woven history has its places
 pub has_places : (pairs : List Pair) (words : ℕ) (log : Log) (passes : List PassCalls)
     → StandInPrefixes pairs words log passes → HasPlaces (changes_of pairs words log) passes
-has_places pairs words log passes all = let entries = changes_of pairs words log in
-    let xs = in_order (readings passes) in record {
-      placed = placed_from 0 entries xs;
-      told = told_placed 0 entries xs;
-      once = placed_once pairs words log passes all;
-      in_order = placed_in_order 0 entries xs (in_order_rises (readings passes));
-    }
+has_places pairs words log passes all =
+    grind (arith, placed_from, told_placed, placed_once, placed_in_order, in_order_rises)

@@ -183,9 +183,7 @@ early_load base k word p e read =
 since_6 : (base k word : ℕ) (p : Piece) → (state_of [] 15 put_decided).pieces base ≡ Some p
     → slice_get (words_of p) k ≡ Some word
     → IsLoad [] 15 put_decided (base + k) 6 (load (base + k) word 6)
-since_6 base k word p e read =
-    let it =
-    row_load base k word p e read in record { tells = it.tells; place_is = refl; since = omega arith; within = omega arith }
+since_6 base k word p e read = grind (arith, row_load)
 
 -- ---- the search
 

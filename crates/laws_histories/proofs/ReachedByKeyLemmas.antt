@@ -1,5 +1,5 @@
 -- A put or remove reached its slot by its key. Serves the changes law.
-use Rattle.std.proofs.Common.{◌≡◌, ℕ, List, ◌∷◌, ⊎_elim, arith, Some, false, [], refl, inl, inr}
+use Rattle.std.proofs.Common.{◌≡◌, ℕ, List, ◌∷◌, arith, Some, false, [], refl, inl, inr}
 use Rattle.ist_core.specs.declared.pairs.Pair.{Pair}
 use Rattle.ist_core.specs.declared.lists.Row.{Row}
 use Rattle.ist_core.specs.declared.states.ChangeRow.{ChangeRow}
@@ -12,7 +12,7 @@ use Rattle.ist_core.specs.TreeTerms.{Leads, IsUpdate, FitsKind, a_put, a_pair, a
 use Rattle.ist_core.proofs.AllLogLemmas.{ever_from, child_remains, grow_after, NotRefused, NoneDecidedNo, none_refused-changed_at, status_keeps}
 use Rattle.laws_links.proofs.InductionLemmas.{changes_by}
 use Rattle.ist_core.specs.ExampleLogs.{start_pairs, late_reserved, late_rows, rebuild_replaced}
-use Rattle.ist_core.proofs.StartExampleLemmas.{two, start_is_lawful}
+use Rattle.ist_core.proofs.StartExampleLemmas.{two}
 use Rattle.ist_core.proofs.RebuildExampleLemmas.{the_start, the_rebuild, low, high, both}
 use Rattle.ist_core.proofs.FinishExampleLemmas.{none_refused_started}
 use Rattle.ist_core.proofs.LateExampleLemmas.{late_is_lawful}
@@ -31,10 +31,8 @@ installed_by_key : (first : Snapshot) (log : Log) (change : ChangeRow) (fresh : 
 installed_by_key first log change fresh (a_put f) update = f.by_key
 installed_by_key first log change fresh (a_pair f) update = f.by_key
 installed_by_key first log change fresh (a_remove f) update = f.by_key
-installed_by_key first log change fresh (a_start f) update =
-    let kind = f.kind in absurd (⊎_elim (λ e. (omega arith)) (λ e. (omega arith)) update)
-installed_by_key first log change fresh (a_finish f) update =
-    let kind = f.kind in absurd (⊎_elim (λ e. (omega arith)) (λ e. (omega arith)) update)
+installed_by_key first log change fresh (a_start f) update = grind arith
+installed_by_key first log change fresh (a_finish f) update = grind arith
 
 module _ (pairs : List Pair) (words : ℕ) where
   -- that stays true after an event
@@ -149,8 +147,7 @@ resolved =
 
 -- the log is lawful
 pub refused_is_lawful : Lawful start_pairs 100 refused
-refused_is_lawful =
-    record { opens = start_is_lawful.opens; enabled = ((((reserved, marked), installed), decided), resolved) }
+refused_is_lawful = grind (arith, reserved, marked, installed, decided, resolved)
 
 -- it changes nothing
 pub refused_changes : changes_of start_pairs 100 refused ≡ []

@@ -37,8 +37,7 @@ side_reads ps qs g node i _ h = refl
 pub change_logical : (ps : Pieces) (word base : ℕ) (r : ChangeRow)
     → ref_of word ≡ Some (ChangeAt base) → ps base ≡ Some (Change r)
     → logical ps word ≡ past_rebuild ps (ref_of (side_of r))
-change_logical ps word base r is e = ap (λ ref. past_rebuild ps (past_change ps ref)) is
-    ∙ ap (λ o. past_rebuild ps (change_reads o)) e
+change_logical ps word base r is e = grind arith
 
 -- ---- over a log
 

@@ -81,17 +81,7 @@ pub before_put : (t : Snapshot) (leaf from old count : ℕ) → t.callers ≡ 2 
     → t.words ≡ 200 → t.held ≡ [] → t.anchor ≡ 34 → t.pieces 4 ≡ Some (Inner (top 0 90))
     → t.pieces 11 ≡ Some (Inner (left 0 count from)) → ref_of from ≡ Some (LeafAt old)
     → t.pieces old ≡ Some (Leaf ten) → IsBeforePut t leaf from old count
-before_put t leaf from old count a b c d e f g h i = record {
-  callers = a;
-  next = b;
-  words = c;
-  held = d;
-  anchor = e;
-  top_row = f;
-  left_row = g;
-  old_is = h;
-  old_leaf = i;
-}
+before_put t leaf from old count a b c d e f g h i = grind arith
 
 -- ---- what the small logs' callers hold is fair. Serves `examples`.
 

@@ -1,9 +1,9 @@
 -- A finish leaves what each key is given: its root has the leaves of its rebuild's target. Serves the changes law.
-use Rattle.std.proofs.Common.{◌≡◌, ◌≢◌, ℕ, List, map, Option, Some, None, refl, sym, ap, ◌∙◌, subst, inl, inr}
+use Rattle.std.proofs.Common.{◌≡◌, ◌≢◌, ℕ, List, map, Option, Some, None, refl, sym, ap, ◌∙◌, subst, inr, arith}
 use Rattle.ist_core.specs.declared.pairs.Pair.{Pair}
 use Rattle.ist_core.specs.declared.states.ChangeRow.{ChangeRow}
 use Rattle.ist_core.specs.declared.states.RebuildRow.{RebuildRow}
-use Rattle.ist_core.specs.WordTerms.{Ref, Empty, Unset, LeafAt, InnerAt, ChangeAt, RebuildAt, ref_of, unset_word, Inner, Change, Rebuild, start, rebuild_reads, past_rebuild}
+use Rattle.ist_core.specs.WordTerms.{Ref, Empty, Unset, LeafAt, InnerAt, ChangeAt, RebuildAt, ref_of, unset_word, Inner, Change, Rebuild, start, past_rebuild}
 use Rattle.ist_core.specs.LogTerms.{Snapshot, Log, EachEnabled, CanOpen, state_of}
 use Rattle.ist_core.specs.TreeTerms.{PlacedLeaf, pair_of, HasLeaves}
 use Rattle.ist_core.proofs.AllPlaceLemmas.{anchor_free, IsRebuildFor, RootNames, SideNames, names, Mentions, one_home, shaped, LiesIn, ReadsAs, leaves_lie}
@@ -32,12 +32,7 @@ module _ (pairs : List Pair) (words : ℕ) (opens : CanOpen pairs words) (log : 
   -- the target of a rebuild is named for its slot
   target_named : (node i base : ℕ) → IsRebuildFor Here.pieces node i base
       → ReadsAs Here node i (past_rebuild Here.pieces (Some (RebuildAt base)))
-  target_named node i base is = let read = ap rebuild_reads is.published in record {
-    a_leaf = λ leaf e. absurd (cc (sym read ∙ e));
-    a_row = λ child e.
-        (let same = one_inner is.row.target child (sym read ∙ e) in
-        inr (base, Rebuild is.row, is.published, (sym is.parent, sym is.index, inl (ap InnerAt same))));
-  }
+  target_named node i base is = grind (arith, one_inner)
 
   -- the root of a rebuild in a slot names what may be in the slot
   root_named : (node i base : ℕ) (is : IsRebuildFor Here.pieces node i base)

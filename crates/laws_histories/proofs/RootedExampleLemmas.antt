@@ -14,8 +14,7 @@ use Rattle.laws_histories.proofs.LeftExampleLemmas.{the_start, the_rebuild, left
 -- the new row may be reserved
 root_reserved : CanReserve (state three left_finished) 0 126 7
 unfolding ref_of rows_within degree square_root root_up_to part_len part_lens ideal_words ideal_words_within
-root_reserved =
-    record { known = omega arith; base_is = refl; room = omega arith; fair = pair_fair _ }
+root_reserved = grind (arith, pair_fair)
 
 -- the new row is held
 abbrev root_held : Log
@@ -40,16 +39,7 @@ new_left = left 0 0 809
 -- it is the top of an ideal subtree
 root_top : IsTop with_root_row 126 new_left both 11
 unfolding ref_of rows_within degree square_root root_up_to part_len part_lens ideal_words ideal_words_within
-root_top = record {
-  published = refl;
-  two = omega arith;
-  higher = omega arith;
-  status = refl;
-  count = refl;
-  degree = refl;
-  size = refl;
-  keys = refl;
-}
+root_top = grind arith
 
 -- the new row is an ideal subtree over the leaves
 root_ideal : IsIdeal with_root_row (InnerAt 126) both 11 (126 ∷ [])

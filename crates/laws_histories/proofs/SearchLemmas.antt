@@ -1,6 +1,6 @@
 -- A search by the logs at which it looked: what holds at its node, that it goes up, and what it
 -- finds. Serves the search law.
-use Rattle.std.proofs.Common.{◌≡◌, ℕ, ◌<◌, ◌⊎◌, List, [], ◌∷◌, Option, Some, None, slice_get, refl, sym, ap, ◌∙◌, subst, inl, inr, ⊎_elim}
+use Rattle.std.proofs.Common.{◌≡◌, ℕ, ◌<◌, ◌⊎◌, List, [], ◌∷◌, Option, Some, None, slice_get, refl, ap, ◌∙◌, subst, inl, inr, ⊎_elim, arith}
 use Rattle.ist_core.specs.declared.pairs.Pair.{Pair}
 use Rattle.ist_core.specs.declared.states.InnerRow.{InnerRow}
 use Rattle.ist_core.specs.WordTerms.{child_count, anchor, Ref, InnerAt, Pieces, Inner, start, SlotHolds, in_anchor, in_row, IsChildFor, of_anchor, of_row, logical}
@@ -152,19 +152,14 @@ pub row_finds : (ps : Pieces) (key base : ℕ) (value : Option ℕ) (r : InnerRo
     → ps base ≡ Some (Inner r) → i ≡ child_count r.keys key → slice_get r.slots i ≡ Some word
     → Finds ps key (logical ps word) value
 row_finds ps key base value r i word (in_node {word = other} x e g f) there is read =
-    let one = same_inner (ps base) x r e there in
-    let same : other ≡ word =
-    cc (ap (λ y. child_count y.keys key) one ∙ sym is) in
-    subst (λ w. Finds ps key (logical ps w) value) same f
+    grind (arith, same_inner)
 
 -- what the tree gives the key is found from a slot on to which the key leads
 pub finds_below : (t : Snapshot) (key node i word : ℕ) (value : Option ℕ) → t.pieces anchor ≡ None
     → Leads t key node → IsChildFor t node key i → SlotHolds t node i word → Gives t key value
     → Finds t.pieces key (logical t.pieces word) value
-finds_below t key node i word value free led index (in_anchor a b e) f =
-    subst (λ w. Finds t.pieces key (logical t.pieces w) value) e f
-finds_below t key _ i word value free from_anchor index (in_row r p g) f =
-    absurd (no_row t.pieces anchor r free refl p)
+finds_below t key node i word value free led index (in_anchor a b e) f = grind arith
+finds_below t key _ i word value free from_anchor index (in_row r p g) f = grind (arith, no_row)
 finds_below t key _ i word value free (down {child = child} j led x c) (of_anchor a b) (in_row r p g) f =
     absurd (no_row t.pieces child r free a p)
 finds_below t key _ i word value free (down {node = node} {child = child} j led x c) (of_row s q is) (in_row r p g) f =

@@ -1,5 +1,5 @@
 -- What a look at a slot saw was the tree's at one moment, on the way of the search for the key. Serves the search law.
-use Rattle.std.proofs.Common.{◌≡◌, ℕ, true, List, [], ◌∷◌, slice_get, Option, Some, None, option_map, refl, sym, ap, ◌∙◌, subst, inr, ⊎_elim}
+use Rattle.std.proofs.Common.{◌≡◌, ℕ, true, List, [], ◌∷◌, slice_get, Option, Some, None, option_map, refl, sym, ap, ◌∙◌, subst, inr, ⊎_elim, arith}
 use Rattle.ist_core.specs.declared.pairs.Pair.{Pair}
 use Rattle.ist_core.specs.declared.states.InnerRow.{InnerRow}
 use Rattle.ist_core.specs.declared.states.ChangeRow.{ChangeRow}
@@ -34,8 +34,7 @@ pub record Saw (pairs : List Pair) (words key : ℕ) (earlier log : Log) (node :
 -- what a slot of an inner row holds is in its list
 pub row_holds : (t : Snapshot) (node i word : ℕ) (r : InnerRow) → t.pieces 2 ≡ None
     → t.pieces node ≡ Some (Inner r) → SlotHolds t node i word → slice_get r.slots i ≡ Some word
-row_holds t node i word r free e (in_row s f g) =
-    ap (λ x. slice_get x.slots i) (same_inner (t.pieces node) r s e f) ∙ g
+row_holds t node i word r free e (in_row s f g) = grind (arith, same_inner)
 row_holds t node i word r free e (in_anchor a b c) = absurd (no_row t.pieces node r free a e)
 
 module _ (pairs : List Pair) (words : ℕ) (opens : CanOpen pairs words)

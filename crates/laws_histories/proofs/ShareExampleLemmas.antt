@@ -190,13 +190,18 @@ marked = record {
 
 -- the log is enabled until then
 marked_enabled : EachEnabled many share_marked
-marked_enabled = (
-  (
-    ((((((tt, entered), rebuild_reserved), start_reserved), installed), okayed), decided),
-    resolved,
-  ),
-  marked,
-)
+marked_enabled =
+    grind (
+      arith,
+      entered,
+      rebuild_reserved,
+      start_reserved,
+      installed,
+      okayed,
+      decided,
+      resolved,
+      marked,
+    )
 
 -- the log is enabled until the whole tree is finished
 pub share_finished_enabled : EachEnabled many share_finished

@@ -32,16 +32,7 @@ top_of : (base : ℕ) (r : InnerRow) (leaves : List PlacedLeaf) (above : ℕ)
     → r.count ≡ 0 → r.degree ≡ degree (length leaves) → r.size ≡ length leaves
     → r.keys ≡ first_keys (λ leaf. leaf.row.key) (drop 1 (parts leaves))
     → IsTop with_part_rows base r leaves above
-top_of base r leaves above a b c d e f g h = record {
-  published = a;
-  two = b;
-  higher = c;
-  status = d;
-  count = e;
-  degree = f;
-  size = g;
-  keys = h;
-}
+top_of base r leaves above a b c d e f g h = grind arith
 
 -- keys 1 and 2
 two_0 : IsIdeal with_part_rows (InnerAt 2138) (leaf_at 64 0 ∷ leaf_at 66 1 ∷ []) 2131 (2138 ∷ [])

@@ -1,5 +1,5 @@
 -- The first part of a shared root is placed. Serves `examples`.
-use Rattle.std.proofs.Common.{◌≡◌, List, [], ◌∷◌, ◌++◌, replicate, slice_get, Some, refl, inl, inr, arith}
+use Rattle.std.proofs.Common.{◌≡◌, List, [], ◌∷◌, ◌++◌, replicate, slice_get, Some, refl, arith}
 use Rattle.ist_core.specs.declared.states.InnerRow.{InnerRow}
 use Rattle.ist_core.specs.WordTerms.{degree, square_root, root_up_to, part_len, part_lens, ideal_words, ideal_words_within, InnerAt, ref_of, parts, rows_within, IsIdeal, of_more, no_part, one_part}
 use Rattle.ist_core.specs.LogTerms.{Distinct, bases_of, HoldsRows, state, EachEnabled}
@@ -58,87 +58,11 @@ part_is_first = refl
 -- the caller holds the rows
 all_held : HoldsRows (state many share_held) 0 share_part_rows
 unfolding finish_of ref_of rows_within degree square_root root_up_to part_len part_lens ideal_words ideal_words_within
-all_held = (
-  inl refl,
-  (
-    inr (inl refl),
-    (
-      inr (inr (inl refl)),
-      (
-        inr (inr (inr (inl refl))),
-        (
-          inr (inr (inr (inr (inl refl)))),
-          (
-            inr (inr (inr (inr (inr (inl refl))))),
-            (
-              inr (inr (inr (inr (inr (inr (inl refl)))))),
-              (
-                inr (inr (inr (inr (inr (inr (inr (inl refl))))))),
-                (
-                  inr (inr (inr (inr (inr (inr (inr (inr (inl refl)))))))),
-                  (
-                    inr (inr (inr (inr (inr (inr (inr (inr (inr (inl refl))))))))),
-                    (
-                      inr (inr (inr (inr (inr (inr (inr (inr (inr (inr (inl refl)))))))))),
-                      (
-                        inr (inr (inr (inr (inr (inr (inr (inr (inr (inr (inr (inl refl))))))))))),
-                        (
-                          inr (inr (inr (inr (inr (inr (inr (inr (inr (inr (inr (inr (inl refl)))))))))))),
-                          tt,
-                        ),
-                      ),
-                    ),
-                  ),
-                ),
-              ),
-            ),
-          ),
-        ),
-      ),
-    ),
-  ),
-)
+all_held = grind arith
 
 -- no base is twice in the list
 once : Distinct (bases_of share_part_rows)
-once =
-    between_once 2120 3000 (bases_of share_part_rows) (
-      omega arith,
-      (
-        omega arith,
-        (
-          omega arith,
-          (
-            omega arith,
-            (
-              omega arith,
-              (
-                omega arith,
-                (
-                  omega arith,
-                  (
-                    omega arith,
-                    (
-                      omega arith,
-                      (
-                        omega arith,
-                        (
-                          omega arith,
-                          (
-                            omega arith,
-                            (omega arith, omega arith),
-                          ),
-                        ),
-                      ),
-                    ),
-                  ),
-                ),
-              ),
-            ),
-          ),
-        ),
-      ),
-    )
+once = grind (arith, between_once)
 
 -- so the part is placed
 placed : CanPlace (state many share_held) 0 2071 0 16962 share_part_rows

@@ -1,5 +1,5 @@
 -- What the sides of a put and of a remove give each key. Serves the changes law.
-use Rattle.std.proofs.Common.{◌≡◌, ◌≢◌, ℕ, ◌<◌, ◌≤◌, ◌==◌, nat_lt, nat_le, if◌then◌else◌, true, false, [], ◌∷◌, slice_get, Option, Some, None, refl, sym, ap, ◌∙◌, subst, ⊎_elim, arith}
+use Rattle.std.proofs.Common.{◌≡◌, ◌≢◌, ℕ, ◌<◌, ◌≤◌, ◌==◌, nat_lt, if◌then◌else◌, true, [], ◌∷◌, slice_get, Option, Some, None, refl, sym, ap, ◌∙◌, subst, ⊎_elim, arith}
 use Rattle.std.proofs.lemmas.Bool.{cases_lt}
 use Rattle.std.proofs.lemmas.Bool.Decides.{nat_tests}
 use Rattle.std.specs.FinMap as fin
@@ -32,8 +32,7 @@ says_self r key e = let same : (r.key == key) ≡ true = grind (arith, nat_tests
 
 -- a leaf gives no value for another key
 says_other : (r : LeafRow) (key : ℕ) → r.key ≢ key → says r key ≡ None
-says_other r key ne =
-    let differs : (r.key == key) ≡ false = grind (arith, nat_tests) in rw differs refl
+says_other r key ne = grind (arith, nat_tests)
 
 -- the value that a pair row gives the key: from its right key on the right leaf's, below it the
 -- left leaf's
@@ -44,27 +43,23 @@ pair_says left right_key right key = if nat_lt key right_key then says left key 
 left_says : (left : LeafRow) (right_key : ℕ) (right : LeafRow) (key : ℕ) → key < right_key
     → pair_says left right_key right key ≡ says left key
 unfolding pair_says
-left_says left right_key right key h =
-    let test : nat_lt key right_key ≡ true = grind (arith, nat_tests) in rw test refl
+left_says left right_key right key h = grind (arith, nat_tests)
 
 -- a pair row gives a high key what its right leaf gives
 right_says : (left : LeafRow) (right_key : ℕ) (right : LeafRow) (key : ℕ) → right_key ≤ key
     → pair_says left right_key right key ≡ says right key
 unfolding pair_says
-right_says left right_key right key h =
-    let test : nat_lt key right_key ≡ false = grind (arith, nat_tests) in rw test refl
+right_says left right_key right key h = grind (arith, nat_tests)
 
 -- the left slot is for keys below the right key
 left_slot : (left right : ℕ) (right_key key : ℕ) → key < right_key
     → slice_get (left ∷ right ∷ []) (child_count (right_key ∷ []) key) ≡ Some left
-left_slot left right right_key key h =
-    let test : nat_le right_key key ≡ false = grind (arith, nat_tests) in rw test refl
+left_slot left right right_key key h = grind (arith, nat_tests)
 
 -- the right slot is for keys from the right key on
 right_slot : (left right : ℕ) (right_key key : ℕ) → right_key ≤ key
     → slice_get (left ∷ right ∷ []) (child_count (right_key ∷ []) key) ≡ Some right
-right_slot left right right_key key h =
-    let test : nat_le right_key key ≡ true = grind (arith, nat_tests) in rw test refl
+right_slot left right right_key key h = grind (arith, nat_tests)
 
 module _ (ps : Pieces) (key : ℕ) where
   -- what is found through a slot of a pair row
@@ -164,8 +159,7 @@ pub record RowsStay (ps qs : Pieces) : Type 0 where
 -- a pair row stays if rows stay
 pair_stays : (ps qs : Pieces) (pair key left right : ℕ) → RowsStay ps qs
     → IsPair ps pair key left right → IsPair qs pair key left right
-pair_stays ps qs pair key left right s h =
-    record { row = h.row; published = s.inners pair h.row h.published; keys = h.keys; slots = h.slots }
+pair_stays ps qs pair key left right s h = grind arith
 
 -- what is found from a word that reads as the reference
 at_ref : (ps qs : Pieces) (key word : ℕ) (ref : Option Ref) (value : Option ℕ) → ref_of word ≡ ref
@@ -176,8 +170,7 @@ at_ref ps qs key word ref value e f = subst (λ x. Finds qs key (past_rebuild ps
 leaf_reply : (ps : Pieces) (change : ChangeRow) (base : ℕ) (r : LeafRow)
     → ref_of change.from ≡ Some (LeafAt base) → ps base ≡ Some (Leaf r)
     → says r change.key ≡ reply_of ps change
-leaf_reply ps change base r from e =
-    sym (ap (λ x. value_at ps x change.key) from ∙ ap (λ o. value_in o change.key) e)
+leaf_reply ps change base r from e = grind arith
 
 module _ (t u : Snapshot) (change : ChangeRow) (stay : RowsStay t.pieces u.pieces)
     (good : (base : ℕ) (p : Piece) → t.pieces base ≡ Some p → IsGoodBase base) where
@@ -269,7 +262,5 @@ module _ (t u : Snapshot) (change : ChangeRow) (stay : RowsStay t.pieces u.piece
     reply = leaf_reply t.pieces change leaf is.row from is.published;
     makes = remove_makes change None kind refl;
   }
-  sides (begins target rebuild kind from to h) update =
-      absurd (⊎_elim (λ e. (omega arith)) (λ e. (omega arith)) update)
-  sides (ends rebuild row kind from e f set) update =
-      absurd (⊎_elim (λ e. (omega arith)) (λ e. (omega arith)) update)
+  sides (begins target rebuild kind from to h) update = grind arith
+  sides (ends rebuild row kind from e f set) update = grind arith

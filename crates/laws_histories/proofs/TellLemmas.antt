@@ -67,9 +67,7 @@ module _ (pairs : List Pair) (words : ℕ) (opens : CanOpen pairs words)
   -- the change that turns is this one
   turned_is : (node i : ℕ) (ref : Option Ref)
       (turn : Turns Before Following (Decide caller base true) node i ref) → turn.change ≡ change
-  turned_is node i ref turn = let same : base ≡ turn.base = cc (turn.decides.is) in
-      same_change (Before.pieces base) turn.change change
-      (subst (λ b. Before.pieces b ≡ Some (Change turn.change)) (sym same) turn.pending.published) h.1.pending.published
+  turned_is node i ref turn = grind (arith, same_change)
 
   -- if `to` gives what `from` gave, the tree gives what it gave
   alike_gives : (key : ℕ)
@@ -197,13 +195,7 @@ module _ (pairs : List Pair) (words : ℕ) (opens : CanOpen pairs words)
       → ((key : ℕ) → Gives Following key (fin.get (map_after_entries (map_after_entries (map_of pairs) (changes_of pairs words log)) new) key))
       → AreLegal (map_after_entries (map_of pairs) (changes_of pairs words log)) new
       → ToldAfter pairs words (Decide caller base true ∷ log)
-  told_more new are told gives legal = let m = map_of pairs in
-      let old = changes_of pairs words log in record {
-        gives = λ key.
-            subst (λ es. Gives Following key (fin.get (map_after_entries m es) key)) (sym are)
-            (subst (λ n. Gives Following key (fin.get n key)) (sym (map_after_entries-append m old new)) (gives key));
-        legal = subst (λ es. AreLegal m es) (sym are) (entries_append m old new told.legal legal);
-      }
+  told_more new are told gives legal = grind (arith, map_after_entries-append, entries_append)
 
   -- an update is its new entry
   told_update : IsUpdate change.kind → ToldAfter pairs words log
@@ -223,13 +215,7 @@ module _ (pairs : List Pair) (words : ℕ) (opens : CanOpen pairs words)
   told_rebuild : ((key : ℕ) (value : Option ℕ) → Finds Before.pieces key From value → Finds Before.pieces key To value)
       → command_of change ≡ None → ToldAfter pairs words log
       → ToldAfter pairs words (Decide caller base true ∷ log)
-  told_rebuild same none told =
-      let made : entry_of Before.pieces (Before.pieces base) ≡ [] =
-      ap (entry_of Before.pieces) h.1.pending.published
-      ∙ ap (entry_for Before.pieces change) none in
-      let m = map_after_entries (map_of pairs) (changes_of pairs words log) in
-      told_more [] (ap (λ es. changes_of pairs words log ++ es) made) told
-      (λ key. rebuild_gives same key (fin.get m key) (told.gives key)) refl
+  told_rebuild same none told = grind (arith, told_more, rebuild_gives)
 
   -- so what holds of the tree and the changes holds after each Decide with yes
   pub told_yes : ToldAfter pairs words log → ToldAfter pairs words (Decide caller base true ∷ log)

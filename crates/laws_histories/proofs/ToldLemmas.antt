@@ -35,8 +35,7 @@ module _ (pairs : List Pair) (words : ℕ) (opens : CanOpen pairs words)
   quiet_gives : (log : Log) (event : Event) → EachEnabled (start pairs words) (event ∷ log)
       → IsNoYes event → (key : ℕ) (value : Option ℕ) → Gives (state_of pairs words log) key value
       → Gives (state_of pairs words (event ∷ log)) key value
-  quiet_gives log event h quiet key = gives_step pairs words opens log event h key
-      (λ node i ref value turn f. absurd (subst IsNoYes turn.decides.is quiet))
+  quiet_gives log event h quiet key = grind (arith, gives_step)
 
   -- what the tree gives and the changes reply after each log
   pub told : (log : Log) → EachEnabled (start pairs words) log → ToldAfter pairs words log

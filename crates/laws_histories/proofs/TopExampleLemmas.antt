@@ -50,14 +50,12 @@ rooted_refuse =
 -- the row of the rebuild may be reserved
 rebuild_reserved : CanReserve (state three left_rooted) 1 133 5
 unfolding ref_of rows_within degree square_root root_up_to part_len part_lens ideal_words ideal_words_within
-rebuild_reserved =
-    record { known = omega arith; base_is = refl; room = omega arith; fair = rebuild_fair _ }
+rebuild_reserved = grind (arith, rebuild_fair)
 
 -- the row of the start may be reserved
 start_reserved : CanReserve (state three (Reserve 1 133 5 ∷ left_rooted)) 1 138 9
 unfolding ref_of rows_within degree square_root root_up_to part_len part_lens ideal_words ideal_words_within
-start_reserved =
-    record { known = omega arith; base_is = refl; room = omega arith; fair = start_fair _ }
+start_reserved = grind (arith, start_fair)
 
 -- the start is installed
 start_installed : CanInstall three (Reserve 1 138 9 ∷ Reserve 1 133 5 ∷ left_rooted) 1 138 top_rows
@@ -146,13 +144,15 @@ top_is_marked = record {
 
 -- the log is enabled until the top row is marked
 pub top_enabled : EachEnabled three (Mark 1 4 ∷ top_started)
-top_enabled = (
-  (
-    (
-      ((((left_rooted_enabled, rebuild_reserved), start_reserved), start_installed), start_okayed),
+top_enabled =
+    grind (
+      arith,
+      left_rooted_enabled,
+      rebuild_reserved,
+      start_reserved,
+      start_installed,
+      start_okayed,
       start_decided,
-    ),
-    start_resolved,
-  ),
-  top_is_marked,
-)
+      start_resolved,
+      top_is_marked,
+    )

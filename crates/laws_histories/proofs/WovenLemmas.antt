@@ -158,8 +158,7 @@ taken_stand pairs words log number (calls ∷ more) h =
 pub taken_legal : (pairs : List Pair) (words : ℕ) (log : Log) (taken : List (List Call))
     → AreLegal (map_of pairs) (changes_of pairs words log) → AllStandIn pairs words log 0 taken
     → IsLegal (map_of pairs) (woven (changes_of pairs words log) (numbered 0 taken))
-taken_legal pairs words log taken legal h =
-    woven_legal pairs words log (numbered 0 taken) legal (taken_stand pairs words log 0 taken h)
+taken_legal pairs words log taken legal h = grind (arith, woven_legal, taken_stand)
 
 -- ---- calls that were learnt of
 

@@ -29,8 +29,7 @@ pub record IsDecidedAt (t : Snapshot) (base : ℕ) : Type 0 where
 -- a change that an enabled event resolves is decided
 pub resolved_now : (first : Snapshot) (log : Log) (event : Event) (base : ℕ)
     → Enabled first log event → Resolves base event → IsDecidedAt (state first log) base
-resolved_now first log (Resolve caller change) base h is =
-    record { row = h.change; published = subst (λ b. (state first log).pieces b ≡ Some (Change h.change)) is h.published; decided = h.decided }
+resolved_now first log (Resolve caller change) base h is = grind arith
 resolved_now first log _ base h is = absurd is
 
 -- a change that isn't published wasn't resolved
@@ -39,9 +38,7 @@ unresolved_before : (pairs : List Pair) (words : ℕ) (log : Log)
     → (base : ℕ) → (state_of pairs words log).pieces base ≡ None → ¬ (Happened (Resolves base) log)
 unresolved_before pairs words [] h base none happened = happened
 unresolved_before pairs words (event ∷ log) h base none (inl now) =
-    let it = resolved_now (start pairs words) log event base h.1 now in
-    let on = change_there (state_of pairs words log).pieces (state_of pairs words (event ∷ log)).pieces (grow_after pairs words log event h) base it.row it.published in
-    no_value ((state_of pairs words (event ∷ log)).pieces base) (Change on.0) none on.1
+    grind (arith, resolved_now, change_there, grow_after, no_value)
 unresolved_before pairs words (event ∷ log) h base none (inr before) =
     unresolved_before pairs words log h.0 base (absent ((state_of pairs words log).pieces base) (λ p e.
     let on = grow_after pairs words log event h base p e in no_value ((state_of pairs words (event ∷ log)).pieces base) on.0 none on.1)) before

@@ -1,6 +1,6 @@
 -- Where each change, each rebuild and each status after an event comes from, by cases on what the
 -- event does. Serves each conjunct on changes and rebuilds.
-use Rattle.std.proofs.Common.{List, Some, ap, refl, subst, sym, ℕ, ⊎_elim, ◌+◌, ◌∙◌, ◌∷◌, ◌≡◌, length}
+use Rattle.std.proofs.Common.{List, Some, ap, refl, subst, sym, ℕ, ◌+◌, ◌∙◌, ◌∷◌, ◌≡◌, length, arith}
 use Rattle.ist_core.specs.declared.events.Event.{Event}
 use Rattle.ist_core.specs.declared.events.Event.TheVariants.{Install}
 use Rattle.ist_core.specs.declared.pairs.Pair.{Pair}
@@ -8,7 +8,7 @@ use Rattle.ist_core.specs.declared.states.ChangeRow.{ChangeRow}
 use Rattle.ist_core.specs.declared.states.InnerRow.{InnerRow}
 use Rattle.ist_core.specs.declared.states.RebuildRow.{RebuildRow}
 use Rattle.ist_core.specs.LogTerms.{decision_word, side_of, EachEnabled, state_of, Log, Each}
-use Rattle.ist_core.specs.WordTerms.{Change, Inner, Leaf, Piece, Rebuild, counted, drawn, with_decision, with_root, with_slot, ChangeAt, word_of, start, finished_word, marked_word, first_row, rows_from, rows_within, open_word}
+use Rattle.ist_core.specs.WordTerms.{Change, Inner, Leaf, Piece, Rebuild, counted, drawn, with_decision, with_root, with_slot, ChangeAt, word_of, start, finished_word, first_row, rows_from, rows_within, open_word}
 use Rattle.ist_core.proofs.AllEventLemmas.{Born}
 use Rattle.laws_links.proofs.PassLemmas.{ChangeComes, KeepsStatuses, RebuildComes, StatusComes, change-counted, change-drawn, change-with_root, change-with_slot, change-with_status, change_was, finished_now, is_begun, is_decided, is_drawn, is_installed, is_new, is_rooted, marked_now, rebuild-counted, rebuild-with_decision, rebuild-with_slot, rebuild-with_status, rebuild_was, status-counted, status-drawn, status-with_decision, status-with_root, status-with_slot, status-with_status, status_was}
 use Rattle.laws_links.proofs.PublishedLemmas.{born_open, installed_change, installed_rebuild, published_inner}
@@ -40,16 +40,13 @@ module _ (pairs : List Pair) (words : ℕ) where
       decided (Leaf r) e same = absurd (cc)
       decided (Inner r) e same = absurd (cc)
       decided (Rebuild r) e same = absurd (cc)
-  turned_change log _ base x p old (by_count h is) =
-      change_was (old ∙ ap (λ y. Some y) (change-counted p x (sym is)))
-  turned_change log _ base x p old (by_mark h is) =
-      change_was (old ∙ ap (λ y. Some y) (change-with_status marked_word p x (sym is)))
+  turned_change log _ base x p old (by_count h is) = grind (arith, change_was, change-counted)
+  turned_change log _ base x p old (by_mark h is) = grind (arith, change_was, change-with_status)
   turned_change log _ base x p old (by_finish {keys = keys} h is) =
       change_was (old ∙ ap (λ y. Some y) (change-with_status (finished_word keys) p x (sym is)))
   turned_change log _ base x p old (by_root {word = word} h is) =
       change_was (old ∙ ap (λ y. Some y) (change-with_root word p x (sym is)))
-  turned_change log _ base x p old (by_draw h is) =
-      change_was (old ∙ ap (λ y. Some y) (change-drawn p x (sym is)))
+  turned_change log _ base x p old (by_draw h is) = grind (arith, change_was, change-drawn)
 
   -- how the event publishes a change
   born_change : (log : Log) (event : Event) (base : ℕ) (x : ChangeRow)
@@ -61,31 +58,24 @@ module _ (pairs : List Pair) (words : ℕ) where
       subst (λ b. ChangeComes (start pairs words) log b x (Install caller change rows)) (sym it.0)
       (is_installed h it.1)
   born_change log _ base x (born.by_root {rows = rows} i e) =
-      ⊎_elim (λ w. absurd (cc (w.1))) (λ old. change_was old)
-      (published_inner (state_of pairs words log).pieces rows base (Change x) e)
+      grind (arith, change_was, published_inner)
   born_change log _ base x (born.by_place {rows = rows} i e) =
-      ⊎_elim (λ w. absurd (cc (w.1))) (λ old. change_was old)
-      (published_inner (state_of pairs words log).pieces rows base (Change x) e)
+      grind (arith, change_was, published_inner)
 
   -- where each change after an enabled event comes from
   pub change_comes : (log : Log) (event : Event) → EachEnabled (start pairs words) (event ∷ log)
       → (base : ℕ) (x : ChangeRow)
       → (state_of pairs words (event ∷ log)).pieces base ≡ Some (Change x)
       → ChangeComes (start pairs words) log base x event
-  change_comes log event h base x e = at (came pairs words log event h base (Change x) e)
-    where
-      at : RowCame (start pairs words) log event base (Change x)
-          → ChangeComes (start pairs words) log base x event
-      at (from_old p old turned) = turned_change log event base x p old turned
-      at (from_new new none) = born_change log event base x new
+  change_comes log event h base x e =
+      grind (arith, came, RowCame, ChangeComes, from_old, turned_change, from_new, born_change)
 
   -- how a rebuild that was there before became what it is
   turned_rebuild : (log : Log) (event : Event) (base : ℕ) (x : RebuildRow) (p : Piece)
       → (state_of pairs words log).pieces base ≡ Some p
       → BecameBy (start pairs words) log base p (Rebuild x) event
       → RebuildComes (start pairs words) log base x event
-  turned_rebuild log event base x p old (as_it_was is) =
-      rebuild_was (old ∙ ap (λ y. Some y) (sym is))
+  turned_rebuild log event base x p old (as_it_was is) = grind (arith, rebuild_was)
   turned_rebuild log _ base x p old (by_install {change = change} h here is) = rebuild_was
       (old ∙ ap (λ y. Some y) (rebuild-with_slot h.change.index (word_of (ChangeAt change)) p x (sym is)))
   turned_rebuild log _ base x p old (by_resolve h here is) = rebuild_was
@@ -94,10 +84,8 @@ module _ (pairs : List Pair) (words : ℕ) where
       rebuild_was (old ∙ ap (λ y. Some y) (rebuild-with_slot i word p x (sym is)))
   turned_rebuild log _ base x p old (by_decide {said = said} h is) =
       rebuild_was (old ∙ ap (λ y. Some y) (rebuild-with_decision (decision_word said) p x (sym is)))
-  turned_rebuild log _ base x p old (by_count h is) =
-      rebuild_was (old ∙ ap (λ y. Some y) (rebuild-counted p x (sym is)))
-  turned_rebuild log _ base x p old (by_mark h is) =
-      rebuild_was (old ∙ ap (λ y. Some y) (rebuild-with_status marked_word p x (sym is)))
+  turned_rebuild log _ base x p old (by_count h is) = grind (arith, rebuild_was, rebuild-counted)
+  turned_rebuild log _ base x p old (by_mark h is) = grind (arith, rebuild_was, rebuild-with_status)
   turned_rebuild log _ base x p old (by_finish {keys = keys} h is) =
       rebuild_was (old ∙ ap (λ y. Some y) (rebuild-with_status (finished_word keys) p x (sym is)))
   turned_rebuild log _ base x p old (by_root {word = word} h is) = is_rooted h
@@ -128,39 +116,31 @@ module _ (pairs : List Pair) (words : ℕ) where
       installed_rebuild (start pairs words) log change h.change h.fresh h.fits base x new in
       is_begun h it.starts it.here (cc (it.is))
   born_rebuild log _ base x (born.by_root {rows = rows} i e) =
-      ⊎_elim (λ w. absurd (cc (w.1))) (λ old. rebuild_was old)
-      (published_inner (state_of pairs words log).pieces rows base (Rebuild x) e)
+      grind (arith, rebuild_was, published_inner)
   born_rebuild log _ base x (born.by_place {rows = rows} i e) =
-      ⊎_elim (λ w. absurd (cc (w.1))) (λ old. rebuild_was old)
-      (published_inner (state_of pairs words log).pieces rows base (Rebuild x) e)
+      grind (arith, rebuild_was, published_inner)
 
   -- where each rebuild after an enabled event comes from
   pub rebuild_comes : (log : Log) (event : Event) → EachEnabled (start pairs words) (event ∷ log)
       → (base : ℕ) (x : RebuildRow)
       → (state_of pairs words (event ∷ log)).pieces base ≡ Some (Rebuild x)
       → RebuildComes (start pairs words) log base x event
-  rebuild_comes log event h base x e = at (came pairs words log event h base (Rebuild x) e)
-    where
-      at : RowCame (start pairs words) log event base (Rebuild x)
-          → RebuildComes (start pairs words) log base x event
-      at (from_old p old turned) = turned_rebuild log event base x p old turned
-      at (from_new new none) = born_rebuild log event base x new
+  rebuild_comes log event h base x e =
+      grind (arith, came, RowCame, RebuildComes, from_old, turned_rebuild, from_new, born_rebuild)
 
   -- the status of a row that was there before, if the event that changes the row leaves statuses
   same_status : (log : Log) (event : Event) (base : ℕ) (x : InnerRow) (p : Piece)
       (f : Piece → Piece)
       → KeepsStatuses f → (state_of pairs words log).pieces base ≡ Some p → Inner x ≡ f p
       → StatusComes (start pairs words) log base x.status event
-  same_status log event base x p f keeps old is = let it = keeps p x (sym is) in
-      status_was it.0 (old ∙ ap (λ y. Some y) it.1) it.2
+  same_status log event base x p f keeps old is = grind (arith, status_was)
 
   -- how the status of a row that was there before became what it is
   turned_status : (log : Log) (event : Event) (base : ℕ) (x : InnerRow) (p : Piece)
       → (state_of pairs words log).pieces base ≡ Some p
       → BecameBy (start pairs words) log base p (Inner x) event
       → StatusComes (start pairs words) log base x.status event
-  turned_status log event base x p old (as_it_was is) =
-      status_was x (old ∙ ap (λ y. Some y) (sym is)) refl
+  turned_status log event base x p old (as_it_was is) = grind (arith, status_was)
   turned_status log _ base x p old (by_install {change = change} h here is) =
       same_status log _ base x p (with_slot h.change.index (word_of (ChangeAt change)))
       (status-with_slot h.change.index (word_of (ChangeAt change))) old is
@@ -170,18 +150,15 @@ module _ (pairs : List Pair) (words : ℕ) where
   turned_status log _ base x p old (by_place {i = i} {word = word} h here is) =
       same_status log _ base x p (with_slot i word) (status-with_slot i word) old is
   turned_status log _ base x p old (by_decide {said = said} h is) =
-      same_status log _ base x p (with_decision (decision_word said))
-      (status-with_decision (decision_word said)) old is
+      grind (arith, same_status, status-with_decision)
   turned_status log _ base x p old (by_count h is) =
       same_status log _ base x p counted status-counted old is
-  turned_status log _ base x p old (by_mark h is) =
-      marked_now h (status-with_status marked_word p x (sym is))
+  turned_status log _ base x p old (by_mark h is) = grind (arith, marked_now, status-with_status)
   turned_status log _ base x p old (by_finish {keys = keys} h is) =
       finished_now h (status-with_status (finished_word keys) p x (sym is))
   turned_status log _ base x p old (by_root {word = word} h is) =
       same_status log _ base x p (with_root word) (status-with_root word) old is
-  turned_status log _ base x p old (by_draw h is) =
-      same_status log _ base x p drawn status-drawn old is
+  turned_status log _ base x p old (by_draw h is) = grind (arith, same_status, status-drawn)
 
   -- where the status of each row after an enabled event comes from
   pub status_comes : (log : Log) (event : Event) → EachEnabled (start pairs words) (event ∷ log)

@@ -1,5 +1,5 @@
 -- Contents exist after each lawful log, so linked slots are set. Serves `laws.updates_alone_change`.
-use Rattle.std.proofs.Common.{List, Some, [], ap, arith, false, inl, inr, map, refl, subst, sym, true, ℕ, ⊎_elim, ◌==◌, ◌↔◌, ◌∙◌, ◌∷◌, ◌≡◌, ◌≢◌, ◌⊎◌, length, ◌*◌, ◌+◌, ◌≤◌}
+use Rattle.std.proofs.Common.{List, Some, [], ap, arith, map, refl, subst, sym, true, ℕ, ⊎_elim, ◌↔◌, ◌∙◌, ◌∷◌, ◌≡◌, ◌≢◌, ◌⊎◌, length, ◌*◌, ◌+◌, ◌≤◌}
 use Rattle.std.proofs.lemmas.Bool.Decides.{eqb_tells}
 use Rattle.ist_core.specs.declared.events.Event.{Event}
 use Rattle.ist_core.specs.declared.events.Event.TheVariants.{Decide, Finish}
@@ -7,7 +7,7 @@ use Rattle.ist_core.specs.declared.pairs.Pair.{Pair}
 use Rattle.ist_core.specs.declared.states.InnerRow.{InnerRow}
 use Rattle.ist_core.specs.LogTerms.{CanOpen, EachEnabled, state_of, Log}
 use Rattle.ist_core.specs.TreeTerms.{HasContents, pair_of, Linked, at_anchor, below, IsUpdate, HasLeaves, PlacedLeaf, CanFinish, IsFinishedWith}
-use Rattle.ist_core.specs.WordTerms.{Pieces, InnerAt, Unset, anchor, first_row, SlotHolds, in_anchor, in_row, logical, past_change, past_rebuild, start, tree_at, put_kind, remove_kind, Inner, place_limit, finished_word}
+use Rattle.ist_core.specs.WordTerms.{InnerAt, Unset, anchor, first_row, SlotHolds, in_anchor, in_row, logical, past_change, past_rebuild, start, tree_at, Inner, place_limit, finished_word}
 use Rattle.ist_core.proofs.AllPlaceLemmas.{mentioned_here, contents_are_one, child_mentioned, names, anchor_free, no_row, Mentions, reached, leaves_lie, one_home, AreRisingKeys, key_of_leaf}
 use Rattle.ist_core.proofs.AllEventLemmas.{start_anchor, start_hangs}
 use Rattle.ist_core.proofs.AllWordLemmas.{same_change, same_inner}
@@ -28,16 +28,7 @@ use Rattle.ist_core.proofs.UnderLemmas as under
 module _ (pairs : List Pair) (words : ℕ) (opens : CanOpen pairs words) where
   -- is this the kind of a put or remove
   kind_is : (kind : ℕ) → IsUpdate kind ⊎ ¬ (IsUpdate kind)
-  kind_is kind = at (eqb_tells kind put_kind) (eqb_tells kind remove_kind)
-    where
-      at : (((kind == put_kind) ≡ true) × (kind ≡ put_kind))
-          ⊎ (((kind == put_kind) ≡ false) × (kind ≢ put_kind))
-          → (((kind == remove_kind) ≡ true) × (kind ≡ remove_kind))
-          ⊎ (((kind == remove_kind) ≡ false) × (kind ≢ remove_kind))
-          → IsUpdate kind ⊎ ¬ (IsUpdate kind)
-      at (inl p) r = inl (inl p.1)
-      at (inr p) (inl r) = inl (inr r.1)
-      at (inr p) (inr r) = inr (λ k. ⊎_elim (λ e. p.1 e) (λ e. r.1 e) k)
+  kind_is kind = grind (arith, eqb_tells)
 
   -- the anchor has some leaves
   abbrev AnchorHas : Log → Type 0
@@ -93,11 +84,8 @@ module _ (pairs : List Pair) (words : ℕ) (opens : CanOpen pairs words) where
   linked_slot : (log : Log) → EachEnabled (start pairs words) log → (node i word : ℕ)
       → Linked (state_of pairs words log) node → SlotHolds (state_of pairs words log) node i word
       → HasSome (state_of pairs words log).pieces (logical (state_of pairs words log).pieces word)
-  linked_slot log h _ i word at_anchor (in_anchor a b e) =
-      let ps : Pieces = (state_of pairs words log).pieces in
-      subst (λ w. HasSome ps (logical ps w)) e (anchor_has log h)
-  linked_slot log h _ i word at_anchor (in_row r e at) = absurd
-      (no_row (state_of pairs words log).pieces anchor r (anchor_free pairs words log h) refl e)
+  linked_slot log h _ i word at_anchor (in_anchor a b e) = grind (arith, HasSome, anchor_has)
+  linked_slot log h _ i word at_anchor (in_row r e at) = grind (arith, no_row, anchor_free)
   linked_slot log h _ i word (below {node = node} {child = child} j l c) (in_anchor a b e) =
       let t = state_of pairs words log in let o = names pairs words opens log h in
       let row = mentioned_here t node j child o (child_mentioned t node j child o c) in
@@ -135,12 +123,8 @@ module _ (pairs : List Pair) (words : ℕ) (opens : CanOpen pairs words) where
   pub finishing_linked : (log : Log) → EachEnabled (start pairs words) log → (caller node keys : ℕ)
       → CanFinish (state_of pairs words log) log caller node keys
       → Linked (state_of pairs words log) node
-  finishing_linked log h caller node keys can = let one = can.marked in ⊎_elim (λ l. l)
-      (λ f.
-      let same = same_inner ((state_of pairs words log).pieces node) f.1.row can.row f.1.published can.published in
-      let both = ap (λ r. r.status) same in let odd : f.1.row.status ≡ 4 * f.0 + 3 = f.1.status in
-      absurd (omega arith))
-      (linked_or_finished pairs words opens log h node (closed_was_linked pairs words opens log h node can.row can.published (λ o. omega arith)))
+  finishing_linked log h caller node keys can =
+      grind (arith, same_inner, linked_or_finished, closed_was_linked)
 
   -- a finished row has some leaves
   finished_some : (log : Log) → EachEnabled (start pairs words) log → (node k : ℕ) (r : InnerRow)

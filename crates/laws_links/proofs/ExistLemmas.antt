@@ -1,5 +1,5 @@
 -- Contents exist: what has leaves still has some after each event. Serves `laws.updates_alone_change`.
-use Rattle.std.proofs.Common.{List, Option, Some, [], ap, arith, false, if◌then◌else◌, length, nat_lt, refl, slice_get, subst, suc, sym, true, zero, ℕ, ⊎_elim, ◌++◌, ◌∙◌, ◌∷◌, ◌≡◌, ◌⊎◌}
+use Rattle.std.proofs.Common.{List, Option, Some, [], ap, arith, length, refl, slice_get, subst, suc, sym, zero, ℕ, ⊎_elim, ◌++◌, ◌∙◌, ◌∷◌, ◌≡◌, ◌⊎◌}
 use Rattle.ist_core.specs.declared.states.InnerRow.{InnerRow}
 use Rattle.ist_core.specs.declared.states.LeafRow.{LeafRow}
 use Rattle.ist_core.specs.TreeTerms.{pair_over, pair_row, HasLeaves, PlacedLeaf, SlotsHaveLeaves, leaf_here, no_slot, none_here, one_slot, row_here}
@@ -70,9 +70,7 @@ pub slot_some : (ps : Pieces) (words : List ℕ) (leaves : List PlacedLeaf)
     → SlotsHaveLeaves ps words leaves
     → (i word : ℕ) → slice_get words i ≡ Some word → HasSome ps (logical ps word)
 slot_some ps _ _ no_slot i word e = absurd (cc)
-slot_some ps _ _ (one_slot {word = w} {here = here} first more) zero word e =
-    let same : w ≡ word = cc in
-    subst (λ x. HasSome ps (logical ps x)) same record { leaves = here; reached = first }
+slot_some ps _ _ (one_slot {word = w} {here = here} first more) zero word e = grind arith
 slot_some ps _ _ (one_slot {words = words} {rest = rest} first more) (suc i) word e =
     slot_some ps words rest more i word e
 
@@ -130,11 +128,7 @@ pub pair_some : (ps : Pieces) (base key leaf other_key other : ℕ) (l r : LeafR
     → ps base ≡ Some (pair_row key leaf other_key other)
     → IsGoodBase leaf → IsGoodBase other → ps leaf ≡ Some (Leaf l) → ps other ≡ Some (Leaf r)
     → HasSome ps (Some (InnerAt base))
-pair_some ps base key leaf other_key other l r =
-    elim (nat_lt other_key key) as (λ v. ps base ≡ Some (if v then pair_over key other leaf else pair_over other_key leaf other) → IsGoodBase leaf → IsGoodBase other → ps leaf ≡ Some (Leaf l) → ps other ≡ Some (Leaf r) → HasSome ps (Some (InnerAt base))) [
-      | true ↦ λ e one two a b. over_some ps base key other leaf r l e two one b a
-      | false ↦ λ e one two a b. over_some ps base other_key leaf other l r e one two a b
-    ]
+pair_some ps base key leaf other_key other l r = grind (arith, over_some)
 
 -- a reference that has leaves isn't a rebuild
 pub plain_to : (ps : Pieces) (ref : Ref) → HasSome ps (Some ref)
@@ -153,10 +147,4 @@ plain_to ps (ChangeAt base) h = refl
 pub row_slot : (ps : Pieces) (base : ℕ) (r : InnerRow) → ps base ≡ Some (Inner r)
     → HasSome ps (Some (InnerAt base))
     → (i word : ℕ) → slice_get r.slots i ≡ Some word → HasSome ps (logical ps word)
-row_slot ps base r e h i word at = by_leaves base h.leaves h.reached e
-  where
-    by_leaves : (base : ℕ) (leaves : List PlacedLeaf) → HasLeaves ps (Some (InnerAt base)) leaves
-        → ps base ≡ Some (Inner r) → HasSome ps (logical ps word)
-    by_leaves _ leaves (row_here {base = base} s f under) e =
-        let same = same_inner (ps base) s r f e in slot_some ps s.slots leaves under i word
-        (subst (λ x. slice_get x.slots i ≡ Some word) (sym same) at)
+row_slot ps base r e h i word at = grind (arith, same_inner, slot_some)

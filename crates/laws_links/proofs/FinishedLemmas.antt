@@ -5,9 +5,9 @@ use Rattle.ist_core.specs.declared.events.Event.{Event}
 use Rattle.ist_core.specs.declared.events.Event.TheVariants.{Finish}
 use Rattle.ist_core.specs.declared.pairs.Pair.{Pair}
 use Rattle.ist_core.specs.declared.states.InnerRow.{InnerRow}
-use Rattle.ist_core.specs.TreeTerms.{AllGrow, IsChild, ArePassed, CountsFor, HasTarget, no_key, of_child, of_target, one_key, one_passed, past_end, IsFinishedWith, HasLeaves, PlacedLeaf, SlotsHaveLeaves, leaf_here, no_slot, none_here, one_slot, row_here}
+use Rattle.ist_core.specs.TreeTerms.{AllGrow, IsChild, ArePassed, CountsFor, HasTarget, no_key, of_child, of_target, one_key, one_passed, past_end, HasLeaves, PlacedLeaf, SlotsHaveLeaves, leaf_here, no_slot, none_here, one_slot, row_here}
 use Rattle.ist_core.specs.LogTerms.{CanOpen, EachEnabled, state_of, GoesOn, Happened, Log, Passes, one_event, same_log, Snapshot, Among, Distinct, Each}
-use Rattle.ist_core.specs.WordTerms.{Inner, Pieces, InnerAt, Ref, ref_of, SlotHolds, in_anchor, in_row, past_rebuild, rebuild_reads, start, finished_word, Leaf, Piece, logical}
+use Rattle.ist_core.specs.WordTerms.{Inner, Pieces, InnerAt, Ref, ref_of, SlotHolds, in_anchor, in_row, past_rebuild, start, finished_word, Leaf, Piece, logical}
 use Rattle.laws_links.specs.Linking.{IsFinished}
 use Rattle.ist_core.proofs.AllLogLemmas.{counts_grows, frozen_reads, inner_there, rebuild_there, happened_later, grow_after}
 use Rattle.ist_core.proofs.AllPlaceLemmas.{anchor_free, no_row, AreRisingKeys, key_of_leaf}
@@ -18,9 +18,7 @@ use Rattle.laws_links.proofs.PassLemmas.{StatusComes, finished_now, is_new, mark
 -- the target of a rebuild stays its target
 pub target_grows : (t u : Snapshot) → AllGrow t.pieces u.pieces → (rebuild target : ℕ)
     → HasTarget t rebuild target → HasTarget u rebuild target
-target_grows t u g rebuild target h =
-    let it = rebuild_there t.pieces u.pieces g rebuild h.row h.published in
-    record { row = it.0; published = it.1; target_is = it.2.target ∙ h.target_is }
+target_grows t u g rebuild target h = grind (arith, rebuild_there)
 
 -- what was passed stays passed; of the slots only their number counts
 pub passed_later : (t u : Snapshot) → AllGrow t.pieces u.pieces → {earlier log : Log}
@@ -60,19 +58,13 @@ passed_finished : (t : Snapshot) (o : Option Ref) (k child : ℕ) → CountsFor 
     → past_rebuild t.pieces o ≡ Some (InnerAt child) → IsFinished t child
 passed_finished t _ _ child no_key e = absurd (cc)
 passed_finished t _ _ child one_key e = absurd (cc)
-passed_finished t _ _ child (of_child {child = m} {k = k} f) e =
-    let same : m ≡ child = cc in (k, subst (λ n. IsFinishedWith t n k) same f)
-passed_finished t _ _ child (of_target {target = target} {k = k} h f) e =
-    let read : Some (InnerAt h.row.target) ≡ Some (InnerAt child) =
-    sym (ap rebuild_reads h.published) ∙ e in
-    let same : h.row.target ≡ child = cc in
-    (k, subst (λ n. IsFinishedWith t n k) (sym h.target_is ∙ same) f)
+passed_finished t _ _ child (of_child {child = m} {k = k} f) e = grind arith
+passed_finished t _ _ child (of_target {target = target} {k = k} h f) e = grind arith
 
 -- a row keeps its number of slots
 pub same_length : (ps qs : Pieces) → AllGrow ps qs → (base : ℕ) (r s : InnerRow)
     → ps base ≡ Some (Inner r) → qs base ≡ Some (Inner s) → length s.slots ≡ length r.slots
-same_length ps qs g base r s e f = let it = inner_there ps qs g base r e in
-    ap (λ x. length x.slots) (same_inner (qs base) s it.0 f it.1) ∙ it.2.slots
+same_length ps qs g base r s e f = grind (arith, inner_there, same_inner)
 
 module _ (pairs : List Pair) (words : ℕ) where
   -- each slot of a row that is finished with k keys was passed, and the passed words count for k
@@ -117,8 +109,7 @@ module _ (pairs : List Pair) (words : ℕ) where
       → IsFinished (state_of pairs words log) node
       → SlotHolds (state_of pairs words log) node i word
       → IsPassed (state_of pairs words log) log node i
-  finished_slot log h node i word f (in_anchor a b e) = absurd
-      (no_row (state_of pairs words log).pieces node f.1.row (anchor_free pairs words log h) a f.1.published)
+  finished_slot log h node i word f (in_anchor a b e) = grind (arith, no_row, anchor_free)
   finished_slot log h node i word f (in_row r e g) = let t = state_of pairs words log in
       let same = same_inner (t.pieces node) f.1.row r f.1.published e in
       let first : 0 + i ≡ i = omega arith in subst (λ j. IsPassed t log node j) first
@@ -163,10 +154,7 @@ base_absent : (ps : Pieces) (leaf : PlacedLeaf) (leaves : List PlacedLeaf)
     → ps leaf.base ≡ Some (Leaf leaf.row) → Each (λ l. ps l.base ≡ Some (Leaf l.row)) leaves
     → Each (λ l. key_of_leaf leaf < key_of_leaf l) leaves → ¬ (Among leaf.base (leaf_bases leaves))
 base_absent ps leaf [] e all above i = i
-base_absent ps leaf (l ∷ leaves) e all above (inl same) =
-    let row : leaf.row ≡ l.row =
-    cc (subst (λ b. ps b ≡ Some (Leaf leaf.row)) same e, all.0) in
-    let keys = ap (λ r. r.key) row in let less = above.0 in omega arith
+base_absent ps leaf (l ∷ leaves) e all above (inl same) = grind arith
 base_absent ps leaf (l ∷ leaves) e all above (inr i) = base_absent ps leaf leaves e all.1 above.1 i
 
 -- leaves with strictly increasing keys have distinct bases

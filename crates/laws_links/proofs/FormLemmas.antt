@@ -25,8 +25,7 @@ finished_grows t u g node h = (h.0, finished_with_grows t u g node h.0 h.1)
 -- a leaf of a key stays one as rows grow
 pub leaf_of_grows : (t u : Snapshot) → AllGrow t.pieces u.pieces → (base key : ℕ)
     → IsLeafOf t base key → IsLeafOf u base key
-leaf_of_grows t u g base key h =
-    record { row = h.row; published = leaf_there t.pieces u.pieces g base h.row h.published; key_is = h.key_is }
+leaf_of_grows t u g base key h = grind (arith, leaf_there)
 
 -- a word that has room for a key keeps it as rows grow
 pub room_grows : (t u : Snapshot) → AllGrow t.pieces u.pieces → (key word : ℕ)
@@ -37,30 +36,12 @@ room_grows t u g key word (same_key leaf e h) = same_key leaf e (leaf_of_grows t
 -- a started rebuild stays started as rows grow
 pub started_grows : (t u : Snapshot) → AllGrow t.pieces u.pieces → (rebuild : ℕ)
     → IsStarted t rebuild → IsStarted u rebuild
-started_grows t u g rebuild h =
-    let it = change_there t.pieces u.pieces g h.base h.change h.published in
-    let same = it.2.others in let yes = h.decision in record {
-      base = h.base;
-      change = it.0;
-      published = it.1;
-      kind = ap (λ c. c.kind) same ∙ h.kind;
-      decision = it.2.decided (λ none. omega arith) ∙ h.decision;
-      to = ap (λ c. ref_of c.to) same ∙ h.to;
-    }
+started_grows t u g rebuild h = grind (arith, change_there)
 
 -- a replaced rebuild stays replaced as rows grow
 pub replaced_grows : (t u : Snapshot) → AllGrow t.pieces u.pieces → (rebuild : ℕ)
     → IsReplaced t rebuild → IsReplaced u rebuild
-replaced_grows t u g rebuild h =
-    let it = change_there t.pieces u.pieces g h.base h.change h.published in
-    let same = it.2.others in let yes = h.decision in record {
-      base = h.base;
-      change = it.0;
-      published = it.1;
-      kind = ap (λ c. c.kind) same ∙ h.kind;
-      decision = it.2.decided (λ none. omega arith) ∙ h.decision;
-      from = ap (λ c. ref_of c.from) same ∙ h.from;
-    }
+replaced_grows t u g rebuild h = grind (arith, change_there)
 
 -- ---- the forms
 
@@ -162,8 +143,7 @@ formed_grows t u g change (of_pair_put h) =
       grew =
           grows_on (pair_row change.key h.leaf h.other_key h.other) (Inner h.row) (Inner it.0) h.grew (inner_grows it.2);
     }
-formed_grows t u g change (of_remove h) = of_remove
-    record { kind = h.kind; leaf = h.leaf; from = h.from; stands = leaf_of_grows t u g h.leaf change.key h.stands; to = h.to }
+formed_grows t u g change (of_remove h) = grind (arith, leaf_of_grows)
 formed_grows t u g change (of_start h) =
     let it = rebuild_there t.pieces u.pieces g h.rebuild h.row h.published in of_start record {
       kind = h.kind;
@@ -197,36 +177,7 @@ pub formed_decided : (t : Snapshot) (change : ChangeRow) (word : ℕ) → IsForm
     → IsFormed t record change { decision = word }
 formed_decided t change word (of_leaf_put h) =
     of_leaf_put record { kind = h.kind; from = h.from; leaf = h.leaf; to = h.to; new = h.new }
-formed_decided t change word (of_pair_put h) = of_pair_put record {
-  kind = h.kind;
-  other = h.other;
-  other_key = h.other_key;
-  from = h.from;
-  stands = h.stands;
-  differs = h.differs;
-  leaf = h.leaf;
-  new = h.new;
-  pair = h.pair;
-  to = h.to;
-  above = h.above;
-  row = h.row;
-  published = h.published;
-  grew = h.grew;
-}
-formed_decided t change word (of_remove h) =
-    of_remove record { kind = h.kind; leaf = h.leaf; from = h.from; stands = h.stands; to = h.to }
-formed_decided t change word (of_start h) = of_start
-    record { kind = h.kind; rebuild = h.rebuild; row = h.row; from = h.from; to = h.to; published = h.published; parent = h.parent; index = h.index }
-formed_decided t change word (of_finish h) = of_finish record {
-  kind = h.kind;
-  rebuild = h.rebuild;
-  row = h.row;
-  from = h.from;
-  published = h.published;
-  to = h.to;
-  set = h.set;
-  parent = h.parent;
-  index = h.index;
-  started = h.started;
-  finished = h.finished;
-}
+formed_decided t change word (of_pair_put h) = grind arith
+formed_decided t change word (of_remove h) = grind arith
+formed_decided t change word (of_start h) = grind arith
+formed_decided t change word (of_finish h) = grind arith

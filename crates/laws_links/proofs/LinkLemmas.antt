@@ -1,6 +1,6 @@
 -- Rows that were linked are linked or finished; at a yes the change's node is linked. Serves `laws.linked_rows_stay` and what
 -- follows from it.
-use Rattle.std.proofs.Common.{Bool, List, Some, [], ap, arith, inl, inr, subst, sym, true, ℕ, ⊎_elim, ◌*◌, ◌+◌, ◌∙◌, ◌∷◌, ◌≡◌, ◌≢◌, ◌⊎◌}
+use Rattle.std.proofs.Common.{Bool, List, Some, [], ap, arith, inl, inr, subst, sym, true, ℕ, ⊎_elim, ◌∙◌, ◌∷◌, ◌≡◌, ◌≢◌, ◌⊎◌}
 use Rattle.ist_core.specs.declared.events.Event.{Event}
 use Rattle.ist_core.specs.declared.events.Event.TheVariants.{Decide}
 use Rattle.ist_core.specs.declared.pairs.Pair.{Pair}
@@ -49,12 +49,8 @@ module _ (pairs : List Pair) (words : ℕ) (opens : CanOpen pairs words) where
   -- an open row isn't finished
   pub open_unfinished : (log : Log) → EachEnabled (start pairs words) log → (node : ℕ)
       → IsOpen (state_of pairs words log) node → IsFinished (state_of pairs words log) node → ⊥
-  open_unfinished log h node (anchor_is a) f = no_row (state_of pairs words log).pieces node f.1.row
-      (anchor_free pairs words log h) a f.1.published
-  open_unfinished log h node (row_is r e o) f =
-      let same = same_inner ((state_of pairs words log).pieces node) f.1.row r f.1.published e in
-      let odd : f.1.row.status ≡ 4 * f.0 + 3 = f.1.status in
-      let zero_status : f.1.row.status ≡ 0 = ap (λ x. x.status) same ∙ o in omega arith
+  open_unfinished log h node (anchor_is a) f = grind (arith, no_row, anchor_free)
+  open_unfinished log h node (row_is r e o) f = grind (arith, same_inner)
 
   -- a row that was linked and is open is linked
   pub open_linked : (log : Log) → EachEnabled (start pairs words) log → (node : ℕ)
@@ -100,8 +96,7 @@ module _ (pairs : List Pair) (words : ℕ) (opens : CanOpen pairs words) where
       → (state_of pairs words log).pieces base ≡ Some (Change x) → x.decision ≡ undecided
       → Happened (Okays base) log → Linked (state_of pairs words log) x.node
   okayed_linked log h base x e none okay =
-      ⊎_elim (λ l. l) (λ f. absurd (okayed_unfinished log h base x e none okay f))
-      (linked_or_finished log h x.node (node_was_linked pairs words opens log h base x e))
+      grind (arith, okayed_unfinished, linked_or_finished, node_was_linked)
 
   -- ---- a yes
 
@@ -110,17 +105,14 @@ module _ (pairs : List Pair) (words : ℕ) (opens : CanOpen pairs words) where
       → EachEnabled (start pairs words) (Decide caller base said ∷ log)
       → (x : ChangeRow) → (state_of pairs words log).pieces base ≡ Some (Change x)
       → x.decision ≡ undecided
-  deciding log caller base said h x e = ap (λ c. c.decision)
-      (sym (same_change ((state_of pairs words log).pieces base) h.1.change x h.1.pending.published e))
-      ∙ h.1.pending.unset
+  deciding log caller base said h x e = grind (arith, same_change)
 
   -- at a yes the node of the change is linked
   pub yes_linked : (log : Log) (caller base : ℕ)
       → EachEnabled (start pairs words) (Decide caller base true ∷ log)
       → (x : ChangeRow) → (state_of pairs words log).pieces base ≡ Some (Change x)
       → Linked (state_of pairs words log) x.node
-  yes_linked log caller base h x e =
-      okayed_linked log h.0 base x e (deciding log caller base true h x e) h.1.outcome
+  yes_linked log caller base h x e = grind (arith, okayed_linked, deciding)
 
   -- the node is also linked after the Decide
   pub yes_linked_after : (log : Log) (caller base : ℕ)
@@ -138,9 +130,7 @@ module _ (pairs : List Pair) (words : ℕ) (opens : CanOpen pairs words) where
       → IsFinished (state_of pairs words earlier) x.node
       → (y : ChangeRow) → (state_of pairs words log).pieces base ≡ Some (Change y)
       → (y.decision ≢ decided_yes) × IsFinished (state_of pairs words log) y.node
-  refused_on earlier _ same_log h base x e none f y there =
-      let same = same_change ((state_of pairs words earlier).pieces base) x y e there in
-      (λ said. let zero_word : y.decision ≡ 0 = ap (λ c. c.decision) (sym same) ∙ none in absurd (omega arith), subst (λ c. IsFinished (state_of pairs words earlier) c.node) same f)
+  refused_on earlier _ same_log h base x e none f y there = grind (arith, same_change)
   refused_on earlier _ (one_event {log = log} event on) h base x e none f y there =
       at event h (change_comes pairs words log event h base y there)
       (refused_on earlier log on h.0 base x e none f)
@@ -171,6 +161,4 @@ module _ (pairs : List Pair) (words : ℕ) (opens : CanOpen pairs words) where
       → (y : ChangeRow) → (state_of pairs words log).pieces base ≡ Some (Change y)
       → y.decision ≢ decided_yes
   unlinked_refused earlier log on h base x e none unlinked y there =
-      let before = enabled_before (start pairs words) earlier log on h in
-      let f : IsFinished (state_of pairs words earlier) x.node = ⊎_elim (λ l. absurd (unlinked l)) (λ k. k) (linked_or_finished earlier before x.node (node_was_linked pairs words opens earlier before base x e)) in
-      (refused_on earlier log on h base x e none f y there).0
+      grind (arith, enabled_before, linked_or_finished, node_was_linked, refused_on)

@@ -1,6 +1,6 @@
 -- New trees, whole or with parts that aren't built yet: they stay if their rows stay. Serves the
 -- replacement law.
-use Rattle.std.proofs.Common.{List, Some, [], ap, inl, inr, length, refl, replicate, slice_get, slice_set, subst, suc, zero, ℕ, ◌++◌, ◌∙◌, ◌∷◌, ◌≡◌, ◌≢◌}
+use Rattle.std.proofs.Common.{List, Some, [], ap, inl, inr, length, refl, replicate, slice_get, slice_set, subst, suc, zero, ℕ, ◌++◌, ◌∙◌, ◌∷◌, ◌≡◌, ◌≢◌, arith}
 use Rattle.ist_core.specs.declared.states.InnerRow.{InnerRow}
 use Rattle.ist_core.specs.declared.states.LeafRow.{LeafRow}
 use Rattle.ist_core.specs.LogTerms.{Among, Each}
@@ -21,16 +21,7 @@ pub record StandInOther (ps qs : Pieces) (rows : List ℕ) : Type 0 where
 -- the top of a tree stays one if its row stays
 pub top_kept : (ps qs : Pieces) (base : ℕ) (r : InnerRow) (leaves : List PlacedLeaf) (above : ℕ)
     → IsTop ps base r leaves above → qs base ≡ Some (Inner r) → IsTop qs base r leaves above
-top_kept ps qs base r leaves above h e = record {
-  published = e;
-  two = h.two;
-  higher = h.higher;
-  status = h.status;
-  count = h.count;
-  degree = h.degree;
-  size = h.size;
-  keys = h.keys;
-}
+top_kept ps qs base r leaves above h e = grind arith
 
 mutual
   -- an ideal subtree stays one if its rows stay
@@ -70,8 +61,7 @@ parts_set : (ps : Pieces) (words : List ℕ) (following : List (List PlacedLeaf)
 parts_set ps _ _ _ _ no_part i e = absurd (cc)
 parts_set ps _ _ above _
     (one_part {word = word} {here = here} {part = part} ref is first more) zero e =
-    let named : word ≡ unset_word = cc in
-    ideal_set ps ref part above here first (cc (ap ref_of named ∙ ref_of-unset))
+    grind (arith, ideal_set, ref_of-unset)
 parts_set ps _ _ above _
     (one_part {words = words} {rest = rest} {following = following} ref is first more) (suc i) e =
     parts_set ps words following above rest more i e

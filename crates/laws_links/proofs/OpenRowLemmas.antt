@@ -1,6 +1,6 @@
 -- If each started rebuild was replaced, or hangs in a row that isn't open, each linked row is open.
 -- Serves `laws.rows_are_open_at_rest`.
-use Rattle.std.proofs.Common.{List, Some, ap, arith, false, inl, inr, refl, subst, suc, sym, true, zero, ℕ, ⊎_elim, ◌<◌, ◌==◌, ◌∙◌, ◌≡◌, ◌≢◌, ◌⊎◌}
+use Rattle.std.proofs.Common.{List, Some, ap, arith, false, inl, inr, subst, suc, sym, true, zero, ℕ, ⊎_elim, ◌<◌, ◌==◌, ◌∙◌, ◌≡◌, ◌≢◌, ◌⊎◌}
 use Rattle.std.proofs.lemmas.Bool.Decides.{eqb_tells}
 use Rattle.ist_core.specs.declared.pairs.Pair.{Pair}
 use Rattle.ist_core.specs.declared.states.InnerRow.{InnerRow}
@@ -66,8 +66,7 @@ module _ (pairs : List Pair) (words : ℕ) (opens : CanOpen pairs words) where
       → (r : InnerRow) → (state_of pairs words log).pieces node ≡ Some (Inner r)
       → r.status ≢ open_word → ⊥
   none_closed log h done zero node low l r e shut = omega arith
-  none_closed log h done (suc fuel) _ low at_anchor r e shut =
-      not_the_anchor pairs words opens log h anchor r e refl
+  none_closed log h done (suc fuel) _ low at_anchor r e shut = grind (arith, not_the_anchor)
   none_closed log h done (suc fuel) _ low (below {node = node} {child = child} i l c) r e shut =
       let t = state_of pairs words log in let o = names pairs words opens log h in
       let higher = child_above t node i child o c in

@@ -1,5 +1,5 @@
 -- While a put of a pair row is undecided, the pair row was never linked, and is as it was filled. Serves the changes law.
-use Rattle.std.proofs.Common.{List, None, Some, [], ap, arith, false, if◌then◌else◌, inl, inr, length, nat_lt, refl, slice_get, subst, suc, sym, true, zero, ℕ, ⊎_elim, ◌*◌, ◌+◌, ◌∙◌, ◌∷◌, ◌≡◌, ◌≢◌}
+use Rattle.std.proofs.Common.{List, None, Some, ap, arith, inl, inr, length, refl, slice_get, subst, sym, ℕ, ⊎_elim, ◌*◌, ◌+◌, ◌∙◌, ◌∷◌, ◌≡◌, ◌≢◌}
 use Rattle.ist_core.specs.declared.events.Event.{Event}
 use Rattle.ist_core.specs.declared.events.Event.TheVariants.{Install}
 use Rattle.ist_core.specs.declared.lists.Row.{Row}
@@ -67,22 +67,11 @@ leaf_set base e = let seven : base * 8 + 1 ≡ 7 = e in omega arith
 -- no slot of a pair row is left to be set
 over_set : (key left right i : ℕ) (r : InnerRow) → pair_over key left right ≡ Inner r
     → slice_get r.slots i ≢ Some unset_word
-over_set key left right i r e k =
-    at i (subst (λ x. slice_get x.slots i ≡ Some unset_word) (sym (inner_row _ r e)) k)
-  where
-    at : (i : ℕ)
-        → slice_get (word_of (LeafAt left) ∷ word_of (LeafAt right) ∷ []) i ≡ Some unset_word → ⊥
-    at zero q = leaf_set left (cc)
-    at (suc zero) q = leaf_set right (cc)
-    at (suc (suc i)) q = absurd (cc)
+over_set key left right i r e k = grind (arith, inner_row, leaf_set)
 
 pair_set : (key base other_key other i : ℕ) (r : InnerRow)
     → pair_row key base other_key other ≡ Inner r → slice_get r.slots i ≢ Some unset_word
-pair_set key base other_key other i r =
-    elim (nat_lt other_key key) as (λ v. (if v then pair_over key other base else pair_over other_key base other) ≡ Inner r → slice_get r.slots i ≢ Some unset_word) [
-      | true ↦ λ e. over_set key other base i r e
-      | false ↦ λ e. over_set other_key base other i r e
-    ]
+pair_set key base other_key other i r = grind (arith, over_set)
 
 module _ (pairs : List Pair) (words : ℕ) (opens : CanOpen pairs words) where
   -- if its change is still undecided after an event, a filled pair row isn't linked by it and stays

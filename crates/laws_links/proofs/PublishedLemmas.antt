@@ -1,5 +1,5 @@
 -- What the rows are that an event publishes. Serves each conjunct on changes, rebuilds and statuses.
-use Rattle.std.proofs.Common.{List, Some, [], ap, drop, false, if◌then◌else◌, inl, inr, nat_lt, subst, sym, take, true, ℕ, ⊎_elim, ◌-◌, ◌∷◌, ◌≡◌, ◌⊎◌}
+use Rattle.std.proofs.Common.{List, Some, [], inl, inr, ℕ, ◌-◌, ◌∷◌, ◌≡◌, ◌⊎◌, arith}
 use Rattle.ist_core.specs.declared.events.Event.{Event}
 use Rattle.ist_core.specs.declared.lists.Row.{Row}
 use Rattle.ist_core.specs.declared.states.ChangeRow.{ChangeRow}
@@ -7,7 +7,7 @@ use Rattle.ist_core.specs.declared.states.InnerRow.{InnerRow}
 use Rattle.ist_core.specs.declared.states.RebuildRow.{RebuildRow}
 use Rattle.ist_core.specs.LogTerms.{Among, Each, Enabled, Log, state, Snapshot, bases_of}
 use Rattle.ist_core.specs.WordTerms.{IsTop, Change, Inner, Piece, Pieces, Rebuild, inner_of, with_inners, unset_word, open_word}
-use Rattle.ist_core.specs.TreeTerms.{FitsKind, Starts, a_finish, a_pair, a_put, a_remove, a_start, new_rebuild, pair_over, pair_row, PlacedLeaf}
+use Rattle.ist_core.specs.TreeTerms.{FitsKind, Starts, a_finish, a_pair, a_put, a_remove, a_start, new_rebuild, pair_row, PlacedLeaf}
 use Rattle.ist_core.proofs.AllEventLemmas.{IsInstalledWith, Born, by_install, by_place, by_root}
 use Rattle.ist_core.proofs.AllWordLemmas.{each-among, with_inners-some, same_inner}
 use Rattle.laws_links.proofs.PassLemmas.{inner_is}
@@ -20,41 +20,26 @@ inner_only [] p e = absurd (cc)
 inner_only (a ∷ []) p e = absurd (cc)
 inner_only (a ∷ b ∷ []) p e = absurd (cc)
 inner_only (a ∷ b ∷ c ∷ []) p e = absurd (cc)
-inner_only (a ∷ b ∷ c ∷ d ∷ rest) p e =
-    let r : InnerRow = record { status = a; count = b; degree = c; size = d; keys = take (c - 1) rest; slots = drop (c - 1) rest } in
-    (r, (cc))
+inner_only (a ∷ b ∷ c ∷ d ∷ rest) p e = grind arith
 
 -- if inner rows are published, each other row was there before
 pub published_inner : (ps : Pieces) (rows : List Row) (base : ℕ) (p : Piece)
     → with_inners ps rows base ≡ Some p → ((r : InnerRow) × (p ≡ Inner r)) ⊎ (ps base ≡ Some p)
-published_inner ps rows base p e = ⊎_elim (λ w. inl (inner_only w.0.words p w.3)) (λ old. inr old)
-    (with_inners-some ps rows base p e)
+published_inner ps rows base p e = grind (arith, inner_only, with_inners-some)
 
 -- a pair row is open
 pair_open : (key base other_key other : ℕ) (x : InnerRow)
     → Inner x ≡ pair_row key base other_key other → x.status ≡ open_word
-pair_open key base other_key other x =
-    elim (nat_lt other_key key) as (λ v. Inner x ≡ (if v then pair_over key other base else pair_over other_key base other) → x.status ≡ open_word) [
-      | true ↦ λ e. ap (λ y. y.status) (inner_is _ x (sym e))
-      | false ↦ λ e. ap (λ y. y.status) (inner_is _ x (sym e))
-    ]
+pair_open key base other_key other x = grind (arith, inner_is)
 
 -- a pair row is no change and no rebuild
 pair_no_change : (key base other_key other : ℕ) (x : ChangeRow)
     → Change x ≡ pair_row key base other_key other → ⊥
-pair_no_change key base other_key other x =
-    elim (nat_lt other_key key) as (λ v. Change x ≡ (if v then pair_over key other base else pair_over other_key base other) → ⊥) [
-      | true ↦ λ e. absurd (cc)
-      | false ↦ λ e. absurd (cc)
-    ]
+pair_no_change key base other_key other x = grind arith
 
 pair_no_rebuild : (key base other_key other : ℕ) (x : RebuildRow)
     → Rebuild x ≡ pair_row key base other_key other → ⊥
-pair_no_rebuild key base other_key other x =
-    elim (nat_lt other_key key) as (λ v. Rebuild x ≡ (if v then pair_over key other base else pair_over other_key base other) → ⊥) [
-      | true ↦ λ e. absurd (cc)
-      | false ↦ λ e. absurd (cc)
-    ]
+pair_no_rebuild key base other_key other x = grind arith
 
 -- a change that an Install publishes is its own
 pub installed_change : (first : Snapshot) (log : Log) (at : ℕ) (change : ChangeRow)
@@ -112,15 +97,12 @@ new_rebuild_row change target =
 pub top_among : (ps : Pieces) (rows : List ℕ) (base : ℕ) (x : InnerRow) → Each (StandsAsTop ps) rows
     → Among base rows → ps base ≡ Some (Inner x)
     → (leaves : List PlacedLeaf) × (above : ℕ) × IsTop ps base x leaves above
-top_among ps rows base x all i e = let it = each-among (StandsAsTop ps) base rows all i in
-    let same : it.row ≡ x = same_inner (ps base) it.row x it.top.published e in
-    (it.leaves, it.above, subst (λ y. IsTop ps base y it.leaves it.above) same it.top)
+top_among ps rows base x all i e = grind (arith, each-among, StandsAsTop, same_inner)
 
 -- each inner row that an event publishes is open
 pub born_open : (first : Snapshot) (log : Log) (event : Event) (base : ℕ) (x : InnerRow)
     → Enabled first log event → Born first log base (Inner x) event → x.status ≡ open_word
-born_open first log _ base x can (by_install {change = at} h new) =
-    installed_open first log at h.change h.fresh h.fits base x new
+born_open first log _ base x can (by_install {change = at} h new) = grind (arith, installed_open)
 born_open first log _ base x can (by_root {word = word} {rows = rows} i e) =
     let qs = with_inners (state first log).pieces rows in
     (top_among qs (bases_of rows) base x (root_tops qs word can.k can.leaves can.row.target (bases_of rows) can.root) i e).2.status

@@ -1,5 +1,5 @@
 -- What each kind of event makes of what a slot reads as. Serves the linked law and the replacement law.
-use Rattle.std.proofs.Common.{Bool, List, None, Option, Some, ap, false, inl, inr, option_map, refl, subst, sym, true, ℕ, ⊎_elim, ◌∙◌, ◌∷◌, ◌≡◌, ◌≢◌, ◌⊎◌}
+use Rattle.std.proofs.Common.{Bool, List, None, Option, Some, ap, false, inl, inr, option_map, refl, subst, sym, true, ℕ, ⊎_elim, ◌∙◌, ◌∷◌, ◌≡◌, ◌≢◌, ◌⊎◌, arith}
 use Rattle.std.proofs.lemmas.Bool.Decides.{eqb_tells}
 use Rattle.ist_core.specs.declared.events.Event.{Event}
 use Rattle.ist_core.specs.declared.events.Event.TheVariants.{Decide, Install, Place, Resolve}
@@ -27,8 +27,7 @@ module _ (pairs : List Pair) (words : ℕ) (opens : CanOpen pairs words) where
   pub change_past : (log : Log) → EachEnabled (start pairs words) log → (base : ℕ) (x : ChangeRow)
       → (state_of pairs words log).pieces base ≡ Some (Change x)
       → past_change (state_of pairs words log).pieces (ref_of (word_of (ChangeAt base))) ≡ ref_of (side_of x)
-  change_past log h base x e = ap (past_change (state_of pairs words log).pieces)
-      (change_read pairs words opens log h base x e) ∙ ap change_reads e
+  change_past log h base x e = grind (arith, change_read)
 
   -- an event that writes no slot and decides nothing
   pub reads_quiet : (log : Log) (event : Event) → EachEnabled (start pairs words) (event ∷ log)

@@ -8,9 +8,9 @@ use Rattle.ist_core.specs.declared.lists.Row.{Row}
 use Rattle.ist_core.specs.declared.states.ChangeRow.{ChangeRow}
 use Rattle.ist_core.specs.declared.pairs.Pair.{Pair}
 use Rattle.ist_core.specs.declared.states.InnerRow.{InnerRow}
-use Rattle.ist_core.specs.LogTerms.{side_of, Log, state, Snapshot, decision_word, state_of, Each}
+use Rattle.ist_core.specs.LogTerms.{side_of, Log, state, Snapshot, state_of, Each}
 use Rattle.ist_core.specs.TreeTerms.{CanPlace, CanDecide, HasLeaves, PlacedLeaf, SlotsHaveLeaves, leaf_here, no_slot, none_here, one_slot, row_here, IsRoot}
-use Rattle.ist_core.specs.WordTerms.{Change, Inner, Leaf, Piece, Pieces, Rebuild, ChangeAt, Empty, InnerAt, LeafAt, RebuildAt, Ref, Unset, ref_of, anchor, SlotHolds, change_reads, past_change, decided_yes, undecided, part_lens, AreIdeal, IsIdeal, no_part, of_more, of_none, of_one, one_part, cut, parts, with_decision, past_rebuild, IsTop}
+use Rattle.ist_core.specs.WordTerms.{Change, Inner, Leaf, Piece, Pieces, Rebuild, ChangeAt, Empty, InnerAt, LeafAt, RebuildAt, Ref, Unset, ref_of, anchor, SlotHolds, change_reads, past_change, decided_yes, undecided, part_lens, AreIdeal, IsIdeal, no_part, of_more, of_none, of_one, one_part, cut, parts, past_rebuild, IsTop}
 use Rattle.ist_core.proofs.AllLogLemmas.{side_not_yes}
 use Rattle.ist_core.proofs.AllPlaceLemmas.{SideNames, SlotNames, slot_once, changed_at-fixed, ideal_rows, root_rows}
 use Rattle.std.proofs.lemmas.List.{take-append-drop}
@@ -54,9 +54,7 @@ pub past_same : (ps qs : Pieces) (o : Option Ref) (ref : Ref)
     → ((base : ℕ) (x : ChangeRow) → o ≡ Some (ChangeAt base) → ps base ≡ Some (Change x)
     → (y : ChangeRow) × (qs base ≡ Some (Change y)) × (side_of y ≡ side_of x))
     → past_change ps o ≡ Some ref → past_change qs o ≡ Some ref
-past_same ps qs (Some (ChangeAt base)) ref same e = let x = change_there_by (ps base) ref e in
-    let y = same base x.0 refl x.1 in
-    ap change_reads y.1 ∙ ap ref_of y.2 ∙ sym (ap change_reads x.1) ∙ e
+past_same ps qs (Some (ChangeAt base)) ref same e = grind (arith, change_there_by)
 past_same ps qs (Some Empty) ref same e = e
 past_same ps qs (Some Unset) ref same e = e
 past_same ps qs (Some (LeafAt base)) ref same e = e
@@ -67,11 +65,7 @@ past_same ps qs None ref same e = e
 -- a slot reads as one thing
 pub reads_once : (t : Snapshot) (node i : ℕ) (a b : Ref) → t.pieces anchor ≡ None
     → ReadsAs t node i a → ReadsAs t node i b → a ≡ b
-reads_once t node i a b free r s = one (past_change t.pieces (ref_of r.word)) r.reads
-    (ap (λ w. past_change t.pieces (ref_of w)) (slot_once t node i r.word s.word free r.holds s.holds) ∙ s.reads)
-  where
-    one : (o : Option Ref) → o ≡ Some a → o ≡ Some b → a ≡ b
-    one o x y = cc
+reads_once t node i a b free r s = grind (arith, slot_once)
 
 -- ---- sides
 
@@ -176,19 +170,13 @@ pub ideal_above : (ps : Pieces) (ref : Ref) (leaves : List PlacedLeaf) (above : 
     (base : ℕ) → IsIdeal ps ref leaves above rows → ref ≡ InnerAt base → above < base
 ideal_above ps _ _ _ _ base of_none e = absurd (cc)
 ideal_above ps _ _ _ _ base (of_one same k) e = absurd (cc)
-ideal_above ps _ _ above _ base (of_more {base = b} r top under) e =
-    let same : b ≡ base = cc in subst (λ n. above < n) same top.higher
+ideal_above ps _ _ above _ base (of_more {base = b} r top under) e = grind arith
 
 -- a Decide leaves leaves and inner rows as they are
 pub decided_stands : (pairs : List Pair) (words : ℕ) (log : Log) (caller base : ℕ) (said : Bool)
     (rows : List ℕ)
     → StandInOther (state_of pairs words log).pieces (state_of pairs words (Decide caller base said ∷ log)).pieces rows
-decided_stands pairs words log caller base said rows = let t = state_of pairs words log in record {
-  leaf =
-      λ b r e. changed_at-fixed t.pieces base b (with_decision (decision_word said)) (Leaf r) e refl;
-  inner =
-      λ b r i e. changed_at-fixed t.pieces base b (with_decision (decision_word said)) (Inner r) e refl;
-}
+decided_stands pairs words log caller base said rows = grind (arith, changed_at-fixed)
 
 -- ---- the rows of a tree that is published: each is the top of an ideal subtree, and so is as it was
 -- filled. Serves each law about new trees.
@@ -203,8 +191,7 @@ pub record StandsAsTop (ps : Pieces) (base : ℕ) : Type 0 where
 -- each row of an ideal subtree is the top of one
 pub ideal_tops : (ps : Pieces) (ref : Ref) (leaves : List PlacedLeaf) (above : ℕ) (rows : List ℕ)
     → IsIdeal ps ref leaves above rows → Each (StandsAsTop ps) rows
-ideal_tops ps = ideal_rows ps (StandsAsTop ps)
-    (λ base r leaves above top. record { row = r; leaves = leaves; above = above; top = top })
+ideal_tops ps = grind (arith, ideal_rows)
 
 -- each row of a root is the top of an ideal subtree
 pub root_tops : (ps : Pieces) (word k : ℕ) (leaves : List PlacedLeaf) (target : ℕ) (rows : List ℕ)

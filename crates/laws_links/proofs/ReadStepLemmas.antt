@@ -1,6 +1,6 @@
 -- What a slot reads as after an event, and what it read as before it. Serves the linked law, the
 -- replacement law and the rest law.
-use Rattle.std.proofs.Common.{List, None, Option, Some, inl, inr, refl, subst, sym, ℕ, ⊎_elim, ◌∷◌, ◌≡◌, ◌≢◌, ◌⊎◌, ap, true, ◌∙◌}
+use Rattle.std.proofs.Common.{List, None, Option, Some, inl, inr, refl, subst, sym, ℕ, ⊎_elim, ◌∷◌, ◌≡◌, ◌≢◌, ◌⊎◌, ap, true, ◌∙◌, arith}
 use Rattle.ist_core.specs.declared.events.Event.{Event}
 use Rattle.ist_core.specs.declared.events.Event.TheVariants.{Decide, Install, Place, Resolve}
 use Rattle.ist_core.specs.declared.pairs.Pair.{Pair}
@@ -13,7 +13,7 @@ use Rattle.ist_core.proofs.AllLogLemmas.{get_alike, grow_after, rebuild_there}
 use Rattle.laws_links.proofs.FinishedLemmas.{same_length}
 use Rattle.laws_links.proofs.ReadEventLemmas.{ReadsAfter, reads_decide, reads_install, reads_place, reads_quiet, reads_resolve, decide_reads}
 use Rattle.laws_links.proofs.ReadLemmas.{FillsSlot, ReadsAs, Turns, filled_by, reads_once, turned_by}
-use Rattle.ist_core.specs.TreeTerms.{AllGrow, HasRoomFor, nothing, same_key, IsChild}
+use Rattle.ist_core.specs.TreeTerms.{AllGrow, IsChild}
 use Rattle.laws_links.specs.Linking.{IsFinished}
 use Rattle.laws_links.proofs.FormLemmas.{IsFormed, of_finish, of_leaf_put, of_pair_put, of_remove, of_start}
 use Rattle.laws_links.proofs.FormedLemmas.{changes_are_formed}
@@ -24,14 +24,10 @@ module _ (pairs : List Pair) (words : ℕ) (opens : CanOpen pairs words) where
   pub reads_any : (log : Log) (event : Event) → EachEnabled (start pairs words) (event ∷ log)
       → (node i : ℕ) (ref : Ref) → ReadsAs (state_of pairs words log) node i ref
       → ReadsAfter pairs words log node i ref event ⊎ FillsSlot (start pairs words) log node i ref event
-  reads_any log (Install caller base rows) h node i ref r =
-      inl (reads_install pairs words opens log caller base rows h node i ref r)
-  reads_any log (Resolve caller base) h node i ref r =
-      inl (reads_resolve pairs words opens log caller base h node i ref r)
-  reads_any log (Place caller rebuild j word rows) h node i ref r =
-      reads_place pairs words opens log caller rebuild j word rows h node i ref r
-  reads_any log (Decide caller base said) h node i ref r =
-      inl (reads_decide pairs words opens log caller base said h node i ref r)
+  reads_any log (Install caller base rows) h node i ref r = grind (arith, reads_install)
+  reads_any log (Resolve caller base) h node i ref r = grind (arith, reads_resolve)
+  reads_any log (Place caller rebuild j word rows) h node i ref r = grind (arith, reads_place)
+  reads_any log (Decide caller base said) h node i ref r = grind (arith, reads_decide)
   reads_any log event h node i ref r =
       inl (reads_quiet pairs words opens log event h tt tt node i ref r)
 
@@ -39,11 +35,7 @@ module _ (pairs : List Pair) (words : ℕ) (opens : CanOpen pairs words) where
   pub reads_step : (log : Log) (event : Event) → EachEnabled (start pairs words) (event ∷ log)
       → (node i : ℕ) (ref : Ref) → ref ≢ Unset → ReadsAs (state_of pairs words log) node i ref
       → ReadsAfter pairs words log node i ref event
-  reads_step log event h node i ref set r =
-      ⊎_elim (λ k. k) (λ f. absurd (unset event f)) (reads_any log event h node i ref r)
-    where
-      unset : (event : Event) → FillsSlot (start pairs words) log node i ref event → ⊥
-      unset _ (filled_by can here at is) = set is
+  reads_step log event h node i ref set r = grind (arith, reads_any, FillsSlot, filled_by)
 
   -- ---- before the event
 
@@ -182,19 +174,12 @@ pub data TakesOut (t : Snapshot) (x : ChangeRow) (child : ℕ) : Type 0 where
 pub takes : (t : Snapshot) (x : ChangeRow) (ref : Ref) (child : ℕ) → IsFormed t x
     → ref_of x.from ≡ Some ref
     → past_rebuild t.pieces (Some ref) ≡ Some (InnerAt child) → TakesOut t x child
-takes t x ref child (of_leaf_put h) e leads = absurd (room h.from)
-  where
-    room : HasRoomFor t x.key x.from → ⊥
-    room (nothing k) = cc (ap (past_rebuild t.pieces) (sym k ∙ e) ∙ leads)
-    room (same_key leaf k l) = cc (ap (past_rebuild t.pieces) (sym k ∙ e) ∙ leads)
-takes t x ref child (of_pair_put h) e leads =
-    absurd (cc (ap (past_rebuild t.pieces) (sym h.from ∙ e) ∙ leads))
-takes t x ref child (of_remove h) e leads =
-    absurd (cc (ap (past_rebuild t.pieces) (sym h.from ∙ e) ∙ leads))
+takes t x ref child (of_leaf_put h) e leads = grind arith
+takes t x ref child (of_pair_put h) e leads = grind arith
+takes t x ref child (of_remove h) e leads = grind arith
 takes t x ref child (of_start h) e leads = takes_none_away (RebuildAt h.rebuild) h.to
     (leads_rebuild t.pieces h.rebuild h.row h.published ∙ ap (past_rebuild t.pieces) (sym h.from ∙ e) ∙ leads)
-takes t x ref child (of_finish h) e leads = takes_finished
-    (subst (λ n. IsFinished t n) (cc (sym (leads_rebuild t.pieces h.rebuild h.row h.published) ∙ ap (past_rebuild t.pieces) (sym h.from ∙ e) ∙ leads)) h.finished)
+takes t x ref child (of_finish h) e leads = grind (arith, leads_rebuild)
 
 module _ (pairs : List Pair) (words : ℕ) (opens : CanOpen pairs words) where
   -- after the event a child is still a child, or is finished

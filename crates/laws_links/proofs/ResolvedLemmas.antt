@@ -8,8 +8,8 @@ use Rattle.ist_core.specs.declared.states.ChangeRow.{ChangeRow}
 use Rattle.ist_core.specs.declared.lists.Row.{Row}
 use Rattle.ist_core.specs.declared.states.RebuildRow.{RebuildRow}
 use Rattle.ist_core.specs.LogTerms.{side_of, CanOpen, EachEnabled, state_of, Happened, Log, Resolves, bases_of, caller_limit}
-use Rattle.ist_core.specs.WordTerms.{IsIdeal, of_more, of_none, of_one, Change, Pieces, with_inners, ChangeAt, Ref, ref_of, word_of, anchor, SlotHolds, start, degree, Rebuild, InnerAt, Unset, unset_word, place_limit}
-use Rattle.ist_core.specs.TreeTerms.{PlacedLeaf, WasLinked, CanRoot, IsRoot, root_top, root_whole}
+use Rattle.ist_core.specs.WordTerms.{IsIdeal, of_more, of_none, of_one, Change, Pieces, with_inners, ChangeAt, Ref, ref_of, word_of, anchor, SlotHolds, start, degree, Rebuild, unset_word, place_limit}
+use Rattle.ist_core.specs.TreeTerms.{PlacedLeaf, WasLinked, CanRoot}
 use Rattle.ist_core.proofs.AllLogLemmas.{change_read, same_change_word, change_there, grow_after, callers_low, few_draws}
 use Rattle.ist_core.proofs.AllPlaceLemmas.{SlotNames, slot_names, side_names, names, anchor_free, slot_once, install_writes, place_writes, resolve_writes, slot_stays}
 use Rattle.ist_core.proofs.AllWordLemmas.{no_value, same_change, ref_of-unset, degree-le, degree_is}
@@ -100,9 +100,7 @@ module _ (pairs : List Pair) (words : ℕ) (opens : CanOpen pairs words) where
       → (x : ChangeRow) × ((state_of pairs words log).pieces base ≡ Some (Change x))
   resolved_published [] h base happened = absurd happened
   resolved_published (event ∷ log) h base (inl now) =
-      let it = resolved_now (start pairs words) log event base h.1 now in
-      let on = change_there (state_of pairs words log).pieces (state_of pairs words (event ∷ log)).pieces (grow_after pairs words log event h) base it.row it.published in
-      (on.0, on.1)
+      grind (arith, resolved_now, change_there, grow_after)
   resolved_published (event ∷ log) h base (inr before) =
       let it = resolved_published log h.0 base before in
       let on = change_there (state_of pairs words log).pieces (state_of pairs words (event ∷ log)).pieces (grow_after pairs words log event h) base it.0 it.1 in
@@ -173,19 +171,7 @@ module _ (pairs : List Pair) (words : ℕ) (opens : CanOpen pairs words) where
   -- the word of a new root is set
   root_comes_set : (log : Log) (caller base word : ℕ) (rows : List Row)
       → CanRoot (state_of pairs words log) caller base word rows → word ≢ unset_word
-  root_comes_set log caller base word rows can none =
-      at (with_inners (state_of pairs words log).pieces rows) can.k can.leaves can.row.target
-      (bases_of rows) can.root
-    where
-      at : (ps : Pieces) (k : ℕ) (leaves : List PlacedLeaf) (target : ℕ) (bases : List ℕ)
-          → IsRoot ps word k leaves target bases → ⊥
-      at ps k leaves target bases (root_whole ref few is ideal) =
-          ideal_set ps ref leaves target bases ideal (cc (sym is ∙ ap ref_of none ∙ ref_of-unset))
-      at ps k leaves target bases (root_top b row many is top unset all) =
-          clash (sym is ∙ ap ref_of none ∙ ref_of-unset)
-        where
-          clash : Some (InnerAt b) ≡ Some Unset → ⊥
-          clash q = cc
+  root_comes_set log caller base word rows can none = grind (arith, ideal_set, ref_of-unset)
 
   -- a rebuild without a root was never drawn
   rootless_undrawn : (log : Log) → EachEnabled (start pairs words) log → (base : ℕ) (r : RebuildRow)

@@ -189,8 +189,7 @@ module _ (pairs : List Pair) (words : ℕ) (opens : CanOpen pairs words) where
       → (node : ℕ)
       → WasLinked (start pairs words) log node → ¬ (Linked (state_of pairs words log) node)
       → ¬ (Linked (state_of pairs words (event ∷ log)) node)
-  unlinked_step log event h node was unlinked l =
-      unlinked (not_brought_back log event h (suc node) node (omega arith) was l)
+  unlinked_step log event h node was unlinked l = grind (arith, not_brought_back)
 
   -- a row that was linked and isn't any more stays out over more events
   pub unlinked_stays : (earlier log : Log) → GoesOn earlier log

@@ -1,13 +1,13 @@
 -- What each event makes of each row, and which rows it publishes. Serves each conjunct about single
 -- fields.
-use Rattle.std.proofs.Common.{Bool, List, None, Option, Some, ap, inl, inr, refl, subst, sym, ℕ, ⊎_elim, ◌∙◌, ◌∷◌, ◌≡◌, ◌⊎◌}
+use Rattle.std.proofs.Common.{Bool, List, None, Option, Some, ap, inl, inr, refl, subst, sym, ℕ, ⊎_elim, ◌∙◌, ◌∷◌, ◌≡◌, ◌⊎◌, arith}
 use Rattle.ist_core.specs.declared.events.Event.{Event}
 use Rattle.ist_core.specs.declared.events.Event.TheVariants.{Count, Decide, Draw, Finish, Install, Mark, Place, Resolve, Root}
 use Rattle.ist_core.specs.declared.lists.Row.{Row}
 use Rattle.ist_core.specs.declared.pairs.Pair.{Pair}
 use Rattle.ist_core.specs.LogTerms.{after, decision_word, side_of, Among, Enabled, EachEnabled, state_of, Log, state, Snapshot, bases_of}
 use Rattle.ist_core.specs.TreeTerms.{CanDraw, CanPlace, CanRoot, CanCount, CanDecide, CanResolve, CanInstall, CanFinish, CanMark}
-use Rattle.ist_core.specs.WordTerms.{Inner, Piece, Pieces, Rebuild, changed_at, counted, drawn, with_decision, with_inners, with_root, with_slot, with_status, ChangeAt, unset_word, word_of, SlotHolds, in_anchor, in_row, start, finished_word, marked_word}
+use Rattle.ist_core.specs.WordTerms.{Piece, Pieces, Rebuild, changed_at, counted, drawn, with_decision, with_inners, with_root, with_slot, with_status, ChangeAt, unset_word, word_of, SlotHolds, in_anchor, in_row, start, finished_word, marked_word}
 use Rattle.ist_core.proofs.AllEventLemmas.{Adds, IsInstalledWith, adds-with_inners, adds_install, Born, with_installed, HeldLieApart, sound, sound_start, holds_installed, rows_placed, rows_resolved}
 use Rattle.ist_core.proofs.AllPlaceLemmas.{anchor_free}
 use Rattle.ist_core.proofs.AllWordLemmas.{changed_at-some, no_value}
@@ -115,9 +115,7 @@ module _ (pairs : List Pair) (words : ℕ) where
   slot_stood log event h node i word (in_anchor a b c) base q e same none =
       no_value ((state_of pairs words (event ∷ log)).pieces base) q
       (subst (λ n. (state_of pairs words (event ∷ log)).pieces n ≡ None) (sym (same ∙ a)) (anchor_free pairs words (event ∷ log) h)) e
-  slot_stood log event h node i word (in_row r p g) base q e same none =
-      no_value ((state_of pairs words log).pieces base) (Inner r) none
-      (subst (λ n. (state_of pairs words log).pieces n ≡ Some (Inner r)) (sym same) p)
+  slot_stood log event h node i word (in_row r p g) base q e same none = grind (arith, no_value)
 
   -- where each row after an enabled event comes from
   pub came : (log : Log) (event : Event) → EachEnabled (start pairs words) (event ∷ log)

@@ -5,7 +5,7 @@ use Rattle.ist_core.specs.declared.events.Event.TheVariants.{Decide, Install}
 use Rattle.ist_core.specs.declared.lists.Row.{Row}
 use Rattle.ist_core.specs.declared.pairs.Pair.{Pair}
 use Rattle.ist_core.specs.declared.states.ChangeRow.{ChangeRow}
-use Rattle.ist_core.specs.TreeTerms.{CanInstall, FitsKind, HasRoomFor, nothing, same_key, IsStarted}
+use Rattle.ist_core.specs.TreeTerms.{CanInstall, FitsKind, IsStarted}
 use Rattle.ist_core.specs.LogTerms.{CanOpen, EachEnabled, state_of, Log, HoldsRows, Snapshot}
 use Rattle.ist_core.specs.WordTerms.{Change, Rebuild, row_at, ChangeAt, RebuildAt, Ref, ref_of, word_of, SlotHolds, start, decided_yes, start_kind, undecided}
 use Rattle.ist_core.proofs.AllEventLemmas.{HeldLieApart, holds_installed}
@@ -31,11 +31,7 @@ pub record IsFinishOfRebuild (t : Snapshot) (x : ChangeRow) (rebuild : ℕ) : Ty
 -- a change whose `from` is a rebuild is the rebuild's finish
 pub finish_of : (t : Snapshot) (x : ChangeRow) (rebuild : ℕ) → IsFormed t x
     → ref_of x.from ≡ Some (RebuildAt rebuild) → IsFinishOfRebuild t x rebuild
-finish_of t x rebuild (of_leaf_put f) e = absurd (room f.from)
-  where
-    room : HasRoomFor t x.key x.from → ⊥
-    room (nothing k) = cc (sym k ∙ e)
-    room (same_key leaf k l) = cc (sym k ∙ e)
+finish_of t x rebuild (of_leaf_put f) e = grind arith
 finish_of t x rebuild (of_pair_put f) e = absurd (cc (sym f.from ∙ e))
 finish_of t x rebuild (of_remove f) e = absurd (cc (sym f.from ∙ e))
 finish_of t x rebuild (of_start f) e = absurd (cc (sym f.from ∙ e))

@@ -25,8 +25,7 @@ pub ideal_among : (ps : Pieces) (ref : Ref) (leaves : List PlacedLeaf) (above : 
     (base : ℕ) → IsIdeal ps ref leaves above rows → ref ≡ InnerAt base → Among base rows
 ideal_among ps _ _ _ _ base of_none e = absurd (cc)
 ideal_among ps _ _ _ _ base (of_one same k) e = absurd (cc)
-ideal_among ps _ _ _ _ base (of_more {base = b} r top under) e =
-    inl (let one : base ≡ b = cc in one)
+ideal_among ps _ _ _ _ base (of_more {base = b} r top under) e = grind arith
 
 -- the base of a root is among the bases of its rows
 pub root_among : (ps : Pieces) (word k : ℕ) (leaves : List PlacedLeaf) (target : ℕ) (rows : List ℕ)
@@ -34,8 +33,7 @@ pub root_among : (ps : Pieces) (word k : ℕ) (leaves : List PlacedLeaf) (target
     → IsRoot ps word k leaves target rows → ref_of word ≡ Some (InnerAt base) → Among base rows
 root_among ps word k leaves target rows base (root_whole ref few is ideal) e =
     ideal_among ps ref leaves target rows base ideal (cc)
-root_among ps word k leaves target rows base (root_top b row many is top unset all) e =
-    subst (λ bs. Among base bs) (sym all) (inl (cc (sym e ∙ is)))
+root_among ps word k leaves target rows base (root_top b row many is top unset all) e = grind arith
 
 module _ (pairs : List Pair) (words : ℕ) (opens : CanOpen pairs words) where
   -- a rebuild with a root was started

@@ -32,8 +32,7 @@ on_chain_linked t _ _ (one_row {node = node} {child = child} {rows = rows} i cha
 pub on_chain_was_linked : (first : Snapshot) (log : Log) (node row : ℕ)
     → WasOnChain first log node row → WasLinked first log row
 on_chain_was_linked first [] node row was = on_chain_linked first node was.0 was.1 row was.2
-on_chain_was_linked first (event ∷ log) node row (inl now) =
-    inl (on_chain_linked (state first (event ∷ log)) node now.0 now.1 row now.2)
+on_chain_was_linked first (event ∷ log) node row (inl now) = grind (arith, on_chain_linked)
 on_chain_was_linked first (event ∷ log) node row (inr before) =
     inr (on_chain_was_linked first log node row before)
 
@@ -58,8 +57,7 @@ module _ (pairs : List Pair) (words : ℕ) (opens : CanOpen pairs words) where
       → Stays (start pairs words) log node r s event
   untouched_turned log event h node r s never (as_it_was is) =
       subst (λ x. Stays (start pairs words) log node r x event) (inner_row r s (sym is)) stays_so
-  untouched_turned log _ h node r s never (by_install can here is) =
-      absurd (never (subst (λ n. WasLinked (start pairs words) log n) (sym here) can.linked))
+  untouched_turned log _ h node r s never (by_install can here is) = grind arith
   untouched_turned log _ h node r s never (by_resolve {change = change} can here is) = absurd
       (never (subst (λ n. WasLinked (start pairs words) log n) (sym here) (node_was_linked pairs words opens log h.0 change can.change can.published)))
   untouched_turned log _ h node r s never
@@ -69,12 +67,10 @@ module _ (pairs : List Pair) (words : ℕ) (opens : CanOpen pairs words) where
   untouched_turned log _ h node r s never (by_decide {caller = caller} {said = said} can is) =
       subst (λ x. Stays (start pairs words) log node r x (Decide caller node said))
       (inner_row r s (sym is)) stays_so
-  untouched_turned log _ h node r s never (by_count can is) = absurd
-      (never (on_chain_was_linked (start pairs words) log can.update.change.node node can.on_chain))
+  untouched_turned log _ h node r s never (by_count can is) = grind (arith, on_chain_was_linked)
   untouched_turned log _ h node r s never (by_mark {caller = caller} can is) = absurd
       (never (mark_linked pairs words opens log h.0 caller node (λ at i word p. passed_was_linked pairs words opens log h.0 at i word p) can))
-  untouched_turned log _ h node r s never (by_finish can is) = absurd
-      (never (closed_was_linked pairs words opens log h.0 node can.row can.published (λ o. let one = can.marked in omega arith)))
+  untouched_turned log _ h node r s never (by_finish can is) = grind (arith, closed_was_linked)
   untouched_turned log _ h node r s never (by_root {caller = caller} {word = word} {rows = rows} can is) = subst (λ x. Stays (start pairs words) log node r x (Root caller node word rows)) (inner_row r s (sym is)) stays_so
   untouched_turned log _ h node r s never (by_draw {caller = caller} {part = part} can is) =
       subst (λ x. Stays (start pairs words) log node r x (Draw caller node part))
@@ -104,9 +100,7 @@ pub stays_whole : (first : Snapshot) (log : Log) (event : Event) (node : ℕ) (r
     → (state first log).pieces node ≡ Some (Inner r)
     → ((i : ℕ) → slice_get r.slots i ≢ Some unset_word) → Stays first log node r s event → s ≡ r
 stays_whole first log event node r _ e set stays_so = refl
-stays_whole first log _ node r _ e set (is_filled {i = i} can here) =
-    let same = same_inner ((state first log).pieces node) can.root_row r (subst (λ b. (state first log).pieces b ≡ Some (Inner can.root_row)) (sym here) can.root_published) e in
-    absurd (set i (subst (λ y. slice_get y.slots i ≡ Some unset_word) same can.free))
+stays_whole first log _ node r _ e set (is_filled {i = i} can here) = grind (arith, same_inner)
 
 -- ---- what was linked
 
@@ -154,8 +148,7 @@ module _ (pairs : List Pair) (words : ℕ) (opens : CanOpen pairs words) where
   -- no inner row lies at the anchor
   pub not_the_anchor : (log : Log) → EachEnabled (start pairs words) log → (node : ℕ) (r : InnerRow)
       → (state_of pairs words log).pieces node ≡ Some (Inner r) → node ≢ anchor
-  not_the_anchor log h node r e is =
-      no_row (state_of pairs words log).pieces node r (anchor_free pairs words log h) is e
+  not_the_anchor log h node r e is = grind (arith, no_row, anchor_free)
 
   -- so no child is the anchor
   pub child_no_anchor : (log : Log) → EachEnabled (start pairs words) log → (node i child : ℕ)

@@ -1,6 +1,6 @@
 -- While a finish is undecided, and so when it is decided yes, the root is the ideal subtree over
 -- exactly the leaves of the target. Serves `laws.roots_are_ideal`.
-use Rattle.std.proofs.Common.{List, Some, [], ap, refl, replicate, subst, sym, ℕ, ◌∙◌, ◌∷◌, ◌≡◌, ◌≢◌}
+use Rattle.std.proofs.Common.{List, Some, [], ap, refl, replicate, subst, sym, ℕ, ◌∙◌, ◌∷◌, ◌≡◌, ◌≢◌, arith}
 use Rattle.ist_core.specs.declared.events.Event.{Event}
 use Rattle.ist_core.specs.declared.events.Event.TheVariants.{Draw, Install, Root}
 use Rattle.ist_core.specs.declared.lists.Row.{Row}
@@ -60,8 +60,7 @@ module _ (pairs : List Pair) (words : ℕ) (opens : CanOpen pairs words) where
       → HasLeaves (state_of pairs words log).pieces (Some (InnerAt r.target)) leaves
       → HasLeaves (state_of pairs words (event ∷ log)).pieces (Some (InnerAt r.target)) leaves
   target_leaves_kept log event h at r e set leaves reached =
-      leaves_kept pairs words opens log event h r.target leaves
-      (rooted_is_finished pairs words log h.0 at r e set) reached
+      grind (arith, leaves_kept, rooted_is_finished, reached)
 
   -- what is built over stays so over an event that leaves the rebuild's root
   built_step : (log : Log) (event : Event) → EachEnabled (start pairs words) (event ∷ log)
@@ -69,16 +68,7 @@ module _ (pairs : List Pair) (words : ℕ) (opens : CanOpen pairs words) where
       → r.root ≢ unset_word
       → ¬ (IsReplaced (state_of pairs words log) at) → IsBuiltOver (state_of pairs words log) r
       → IsBuiltOver (state_of pairs words (event ∷ log)) r
-  built_step log event h at r e set unr b =
-      let it = partly_step pairs words opens log event h at r e unr b.leaves b.reached b.ref b.root_is b.rows b.built in
-      record {
-        leaves = b.leaves;
-        reached = target_leaves_kept log event h at r e set b.leaves b.reached;
-        ref = b.ref;
-        root_is = b.root_is;
-        rows = it.0;
-        built = it.1;
-      }
+  built_step log event h at r e set unr b = grind (arith, partly_step, reached, target_leaves_kept)
 
   -- what is built when a root is given
   built_root : (log : Log) (caller at word : ℕ) (rows : List Row)

@@ -1,7 +1,7 @@
 -- When calls that are placed in their time began and returned, and which comes before which. Serves
 -- `laws.placed_calls_are_linearizable`.
 -- a test isn't both
-use Rattle.std.proofs.Common.{◌≡◌, ℕ, ◌+◌, ◌<◌, ◌≤◌, Bool, true, false, List, length, slice_get, Some, refl, sym, ap, ◌∙◌, subst, ⊎_elim, arith}
+use Rattle.std.proofs.Common.{◌≡◌, ℕ, ◌+◌, ◌<◌, ◌≤◌, true, List, length, slice_get, Some, sym, ap, ◌∙◌, subst, ⊎_elim, arith}
 use Rattle.std.proofs.lemmas.Option.{same_Some, none-some}
 use Rattle.ist_core.specs.TreeTerms.{Map, Entry, is_change}
 use Rattle.ist_core.specs.LogTerms.{Among}
@@ -50,11 +50,7 @@ module _ (m : Map) (entries : List Entry) (moments : Moments)
 
   -- a call that changes nothing isn't past its position when it returns
   to_here : (x : Ended) → IsInTime m entries x → x.call.position ≤ x.changes
-  to_here x placed = at (is_change x.call) refl
-    where
-      at : (b : Bool) → is_change x.call ≡ b → x.call.position ≤ x.changes
-      at true e = let to : x.call.position + 1 ≤ x.changes = rw e at placed.to in omega arith
-      at false e = rw e at placed.to
+  to_here x placed = grind arith
 
   -- a change is past its position then
   pub to_past : (x : Ended) → IsInTime m entries x → is_change x.call ≡ true
@@ -134,12 +130,8 @@ module _ (m : Map) (entries : List Entry) (moments : Moments)
   -- one returned call: of one caller, begun at one time
   ended_one : (x y : Ended) → Among x (ended moments) → Among y (ended moments)
       → x.caller ≡ y.caller → x.begun.time ≡ y.begun.time → x ≡ y
-  ended_one x y i j c b = at (ended_apart moments x y i j c)
-    where
-      at : AreApartInTime x y → x ≡ y
-      at (same_call e) = e
-      at (comes_first l) = let it = ended_in moments x i in absurd (omega (arith, l, it.before, b))
-      at (comes_later l) = let it = ended_in moments y j in absurd (omega (arith, l, it.before, b))
+  ended_one x y i j c b =
+      grind (arith, ended_apart, AreApartInTime, same_call, comes_first, ended_in, comes_later)
 
   -- calls at different positions are different calls
   other_call : (p q : ℕ) (t u : TimedCall) → IsKnownCall p t → IsKnownCall q u → p < q

@@ -21,22 +21,12 @@ changes_at (moment ∷ moments) time =
 -- at the last moment
 pub changes_here : (moment : Moment) (moments : Moments) (time : ℕ) → time ≡ length moments
     → changes_at (moment ∷ moments) time ≡ moment.changes
-changes_here moment moments time e = at (eqb_tells time (length moments))
-  where
-    at : (((time == length moments) ≡ true) × (time ≡ length moments)) ⊎ (((time == length moments) ≡ false) × (time ≢ length moments))
-        → changes_at (moment ∷ moments) time ≡ moment.changes
-    at (inl t) = rw t.0 refl
-    at (inr t) = absurd (t.1 e)
+changes_here moment moments time e = grind (arith, eqb_tells)
 
 -- at an earlier one
 pub changes_before : (moment : Moment) (moments : Moments) (time : ℕ) → time < length moments
     → changes_at (moment ∷ moments) time ≡ changes_at moments time
-changes_before moment moments time e = at (eqb_tells time (length moments))
-  where
-    at : (((time == length moments) ≡ true) × (time ≡ length moments)) ⊎ (((time == length moments) ≡ false) × (time ≢ length moments))
-        → changes_at (moment ∷ moments) time ≡ changes_at moments time
-    at (inl t) = let same = t.1 in absurd (omega arith)
-    at (inr t) = rw t.0 refl
+changes_before moment moments time e = grind (arith, eqb_tells)
 
 -- no moment has more changes than a bound of all
 pub changes_low : (bound : ℕ) (moments : Moments) → Each (λ m. m.changes ≤ bound) moments
@@ -200,9 +190,7 @@ module _ (m : Map) (entries : List Entry) (moments : Moments)
       }
 
   pub the_owners : HasOwners 0 entries
-  the_owners = owners_of 0 entries
-      (λ i e h. (let same : i ≡ 0 + i = omega arith in
-      subst (λ p. slice_get entries p ≡ Some e) same h))
+  the_owners = grind (arith, owners_of)
 
   -- ---- what a reading has
 
@@ -211,5 +199,4 @@ module _ (m : Map) (entries : List Entry) (moments : Moments)
     pub plain : is_change x.call ≡ false
 
   pub reading_of : (x : Ended) → Among x (readings moments) → IsReadingCall x
-  reading_of x i = let it = among-filter (λ y. not (is_change y.call)) x (ended moments) i in
-      record { among = it.0; plain = not-true (is_change x.call) it.1 }
+  reading_of x i = grind (arith, among-filter, not-true)

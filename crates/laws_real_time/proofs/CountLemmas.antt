@@ -1,6 +1,6 @@
 -- As many changes of one owner as it has calls at their positions: each is the change of such a call.
 -- Serves `laws.made_calls_are_linearizable`.
-use Rattle.std.proofs.Common.{◌≡◌, ◌≢◌, ◌⊎◌, ℕ, zero, suc, ◌+◌, ◌<◌, ◌≤◌, ◌==◌, true, false, List, [], ◌∷◌, length, slice_get, Some, refl, ap, ◌∙◌, subst, inl, inr, ⊎_elim, arith}
+use Rattle.std.proofs.Common.{◌≡◌, ◌≢◌, ◌⊎◌, ℕ, zero, suc, ◌+◌, ◌<◌, ◌≤◌, List, [], ◌∷◌, length, slice_get, Some, refl, ap, ◌∙◌, subst, inl, inr, ⊎_elim, arith}
 use Rattle.std.proofs.lemmas.Bool.Decides.{eqb_tells}
 use Rattle.std.proofs.lemmas.Option.{same_Some}
 use Rattle.ist_core.specs.declared.calls.Call.{Call}
@@ -22,35 +22,18 @@ module _ (number : ℕ) where
       × (length (entries_by number (entry ∷ entries)) ≡ length (entries_by number entries) + 1))
       ⊎ ((entry.owner ≢ number)
       × (length (entries_by number (entry ∷ entries)) ≡ length (entries_by number entries)))
-  owner_cases entry entries = at (eqb_tells entry.owner number)
-    where
-      at : (((entry.owner == number) ≡ true) × (entry.owner ≡ number)) ⊎ (((entry.owner == number) ≡ false) × (entry.owner ≢ number))
-          → ((entry.owner ≡ number)
-          × (length (entries_by number (entry ∷ entries)) ≡ length (entries_by number entries) + 1))
-          ⊎ ((entry.owner ≢ number)
-          × (length (entries_by number (entry ∷ entries)) ≡ length (entries_by number entries)))
-      at (inl e) = inl (e.1, rw e.0 (omega arith))
-      at (inr e) = inr (e.1, rw e.0 refl)
+  owner_cases entry entries = grind (arith, eqb_tells)
 
   -- no fewer with one more entry
   pub count_rises : (entry : Entry) (entries : List Entry)
       → length (entries_by number entries) ≤ length (entries_by number (entry ∷ entries))
-  count_rises entry entries =
-      ⊎_elim (λ e. omega (arith, e.1)) (λ e. omega (arith, e.1)) (owner_cases entry entries)
+  count_rises entry entries = grind (arith, owner_cases)
 
   -- a call past the first entry is at its place among the others
   past_first : (entry : Entry) (entries : List Entry) (offset : ℕ) (call : Call)
       → IsAtIndex (entry ∷ entries) offset call → offset < call.position
       → IsAtIndex entries (offset + 1) call
-  past_first entry entries offset call a l = at a.index refl
-    where
-      at : (index : ℕ) → a.index ≡ index → IsAtIndex entries (offset + 1) call
-      at zero e = let position = a.position_is in absurd (omega arith)
-      at (suc i) e = let position = a.position_is in record {
-        index = i;
-        position_is = omega arith;
-        entry = subst (λ n. slice_get (entry ∷ entries) n ≡ Some (entry_by number call)) e a.entry;
-      }
+  past_first entry entries offset call a l = grind arith
 
   -- calls after the first one are past the entries up to its own
   rest_past : (entry : Entry) (entries : List Entry) (offset : ℕ) (call : Call) (calls : List Call)
@@ -58,10 +41,7 @@ module _ (number : ℕ) where
       → Each (IsAtIndex (entry ∷ entries) offset) calls
       → Each (IsAtIndex entries (offset + 1)) calls
   rest_past entry entries offset call calls low rise all =
-      each_of (IsAtIndex entries (offset + 1)) calls
-      (λ later i. (let l = each-among (λ later. call.position < later.position) later calls rise i in
-      past_first entry entries offset later
-      (each-among (IsAtIndex (entry ∷ entries) offset) later calls all i) (omega arith)))
+      grind (arith, each_of, each-among, past_first)
 
   -- there are as many entries as calls
   pub calls_fit : (entries : List Entry) (offset : ℕ) (calls : List Call)
@@ -105,9 +85,7 @@ module _ (number : ℕ) where
   pub has_one : (entries : List Entry) (i : ℕ) (e : Entry) → slice_get entries i ≡ Some e
       → e.owner ≡ number → 1 ≤ length (entries_by number entries)
   has_one [] i e h o = absurd (cc)
-  has_one (entry ∷ entries) zero e h o = ⊎_elim (λ t. omega (arith, t.1))
-      (λ t. absurd (t.0 (ap (λ (x : Entry). x.owner) (same_Some entry e h) ∙ o)))
-      (owner_cases entry entries)
+  has_one (entry ∷ entries) zero e h o = grind (arith, same_Some, owner_cases)
   has_one (entry ∷ entries) (suc i) e h o = let some = has_one entries i e h o in
       let more = count_rises entry entries in omega arith
 
@@ -118,13 +96,9 @@ module _ (number : ℕ) where
   only_one [] few i j e f h k o q = absurd (cc)
   only_one (entry ∷ entries) few zero zero e f h k o q = refl
   only_one (entry ∷ entries) few zero (suc j) e f h k o q =
-      ⊎_elim (λ t. (let some = has_one entries j f k q in absurd (omega (arith, t.1, some, few))))
-      (λ t. absurd (t.0 (ap (λ (x : Entry). x.owner) (same_Some entry e h) ∙ o)))
-      (owner_cases entry entries)
+      grind (arith, has_one, same_Some, owner_cases)
   only_one (entry ∷ entries) few (suc i) zero e f h k o q =
-      ⊎_elim (λ t. (let some = has_one entries i e h o in absurd (omega (arith, t.1, some, few))))
-      (λ t. absurd (t.0 (ap (λ (x : Entry). x.owner) (same_Some entry f k) ∙ q)))
-      (owner_cases entry entries)
+      grind (arith, has_one, same_Some, owner_cases)
   only_one (entry ∷ entries) few (suc i) (suc j) e f h k o q =
       let more = count_rises entry entries in
       ap suc (only_one entries (omega arith) i j e f h k o q)
@@ -135,8 +109,7 @@ module _ (number : ℕ) where
       → length (entries_by number entries) ≤ length calls
       → (i : ℕ) (e : Entry) → slice_get entries i ≡ Some e → e.owner ≡ number
       → IsFound calls (offset + i)
-  entry_found entries offset [] rise all few i e h o =
-      let some = has_one entries i e h o in absurd (omega arith)
+  entry_found entries offset [] rise all few i e h o = grind (arith, has_one)
   entry_found [] offset (call ∷ calls) rise all few i e h o = absurd (cc)
   entry_found (entry ∷ entries) offset (call ∷ calls) rise all few i e h o = at all.0.index i refl h
       (entry_found entries (offset + 1) calls rise.1)

@@ -1,6 +1,6 @@
 -- What one more moment makes of the calls of its caller and of others. Serves
 -- `laws.kept_calls_are_linearizable`, and a rule that keeps moments.
-use Rattle.std.proofs.Common.{◌≡◌, ◌≢◌, ◌⊎◌, ℕ, ◌==◌, true, false, List, [], ◌∷◌, ◌++◌, map, filter, length, Option, Some, None, refl, sym, ap, ◌∙◌, inl, inr, append-nil}
+use Rattle.std.proofs.Common.{◌≡◌, ◌≢◌, ◌⊎◌, ℕ, ◌==◌, true, false, List, [], ◌∷◌, ◌++◌, map, filter, length, Option, Some, None, refl, sym, ap, ◌∙◌, inl, inr, append-nil, arith}
 use Rattle.std.proofs.lemmas.Bool.Decides.{eqb_tells}
 use Rattle.std.proofs.lemmas.List.{map-append}
 use Rattle.std.proofs.lemmas.List.Elements.{filter-append}
@@ -17,22 +17,12 @@ use Rattle.laws_real_time.specs.Making.{calls_returned}
 -- of the moment's caller
 pub in_call_own : (number : ℕ) (moment : Moment) (moments : Moments) → moment.caller ≡ number
     → in_call number (moment ∷ moments) ≡ begun_by (length moments) moment moment.deed
-in_call_own number moment moments mine = at (eqb_tells moment.caller number)
-  where
-    at : (((moment.caller == number) ≡ true) × (moment.caller ≡ number)) ⊎ (((moment.caller == number) ≡ false) × (moment.caller ≢ number))
-        → in_call number (moment ∷ moments) ≡ begun_by (length moments) moment moment.deed
-    at (inl t) = rw t.0 refl
-    at (inr t) = absurd (t.1 mine)
+in_call_own number moment moments mine = grind (arith, eqb_tells)
 
 -- of another caller
 pub in_call_other : (number : ℕ) (moment : Moment) (moments : Moments) → moment.caller ≢ number
     → in_call number (moment ∷ moments) ≡ in_call number moments
-in_call_other number moment moments other = at (eqb_tells moment.caller number)
-  where
-    at : (((moment.caller == number) ≡ true) × (moment.caller ≡ number)) ⊎ (((moment.caller == number) ≡ false) × (moment.caller ≢ number))
-        → in_call number (moment ∷ moments) ≡ in_call number moments
-    at (inl t) = absurd (other t.1)
-    at (inr t) = rw t.0 refl
+in_call_other number moment moments other = grind (arith, eqb_tells)
 
 -- ---- the calls that returned
 
@@ -61,9 +51,7 @@ calls_in number xs = map (λ x. x.call) (filter (λ x. x.caller == number) xs)
 -- of two lists together they are those of the first and then those of the second
 pub calls_in-append : (number : ℕ) (xs ys : List Ended)
     → calls_in number (xs ++ ys) ≡ calls_in number xs ++ calls_in number ys
-calls_in-append number xs ys =
-    ap (map (λ (x : Ended). x.call)) (filter-append (λ x. x.caller == number) xs ys)
-    ∙ map-append (λ (x : Ended). x.call) (filter (λ x. x.caller == number) xs) (filter (λ x. x.caller == number) ys)
+calls_in-append number xs ys = grind (arith, filter-append, map-append)
 
 -- calls of others
 pub calls_of_other : (number : ℕ) (moment : Moment) (moments : Moments) → moment.caller ≢ number
@@ -119,9 +107,7 @@ ended_now moment moments begun call = record {
 pub ended_last : (moment : Moment) (moments : Moments) (begun : Begun) (call : Call)
     → moment.deed ≡ Returns call → in_call moment.caller moments ≡ Some begun
     → ended (moment ∷ moments) ≡ ended moments ++ ended_now moment moments begun call ∷ []
-ended_last moment moments begun call is in_it =
-    ap (λ o. ended moments ++ ended_by o (length moments) moment moment.deed) in_it
-    ∙ ap (λ d. ended moments ++ ended_by (Some begun) (length moments) moment d) is
+ended_last moment moments begun call is in_it = grind arith
 
 -- a call that returns is the last of its caller's
 pub calls_of_own : (number : ℕ) (moment : Moment) (moments : Moments) (begun : Begun) (call : Call)
@@ -129,11 +115,4 @@ pub calls_of_own : (number : ℕ) (moment : Moment) (moments : Moments) (begun :
     → in_call moment.caller moments ≡ Some begun
     → calls_returned number (moment ∷ moments) ≡ calls_returned number moments ++ call ∷ []
 calls_of_own number moment moments begun call mine is in_it =
-    ap (calls_in number) (ended_last moment moments begun call is in_it)
-    ∙ calls_in-append number (ended moments) (ended_now moment moments begun call ∷ [])
-    ∙ ap (λ xs. calls_returned number moments ++ xs) (near (eqb_tells moment.caller number))
-  where
-    near : (((moment.caller == number) ≡ true) × (moment.caller ≡ number)) ⊎ (((moment.caller == number) ≡ false) × (moment.caller ≢ number))
-        → calls_in number (ended_now moment moments begun call ∷ []) ≡ call ∷ []
-    near (inl t) = rw t.0 refl
-    near (inr t) = absurd (t.1 mine)
+    grind (arith, ended_last, calls_in-append, eqb_tells)

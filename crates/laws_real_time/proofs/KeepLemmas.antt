@@ -35,10 +35,7 @@ module _ (pairs : List Pair) (words : ℕ) where
   -- no moment notes more changes than the log has
   pub noted_low : (log : Log) (moments : Moments) → Each (NotesPrefix pairs words log) moments
       → Each (λ m. m.changes ≤ length (told log)) moments
-  noted_low log moments all = each_of (λ m. m.changes ≤ length (told log)) moments
-      (λ m i. (let c = each-among (NotesPrefix pairs words log) m moments all i in
-      let rise = changes_rise (start pairs words) c.prefix log c.goes_on in
-      let is = c.changes_is in omega arith))
+  noted_low log moments all = grind (arith, each_of, each-among, changes_rise)
 
   -- nor does the beginning of a call
   pub begun_low : (log : Log) (moments : Moments) → Each (NotesPrefix pairs words log) moments
@@ -238,11 +235,4 @@ module _ (pairs : List Pair) (words : ℕ) where
       → ((number : ℕ) → HasMadeChanges (told log) number (calls_returned number moments)
       (in_call number moments))
       → LinearizesTo (map_of pairs) moments (map_after_entries (map_of pairs) (told log))
-  kept_linearizes log moments lawful k made = accounted_linearizes (map_of pairs) (told log) moments
-      record {
-        well_formed = k.well_formed;
-        never_fall = k.never_fall;
-        legal = (told_at pairs words lawful.opens log lawful.enabled).legal;
-        placed = k.placed;
-        callers = λ number. record { made = made number; began = k.began number };
-      }
+  kept_linearizes log moments lawful k made = grind (arith, accounted_linearizes, told_at)

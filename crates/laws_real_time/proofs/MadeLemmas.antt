@@ -42,15 +42,7 @@ module _ (m : Map) (entries : List Entry) (moments : Moments)
     change : is_change call ≡ true
 
   changing_of : (call : Call) → Among call changing → IsChanging call
-  changing_of call i = let a = among-filter is_change call (calls_returned number moments) i in
-      let b = among-map (λ (x : Ended). x.call) call own_calls a.0 in
-      let c = among-filter (λ x. x.caller == number) b.0 (ended moments) b.1 in record {
-        of = b.0;
-        among = c.0;
-        caller = eqb-true b.0.caller number c.1;
-        is = b.2;
-        change = a.1;
-      }
+  changing_of call i = grind (arith, among-filter, among-map, eqb-true)
 
   placed_of : (x : Ended) → Among x (ended moments) → IsInTime m entries x
   placed_of x i = each-among (IsInTime m entries) x (ended moments) all.placed i
@@ -63,25 +55,26 @@ module _ (m : Map) (entries : List Entry) (moments : Moments)
   comes_before : (x y : Ended) → Among x (ended moments) → Among y (ended moments)
       → x.caller ≡ y.caller → is_change x.call ≡ true → x.time < y.time
       → x.call.position < y.call.position
-  comes_before x y i j c e l = at (ended_apart moments x y i j c)
-    where
-      at : AreApartInTime x y → x.call.position < y.call.position
-      at (same_call s) = let t = ap (λ (z : Ended). z.time) s in absurd (omega (arith, t, l))
-      at (comes_first f) = let a = ended_in moments x i in let b = ended_in moments y j in
-          let past = past_of x (placed_of x i) e in let from = (placed_of y j).from in
-          let rise =
-          changes_rise moments all.never_fall x.time y.begun.time (omega arith)
-          (omega (arith, b.before, b.within)) in
-          omega (arith, a.changes, b.from, past, from, rise)
-      at (comes_later f) = let a = ended_in moments x i in absurd (omega (arith, a.before, l, f))
+  comes_before x y i j c e l =
+      grind (
+        arith,
+        ended_apart,
+        AreApartInTime,
+        same_call,
+        comes_first,
+        ended_in,
+        past_of,
+        placed_of,
+        changes_rise,
+        comes_later,
+      )
 
   -- the second call is at a higher position, if the first is a change
   abbrev RisesPast : Call → Call → Type 0
   RisesPast a b = is_change a ≡ true → a.position < b.position
 
   own_of : (x : Ended) → Among x own_calls → Among x (ended moments) × (x.caller ≡ number)
-  own_of x i = let it = among-filter (λ y. y.caller == number) x (ended moments) i in
-      (it.0, eqb-true x.caller number it.1)
+  own_of x i = grind (arith, among-filter, eqb-true)
 
   rising : Pairwise (λ a b. a.position < b.position) changing
   rising = pairwise_gives RisesPast (λ a b. a.position < b.position) changing
@@ -96,11 +89,7 @@ module _ (m : Map) (entries : List Entry) (moments : Moments)
   -- a change is at its place
   entry_of_call : (call : Call) → IsChanging call
       → slice_get entries call.position ≡ Some (entry_by number call)
-  entry_of_call call c =
-      let made =
-      (placed_of c.of c.among).made (subst (λ x. is_change x ≡ true) c.is c.change) in
-      subst (λ n. slice_get entries call.position ≡ Some (entry_by n call)) c.caller
-      (subst (λ x. slice_get entries x.position ≡ Some (entry_by c.of.caller x)) (sym c.is) made)
+  entry_of_call call c = grind (arith, placed_of)
 
   all_at : Each (IsAtIndex number entries 0) changing
   all_at = each_of (IsAtIndex number entries 0) changing
@@ -112,18 +101,12 @@ module _ (m : Map) (entries : List Entry) (moments : Moments)
 
   -- a change of a call that was found
   found : (position : ℕ) → IsFound number changing (0 + position) → IsOfEnded moments position
-  found position f = let c = changing_of f.call f.among in let place = f.position_is in record {
-    call = c.of;
-    among = c.among;
-    change = subst (λ x. is_change x ≡ true) c.is c.change;
-    position_is = ap (λ (x : Call). x.position) (sym c.is) ∙ omega arith;
-  }
+  found position f = grind (arith, changing_of)
 
   -- how many changes the calls make
   few_by : (xs : List Entry) → entries_by number xs ≡ changes_by number (calls_returned number moments)
       → length (entries_by number xs) ≤ length changing
-  few_by xs e = let long = ap length e in
-      let same = length-map changing (entry_by number) in omega (arith, long, same)
+  few_by xs e = grind (arith, length-map)
 
   -- before the call in progress each change is that of a call that returned
   before : (begun : Begun) → in_call number moments ≡ Some begun

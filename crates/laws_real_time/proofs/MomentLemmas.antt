@@ -88,15 +88,7 @@ pub record ReturnsAt (o : Option Begun) (time : ℕ) (moment : Moment) (deed : D
 
 pub ends_at : (o : Option Begun) (time : ℕ) (moment : Moment) (deed : Deed) (x : Ended)
     → Among x (ended_by o time moment deed) → ReturnsAt o time moment deed x
-ends_at (Some begun) time moment (Returns call) x (inl e) = record {
-  begun = begun;
-  in_it = refl;
-  deed_is = ap (λ (y : Ended). Returns y.call) (sym e);
-  caller_is = ap (λ (y : Ended). y.caller) e;
-  begun_is = ap (λ (y : Ended). y.begun) e;
-  time_is = ap (λ (y : Ended). y.time) e;
-  changes_is = ap (λ (y : Ended). y.changes) e;
-}
+ends_at (Some begun) time moment (Returns call) x (inl e) = grind arith
 ends_at (Some begun) time moment (Returns call) x (inr h) = absurd h
 ends_at (Some begun) time moment (Begins command) x h = absurd h
 ends_at (Some begun) time moment GivesUp x h = absurd h

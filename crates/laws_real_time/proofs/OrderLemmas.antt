@@ -1,6 +1,6 @@
 -- Calls that are placed in their time have an order that keeps real time. Serves
 -- `laws.placed_calls_are_linearizable`.
-use Rattle.std.proofs.Common.{◌≡◌, ◌⊎◌, ℕ, ◌+◌, ◌<◌, not, Bool, true, false, List, [], ◌∷◌, length, slice_get, Some, refl, sym, ap, ◌∙◌, subst, inl, inr, ⊎_elim, arith}
+use Rattle.std.proofs.Common.{◌≡◌, ◌⊎◌, ℕ, ◌+◌, ◌<◌, not, true, false, List, [], ◌∷◌, length, slice_get, Some, refl, sym, ap, ◌∙◌, subst, inl, inr, ⊎_elim, arith}
 use Rattle.std.proofs.lemmas.Option.{slice_get_within}
 use Rattle.ist_core.specs.TreeTerms.{Map, Entry, map_at, map_after_entries, is_change, entry_by}
 use Rattle.ist_core.specs.LogTerms.{Among}
@@ -151,11 +151,7 @@ module _ (m : Map) (entries : List Entry) (moments : Moments)
       (omega (arith, read.within, owners.long))
 
   all_in : (x : Ended) → Among x (ended moments) → Among (timed x) the_order
-  all_in x i = at (is_change x.call) refl
-    where
-      at : (b : Bool) → is_change x.call ≡ b → Among (timed x) the_order
-      at true e = change_among x i e
-      at false e = reading_in x i e
+  all_in x i = grind (arith, change_among, reading_in)
 
   -- the order has the map's replies
   legal : (x : Ended) → Among x (readings moments) → (j : ℕ) → x.call.position ≡ 0 + j

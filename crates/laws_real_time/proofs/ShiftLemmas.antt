@@ -1,5 +1,5 @@
 -- Moments after others: calls begin and return later by as many moments. Serves `laws.histories_join`.
-use Rattle.std.proofs.Common.{◌≡◌, ◌≢◌, ◌⊎◌, ℕ, ◌+◌, ◌==◌, Bool, true, false, if◌then◌else◌, List, [], ◌∷◌, ◌++◌, map, length, Option, Some, None, refl, sym, ap, ◌∙◌, subst, inl, inr, append_assoc, append-nil, length-append}
+use Rattle.std.proofs.Common.{◌≡◌, ◌≢◌, ◌⊎◌, ℕ, ◌+◌, ◌==◌, Bool, true, false, if◌then◌else◌, List, [], ◌∷◌, ◌++◌, map, length, Option, Some, None, refl, sym, ap, ◌∙◌, subst, inl, inr, append_assoc, append-nil, length-append, arith}
 use Rattle.std.proofs.lemmas.Bool.Decides.{eqb_tells}
 use Rattle.std.proofs.lemmas.List.{map-append}
 use Rattle.laws_real_time.specs.declared.moments.Deed.{Deed}
@@ -37,13 +37,7 @@ module _ (first : Moments) (over : IsOver first) where
 
   begun_by_later : (time late : ℕ) (moment : Moment) (deed : Deed) → late ≡ time + count
       → begun_by late moment deed ≡ begun_later count (begun_by time moment deed)
-  begun_by_later time late moment (Begins command) e =
-      ap (λ n. Some record {
-        time = n;
-        length = moment.length;
-        changes = moment.changes;
-        command = command;
-      }) e
+  begun_by_later time late moment (Begins command) e = grind arith
   begun_by_later time late moment (Returns call) e = refl
   begun_by_later time late moment GivesUp e = refl
 
@@ -68,14 +62,7 @@ module _ (first : Moments) (over : IsOver first) where
   ended_by_later : (o : Option Begun) (time late : ℕ) (moment : Moment) (deed : Deed)
       → late ≡ time + count → ended_by (begun_later count o) late moment deed
       ≡ map (ended_later count) (ended_by o time moment deed)
-  ended_by_later (Some begun) time late moment (Returns call) e =
-      ap (λ n. record {
-        caller = moment.caller;
-        begun = record begun { time = begun.time + count };
-        call = call;
-        time = n;
-        changes = moment.changes;
-      } ∷ []) e
+  ended_by_later (Some begun) time late moment (Returns call) e = grind arith
   ended_by_later (Some begun) time late moment (Begins command) e = refl
   ended_by_later (Some begun) time late moment GivesUp e = refl
   ended_by_later None time late moment (Returns call) e = refl
@@ -103,9 +90,7 @@ module _ (first : Moments) (over : IsOver first) where
 
   pub returned_both : (moments : Moments) → returned_calls (moments ++ first)
       ≡ returned_calls first ++ map (timed_later count) (returned_calls moments)
-  returned_both moments = ap (map timed) (ended_both moments)
-      ∙ map-append timed (ended first) (map (ended_later count) (ended moments))
-      ∙ ap (λ xs. returned_calls first ++ xs) (timed_both (ended moments))
+  returned_both moments = grind (arith, ended_both, map-append, timed_both)
 
   may_later : (o : Option Begun) (deed : Deed) → MayDo o deed → MayDo (begun_later count o) deed
   may_later None (Begins command) h = tt

@@ -66,8 +66,7 @@ module _ (pairs : List Pair) (words : ℕ) (opens : CanOpen pairs words) where
   on : (log : Log) (event : Event) → EachEnabled (start pairs words) (event ∷ log)
       → Each (Counted (state_of pairs words log) log) (numbers log)
       → Each (Counted (state_of pairs words (event ∷ log)) (event ∷ log)) (numbers log)
-  on log event h all = each_on (state_of pairs words log) (state_of pairs words (event ∷ log))
-      (grow_after pairs words log event h) log event (numbers log) all
+  on log event h all = grind (arith, each_on, grow_after)
 
   -- no row begins at the second word of a change
   second_word : (log : Log) → EachEnabled (start pairs words) log → (base : ℕ) (r : ChangeRow)
@@ -115,17 +114,11 @@ module _ (pairs : List Pair) (words : ℕ) (opens : CanOpen pairs words) where
   fresh_mark : (log : Log) (caller node : ℕ)
       → EachEnabled (start pairs words) (Mark caller node ∷ log)
       → Counted (state_of pairs words log) log node → ⊥
-  fresh_mark log caller node h (of_install other r e is) =
-      not_both ((state_of pairs words log).pieces node) h.1.row r h.1.published
-      (subst (λ b. (state_of pairs words log).pieces b ≡ Some (Change r)) (sym is) e)
+  fresh_mark log caller node h (of_install other r e is) = grind (arith, not_both)
   fresh_mark log caller node h (of_resolve other r e before is) =
       second_word log h.0 other r e node (size_of (Inner h.1.row))
       ((placed pairs words log h.0).published node (Inner h.1.row) h.1.published) is
-  fresh_mark log caller node h (of_mark other r e shut is) =
-      let same : other ≡ node = omega arith in
-      let there = subst (λ b. (state_of pairs words log).pieces b ≡ Some (Inner r)) same e in
-      shut (ap (λ x. x.status) (same_inner ((state_of pairs words log).pieces node) r h.1.row there
-      h.1.published) ∙ h.1.row_open)
+  fresh_mark log caller node h (of_mark other r e shut is) = grind (arith, same_inner)
 
   good : (log : Log) → EachEnabled (start pairs words) log → Good log
   unfolding Good numbers
@@ -226,9 +219,7 @@ module _ (pairs : List Pair) (words : ℕ) (opens : CanOpen pairs words) where
   -- progress is at most the number of words
   pub within_words : (log : Log) → EachEnabled (start pairs words) log → progress log ≤ words
   unfolding Good
-  within_words log h = let all = good log h in
-      let few = distinct_below words (numbers log) all.1 (all_low log h (numbers log) all.0) in
-      let same = as_many log in omega arith
+  within_words log h = grind (arith, good, distinct_below, all_low, as_many)
 
   -- progress is at most `most_progress`, whatever number of words the table has
   pub bounded : (log : Log) → EachEnabled (start pairs words) log → progress log ≤ most_progress

@@ -1,5 +1,5 @@
 -- Okays, Decides and Resolves stay enabled under events of others. Serves their clauses.
-use Rattle.std.proofs.Common.{Bool, List, None, Some, ap, false, if◌then◌else◌, refl, subst, sym, true, ℕ, ⊎_elim, ◌*◌, ◌+◌, ◌∙◌, ◌≡◌, ◌≢◌, length}
+use Rattle.std.proofs.Common.{Bool, List, None, Some, ap, false, if◌then◌else◌, refl, subst, sym, true, ℕ, ⊎_elim, ◌*◌, ◌+◌, ◌∙◌, ◌≡◌, ◌≢◌, length, arith}
 use Rattle.std.proofs.lemmas.Bool.Decides.{eqb_tells}
 use Rattle.ist_core.specs.declared.events.Event.TheVariants.{Decide, Okay, Resolve, Finish, Mark, Pass}
 use Rattle.ist_core.specs.declared.pairs.Pair.{Pair}
@@ -37,8 +37,7 @@ module _ (pairs : List Pair) (words : ℕ) (opens : CanOpen pairs words) (earlie
   change_later : (base : ℕ) (r : ChangeRow) → (state_of pairs words earlier).pieces base ≡ Some
       (Change r) → (s : ChangeRow) × ((state_of pairs words log).pieces base ≡ Some (Change s))
       × ChangeGrows r s
-  change_later base r e = change_there (state_of pairs words earlier).pieces
-      (state_of pairs words log).pieces (grow_between pairs words earlier log h on) base r e
+  change_later base r e = grind (arith, change_there, grow_between)
 
   -- an outcome stays possible
   outcome_later : (base : ℕ) (old new : ChangeRow) (said : Bool)
@@ -153,10 +152,7 @@ module _ (pairs : List Pair) (words : ℕ) (earlier log : Log) (on : GoesOn earl
   row_later : (node : ℕ) (r : InnerRow) → (state_of pairs words earlier).pieces node ≡ Some
       (Inner r) → (s : InnerRow) × ((state_of pairs words log).pieces node ≡ Some (Inner s))
       × (length s.slots ≡ length r.slots)
-  row_later node r e =
-      let it = inner_there (state_of pairs words earlier).pieces
-      (state_of pairs words log).pieces (grow_between pairs words earlier log h on) node r e in
-      (it.0, it.1, it.2.slots)
+  row_later node r e = grind (arith, inner_there, grow_between)
 
   -- a Mark stays enabled if the node is open
   pub mark_stays : (caller node : ℕ) → CanMark (state_of pairs words earlier) earlier caller node
@@ -225,9 +221,7 @@ module _ (pairs : List Pair) (words : ℕ) (opens : CanOpen pairs words) (log : 
   -- no change of the caller is pending
   none_pending : (base : ℕ) (x : ChangeRow) → IsPending (state_of pairs words log) base x
       → x.owner ≢ caller
-  none_pending base x p own =
-      undecided_unresolved pairs words opens log h base x p.published p.unset
-      (all base x p.published own)
+  none_pending base x p own = grind (arith, undecided_unresolved)
 
   -- if all changes of the caller are resolved, none is decided no meanwhile
   pub none_refused : (u : Snapshot) (node : ℕ)

@@ -222,24 +222,13 @@ pub none_refused : (first : Snapshot) (t : Snapshot) (log : Log) (caller base : 
     → (change : ChangeRow) → first_change rows ≡ Some change
     → NoneRefused t (state first log) caller change.node
 none_refused first t log caller base rows g can change is at old new p own on e refused =
-    let u = state first log in let it = change_there t.pieces u.pieces g at old p.published in
-    let same : it.0 ≡ new = same_change (u.pieces at) it.0 new it.1 e in
-    let change_is : change ≡ can.change = same_Some change can.change
-    (sym is ∙ ap first_change can.rows_are) in
-    let owner : new.owner ≡ caller = ap (λ x. x.owner) (sym same) ∙ ap (λ x. x.owner) it.2.others
-    ∙ own in
-    let node : new.node ≡ can.change.node =
-    ap (λ x. x.node) (sym same) ∙ ap (λ x. x.node) it.2.others ∙ on ∙ ap (λ x. x.node) change_is in
-    can.unrefused at new e owner node refused
+    grind (arith, change_there, same_change, same_Some)
 
 -- if an Okay is enabled, its change is undecided
 pub undecided_needed : (t : Snapshot) (caller base : ℕ) → CanOkay t caller base → IsStillUndecided t base
-undecided_needed t caller base can change e =
-    ap (λ x. x.decision) (same_change (t.pieces base) change can.change e can.pending.published)
-    ∙ can.pending.unset
+undecided_needed t caller base can change e = grind (arith, same_change)
 
 -- if a Pass is enabled, its node is marked
 pub mark_needed : (t : Snapshot) (caller node i word : ℕ) → CanPass t caller node i word
     → IsMarked t node
-mark_needed t caller node i word can row e =
-    ap (λ x. x.status) (same_inner (t.pieces node) row can.row e can.published) ∙ can.marked
+mark_needed t caller node i word can row e = grind (arith, same_inner)

@@ -1,6 +1,6 @@
 -- What a caller holds stays while others make events. Serves each clause on events that take held
 -- rows.
-use Rattle.std.proofs.Common.{Some, ap, arith, if◌then◌else◌, length, slice_get, subst, ℕ, ⊎_elim, ◌+◌, ◌∙◌, ◌≡◌, ◌≢◌, List, Bool, [], false, filter, inl, inr, map, not, refl, sym, true, ◌++◌, ◌==◌, ◌∷◌, None}
+use Rattle.std.proofs.Common.{Some, ap, arith, if◌then◌else◌, length, slice_get, subst, ℕ, ◌+◌, ◌∙◌, ◌≡◌, ◌≢◌, List, Bool, [], false, filter, inl, inr, map, not, refl, sym, true, ◌++◌, ◌==◌, ◌∷◌, None}
 use Rattle.std.proofs.lemmas.Bool.Decides.{eqb_tells}
 use Rattle.ist_core.specs.declared.pairs.Pair.{Pair}
 use Rattle.ist_core.specs.declared.states.InnerRow.{InnerRow}
@@ -11,8 +11,8 @@ use Rattle.ist_core.specs.declared.lists.HeldRow.{HeldRow}
 use Rattle.ist_core.specs.declared.lists.Row.{Row}
 use Rattle.ist_core.specs.LogTerms.{EachEnabled, state_of, Log, IsShown, Among, Enabled, state, HoldsRow, HoldsRows, Snapshot, bases_of, sizes_held, without, Later, whose, no_more, one_more, GoesOn}
 use Rattle.ist_core.specs.Naming.{HasDegree}
-use Rattle.ist_core.specs.WordTerms.{Inner, as_inner, words_of, anchor, anchor_slot_place, SlotHolds, in_anchor, in_row, start, as_change, slot_place}
-use Rattle.ist_core.specs.TreeTerms.{place_in, place_of_slot, HoldsSizes, AllGrow, Touch, touch_of}
+use Rattle.ist_core.specs.WordTerms.{Inner, words_of, anchor, SlotHolds, in_anchor, in_row, start, slot_place}
+use Rattle.ist_core.specs.TreeTerms.{place_of_slot, HoldsSizes, AllGrow, Touch, touch_of}
 use Rattle.ist_core.proofs.AllPlaceLemmas.{get-words_of_slot, anchor_free, shaped, no_row}
 use Rattle.ist_core.proofs.AllLogLemmas.{anchor_word, row_word, rows_holder, lost_holder, held-resolved, enabled_before, grow_between, inner_there, get_alike}
 use Rattle.std.specs.List.{list_any}
@@ -29,25 +29,13 @@ module _ (pairs : List Pair) (words : ℕ) (log : Log)
   -- the place of a slot
   slot_at : (node i : ℕ) (r : InnerRow) → (state_of pairs words log).pieces node ≡ Some (Inner r)
       → place_of_slot (state_of pairs words log) node i ≡ node + (3 + r.degree + i)
-  slot_at node i r e =
-      let out : node ≢ anchor = λ a. no_row (state_of pairs words log).pieces node r
-      (anchor_free pairs words log enabled) a e in
-      ⊎_elim (λ same. absurd (out same.1))
-      (λ other.
-      ap (λ b. if b then anchor_slot_place else place_in node i
-      (as_inner ((state_of pairs words log).pieces node))) other.0
-      ∙ ap (λ o. place_in node i (as_inner o)) e ∙ sums node r.degree)
-      (eqb_tells node anchor)
-    where
-      sums : (base d : ℕ) → base + 3 + d + i ≡ base + (3 + d + i)
-      sums base d = omega arith
+  slot_at node i r e = grind (arith, no_row, anchor_free, eqb_tells)
 
   -- the word of a slot is shown at its place
   pub slot_word : (node i w : ℕ) → SlotHolds (state_of pairs words log) node i w → (v : ℕ)
       → IsShown (state_of pairs words log) (place_of_slot (state_of pairs words log) node i) v
       → v ≡ w
-  slot_word node i w (in_anchor a b e) v has =
-      anchor_word pairs words log enabled _ v has (ap (λ n. place_of_slot (state_of pairs words log) n i) a) ∙ e
+  slot_word node i w (in_anchor a b e) v has = grind (arith, anchor_word)
   slot_word node i w (in_row r e g) v has =
       let degree : HasDegree r = shaped pairs words log enabled node (Inner r) e in
       let keys = degree.keys in let same : 4 + length r.keys + i ≡ 3 + r.degree + i = omega arith in
@@ -111,12 +99,8 @@ own_step first log (Lose caller bases) can s number other =
     own_kept (state first log) number caller bases (λ e. other (ap Caller e))
     (lost_holder (state first log) log caller bases s can)
 own_step first log (Reserve caller base size) can s number other =
-    filter_last (λ h. h.caller == number) (state first log).held
-    record { caller = caller; base = base; size = size }
-    (ne_eqb caller number (λ e. other (ap Caller e)))
-own_step first log (Resolve caller change) can s number other =
-    ap (filter (λ h. h.caller == number))
-    (held-resolved (state first log) (as_change ((state first log).pieces change)))
+    grind (arith, filter_last, ne_eqb)
+own_step first log (Resolve caller change) can s number other = grind (arith, held-resolved)
 own_step first log _ can s number other = refl
 
 module _ (pairs : List Pair) (words : ℕ) (number : ℕ) where
@@ -143,12 +127,7 @@ module _ (pairs : List Pair) (words : ℕ) (number : ℕ) where
       → HoldsRow (state_of pairs words earlier) number base size
       → HoldsRow (state_of pairs words log) number base size
   holds_later {earlier = earlier} {log = log} later h base size i =
-      let row : HeldRow = record { caller = number; base = base; size = size } in
-      let own = ⊎_elim (λ same. same.0) (λ other. absurd (other.1 refl))
-      (eqb_tells number number) in
-      (among-filter (λ x. x.caller == number) row (state_of pairs words log).held
-      (subst (Among row) (sym (own_later later h))
-      (among_filter (λ x. x.caller == number) row (state_of pairs words earlier).held i own))).0
+      grind (arith, eqb_tells, among-filter, own_later, among_filter)
 
   -- rows that a caller holds stay held
   pub rows_later : {earlier log : Log} → Later (Caller number) earlier log
@@ -176,24 +155,18 @@ module _ (pairs : List Pair) (words : ℕ) (number : ℕ) where
 -- the word of an event, if its touch is known
 pub finds : (t u : Snapshot) (event : Event) (a : Touch) → touch_of t event ≡ Some a
     → FindsItsWord t u event → IsShown u a.place a.found
-finds t u event a is f = let same : f.touch ≡ a = cc (sym f.is ∙ is) in
-    subst (λ x. IsShown u x.place x.found) same f.found
+finds t u event a is f = grind arith
 
 -- if there is a row at the node, the place of its slot depends on the degree
 pub place_of_row : (t : Snapshot) (node i : ℕ) (r : InnerRow) → t.pieces anchor ≡ None
     → t.pieces node ≡ Some (Inner r) → place_of_slot t node i ≡ slot_place node r.degree i
-place_of_row t node i r free e = ⊎_elim (λ same. absurd (no_row t.pieces node r free same.1 e))
-    (λ other.
-    ap (λ b. if b then anchor_slot_place else place_in node i (as_inner (t.pieces node))) other.0
-    ∙ ap (λ o. place_in node i (as_inner o)) e)
-    (eqb_tells node anchor)
+place_of_row t node i r free e = grind (arith, no_row, eqb_tells)
 
 -- what slot i of a row holds
 pub slot_of_row : (t : Snapshot) (node i word : ℕ) (r : InnerRow) → t.pieces anchor ≡ None
     → t.pieces node ≡ Some (Inner r) → SlotHolds t node i word → slice_get r.slots i ≡ Some word
 slot_of_row t node i word r free e (in_anchor a b c) = absurd (no_row t.pieces node r free a e)
-slot_of_row t node i word r free e (in_row s f at) =
-    ap (λ x. slice_get x.slots i) (same_inner (t.pieces node) r s e f) ∙ at
+slot_of_row t node i word r free e (in_row s f at) = grind (arith, same_inner)
 
 module _ (pairs : List Pair) (words : ℕ) (earlier log : Log) (on : GoesOn earlier log)
     (h : EachEnabled (start pairs words) log) where
@@ -204,9 +177,7 @@ module _ (pairs : List Pair) (words : ℕ) (earlier log : Log) (on : GoesOn earl
   pub place_later : (node i word : ℕ) → SlotHolds (state_of pairs words earlier) node i word
       → place_of_slot (state_of pairs words log) node i ≡ place_of_slot
       (state_of pairs words earlier) node i
-  place_later node i word (in_anchor a b c) =
-      ap (λ n. place_of_slot (state_of pairs words log) n i) a
-      ∙ sym (ap (λ n. place_of_slot (state_of pairs words earlier) n i) a)
+  place_later node i word (in_anchor a b c) = grind arith
   place_later node i word (in_row r e at) =
       let it = inner_there (state_of pairs words earlier).pieces
       (state_of pairs words log).pieces grows node r e in

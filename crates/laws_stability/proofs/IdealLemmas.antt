@@ -1,6 +1,6 @@
 -- An ideal subtree of rows that aren't published yet is still one after others have published
 -- theirs. Serves the clauses on Root and Place.
-use Rattle.std.proofs.Common.{Bool, List, None, Option, Some, [], false, if◌then◌else◌, inl, inr, refl, subst, sym, true, ℕ, ⊎_elim, ◌==◌, ◌∙◌, ◌∷◌, ◌≡◌, ◌⊎◌, ap, length, ◌+◌, ◌≢◌}
+use Rattle.std.proofs.Common.{Bool, List, None, Option, Some, [], false, if◌then◌else◌, inl, inr, refl, subst, sym, true, ℕ, ◌==◌, ◌∙◌, ◌∷◌, ◌≡◌, ◌⊎◌, ap, length, ◌+◌, ◌≢◌, arith}
 use Rattle.ist_core.specs.declared.lists.Row.{Row}
 use Rattle.ist_core.specs.declared.states.LeafRow.{LeafRow}
 use Rattle.ist_core.specs.declared.events.Event.{Event}
@@ -8,7 +8,7 @@ use Rattle.ist_core.specs.declared.events.Event.TheVariants.{Draw, Place, Root}
 use Rattle.ist_core.specs.declared.events.Who.TheVariants.{Caller}
 use Rattle.ist_core.specs.declared.lists.HeldRow.{HeldRow}
 use Rattle.ist_core.specs.declared.pairs.Pair.{Pair}
-use Rattle.ist_core.specs.TreeTerms.{IsRoot, root_top, root_whole, PlacedLeaf, CanDraw, CanPlace, CanRoot, AllGrow, HasLeaves, IsFinishedWith, touch_in_root, touch_of_draw, touch_of_place}
+use Rattle.ist_core.specs.TreeTerms.{IsRoot, root_top, root_whole, PlacedLeaf, CanDraw, CanPlace, CanRoot, AllGrow, HasLeaves, IsFinishedWith, touch_in_root, touch_of_place}
 use Rattle.ist_core.specs.LogTerms.{Among, bases_of, CanOpen, EachEnabled, state_of, Draws, GoesOn, Happened, Log, HoldsRow, HoldsRows, Snapshot, Later, whose, IsShown}
 use Rattle.ist_core.specs.WordTerms.{IsIdeal, Inner, Leaf, Piece, Pieces, inner_of, with_inners, with_row, Ref, Rebuild, as_rebuild, InnerAt, ref_of, unset_word, rebuild_draw_offset, in_row, start}
 use Rattle.ist_core.proofs.AllWordLemmas.{no_value, each-among}
@@ -53,15 +53,12 @@ module _ (ps qs : Pieces) (rows : List Row)
   -- a leaf that is in the first is also in the second
   leaf_put : (base : ℕ) (r : LeafRow) → with_inners ps rows base ≡ Some (Leaf r)
       → with_inners qs rows base ≡ Some (Leaf r)
-  leaf_put base r e = ⊎_elim (λ put. put) (λ stood. stood.1 ∙ leaf base r stood.0)
-      (put_or_stood ps qs rows base (Leaf r) e)
+  leaf_put base r e = grind (arith, put_or_stood)
 
   -- a row that is put in the first is also put in the second
   inner_put : (base : ℕ) (p : Piece) → Among base (bases_of rows)
       → with_inners ps rows base ≡ Some p → with_inners qs rows base ≡ Some p
-  inner_put base p own e =
-      ⊎_elim (λ put. put) (λ stood. absurd (no_value (ps base) p (free base own) stood.0))
-      (put_or_stood ps qs rows base p e)
+  inner_put base p own e = grind (arith, no_value, put_or_stood)
 
   -- what is in the first of the leaves and of the rows is also in the second
   stand : StandInOther (with_inners ps rows) (with_inners qs rows) (bases_of rows)
@@ -71,9 +68,7 @@ module _ (ps qs : Pieces) (rows : List Row)
   pub ideal_put : (ref : Ref) (leaves : List PlacedLeaf) (above : ℕ)
       → IsIdeal (with_inners ps rows) ref leaves above (bases_of rows)
       → IsIdeal (with_inners qs rows) ref leaves above (bases_of rows)
-  ideal_put ref leaves above ideal =
-      ideal_kept (with_inners ps rows) (with_inners qs rows) ref leaves above (bases_of rows) ideal
-      stand
+  ideal_put ref leaves above ideal = grind (arith, ideal_kept, stand)
 
   -- a root over some rows is one over others with the same leaves
   pub root_put : (word k : ℕ) (leaves : List PlacedLeaf) (target : ℕ)
@@ -120,20 +115,15 @@ module _ (pairs : List Pair) (words : ℕ) (opens : CanOpen pairs words) {earlie
       → IsFinished (state_of pairs words earlier) old
       → HasLeaves (state_of pairs words earlier).pieces (Some (InnerAt old)) leaves
       → HasLeaves (state_of pairs words log).pieces (Some (InnerAt new)) leaves
-  leaves_later old new same leaves done reached =
-      subst (λ n. HasLeaves (state_of pairs words log).pieces (Some (InnerAt n)) leaves) (sym same)
-      (finished_leaves_stay pairs words opens earlier log on h old leaves done reached)
+  leaves_later old new same leaves done reached = grind (arith, finished_leaves_stay, on)
 
   finished_later : (old new k : ℕ) → new ≡ old → IsFinishedWith (state_of pairs words earlier) old k
       → IsFinishedWith (state_of pairs words log) new k
-  finished_later old new k same f =
-      subst (λ n. IsFinishedWith (state_of pairs words log) n k) (sym same)
-      (finished_with_grows (state_of pairs words earlier) (state_of pairs words log) grows old k f)
+  finished_later old new k same f = grind (arith, finished_with_grows, grows)
 
   leaf_later : (base : ℕ) (r : LeafRow) → (state_of pairs words earlier).pieces base ≡ Some (Leaf r)
       → (state_of pairs words log).pieces base ≡ Some (Leaf r)
-  leaf_later = leaf_there (state_of pairs words earlier).pieces
-      (state_of pairs words log).pieces grows
+  leaf_later = grind (arith, leaf_there, grows)
 
   -- a Root stays enabled if the rebuild has no root
   pub root_stays : (rebuild word : ℕ) (rows : List Row)
@@ -196,13 +186,7 @@ module _ (pairs : List Pair) (words : ℕ) (opens : CanOpen pairs words) {earlie
       (state_of pairs words earlier) earlier caller rebuild part
       → FindsItsWord (state_of pairs words earlier) (state_of pairs words log)
       (Draw caller rebuild part) → CanDraw (state_of pairs words log) log caller rebuild part
-  draw_stays rebuild part can f =
-      let has = finds (state_of pairs words earlier) (state_of pairs words log)
-      (Draw caller rebuild part) _
-      (ap (λ o. touch_of_draw rebuild (as_rebuild o)) can.published) f in
-      next_draw_stays rebuild part part can
-      (subst (λ w. IsShown (state_of pairs words log) (rebuild + rebuild_draw_offset) w)
-      (sym can.part_is) has)
+  draw_stays rebuild part can f = grind (arith, finds, next_draw_stays)
 
   -- a Place stays enabled if the slot is Unset
   pub place_stays : (rebuild i word : ℕ) (rows : List Row)

@@ -1,5 +1,5 @@
 -- An Install stays enabled under events of others. Serves its clause.
-use Rattle.std.proofs.Common.{List, Some, ap, inl, inr, length, slice_get, subst, sym, ℕ, ⊎_elim, ◌∙◌, ◌≡◌, ◌≢◌, ◌≤◌}
+use Rattle.std.proofs.Common.{List, Some, ap, length, slice_get, subst, sym, ℕ, ◌∙◌, ◌≡◌, ◌≢◌, ◌≤◌, arith}
 use Rattle.ist_core.specs.declared.events.Event.TheVariants.{Install}
 use Rattle.ist_core.specs.declared.events.Who.TheVariants.{Caller}
 use Rattle.ist_core.specs.declared.lists.Row.{Row}
@@ -80,22 +80,7 @@ module _ (pairs : List Pair) (words : ℕ) (opens : CanOpen pairs words) {earlie
   starts_later : (change : ChangeRow) (fresh : List Row)
       → Starts (state_of pairs words earlier) change fresh
       → Starts (state_of pairs words log) change fresh
-  starts_later change fresh s =
-      let it = inner_there (state_of pairs words earlier).pieces
-      (state_of pairs words log).pieces grows s.target s.row s.published in
-      record {
-        kind = s.kind;
-        key = s.key;
-        value = s.value;
-        target = s.target;
-        row = it.0;
-        from = s.from;
-        published = it.1;
-        due = ⊎_elim (λ d. inl (due_later s.row it.0 it.2 d)) (λ a. inr a) s.due;
-        rebuild = s.rebuild;
-        to = s.to;
-        fresh_are = s.fresh_are;
-      }
+  starts_later change fresh s = grind (arith, inner_there, grows, due_later)
 
   -- what a finish needs stays true
   finishes_later : (change : ChangeRow) (fresh : List Row)

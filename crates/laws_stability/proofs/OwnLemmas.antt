@@ -38,8 +38,7 @@ pub rises : (P : Event → Type 0) → ((event : Event) → P event → advance_
     → (earlier log : Log) → GoesOn earlier log → ¬ (Happened P earlier) → Happened P log
     → progress earlier < progress log
 rises P counts earlier _ same_log none happened = absurd (none happened)
-rises P counts earlier _ (one_event {log = log} event g) none (inl now) =
-    let before = never_falls earlier log g in let one = counts event now in omega arith
+rises P counts earlier _ (one_event {log = log} event g) none (inl now) = grind (arith, never_falls)
 rises P counts earlier _ (one_event {log = log} event g) none (inr before) =
     let less = rises P counts earlier log g none before in omega arith
 
@@ -57,8 +56,7 @@ resolving earlier log g base = rises (Resolves base) (resolve_counts base) earli
 -- if a change was installed between two logs, the table has come further
 pub installing : (earlier at log : Log) (caller base : ℕ) (rows : List Row) → GoesOn earlier at
     → GoesOn (Install caller base rows ∷ at) log → progress earlier < progress log
-installing earlier at log caller base rows g more = let before = never_falls earlier at g in
-    let following = never_falls (Install caller base rows ∷ at) log more in omega arith
+installing earlier at log caller base rows g more = grind (arith, never_falls)
 
 -- a change in the second state was also a change in the first
 pub record Was (t u : Snapshot) (base : ℕ) (x : ChangeRow) : Type 0 where
@@ -208,11 +206,7 @@ module _ (pairs : List Pair) (words : ℕ) (opens : CanOpen pairs words) where
 
     unread : (rebuild other : ℕ) → SlotHolds t node i other
         → past_change t.pieces (ref_of other) ≡ Some (RebuildAt rebuild) → ⊥
-    unread rebuild other there reads =
-        let same = slot_once t node i word other (anchor_free pairs words log h) here there in
-        inner_no_rebuild (past_change t.pieces (ref_of word)) child rebuild
-        (ap (past_change t.pieces) names_it)
-        (ap (λ w. past_change t.pieces (ref_of w)) same ∙ reads)
+    unread rebuild other there reads = grind (arith, slot_once, anchor_free, inner_no_rebuild)
 
     uncalled : IsCalled t log child → ⊥
     uncalled (as_target rebuild target started) =

@@ -1,11 +1,11 @@
 -- A slot that is set stays set: no event puts Unset into a slot. Serves the clause on Install.
-use Rattle.std.proofs.Common.{Bool, List, false, if◌then◌else◌, subst, sym, true, ℕ, ⊎_elim, ◌*◌, ◌+◌, ◌==◌, ◌∙◌, ◌∷◌, ◌≡◌, ◌≢◌, [], ap, inl, inr, refl, ◌++◌, ◌<◌, ◌≤◌}
+use Rattle.std.proofs.Common.{Bool, List, false, if◌then◌else◌, subst, sym, true, ℕ, ⊎_elim, ◌*◌, ◌+◌, ◌==◌, ◌∷◌, ◌≡◌, ◌≢◌, ap, inr, ◌++◌, ◌<◌, arith}
 use Rattle.ist_core.specs.declared.events.Event.{Event}
 use Rattle.ist_core.specs.declared.events.Event.TheVariants.{Install, Place, Resolve, Lose, Reserve, Root}
 use Rattle.ist_core.specs.declared.pairs.Pair.{Pair}
 use Rattle.ist_core.specs.declared.states.ChangeRow.{ChangeRow}
 use Rattle.ist_core.specs.declared.events.Who.TheVariants.{Caller, Maker}
-use Rattle.ist_core.specs.LogTerms.{side_of, CanOpen, EachEnabled, state_of, GoesOn, Log, one_event, same_log, Snapshot, CanEnter, CanReserve, AreBuilds, IsBuilding, IsFair, last_build, no_build, stuck_build, state, Later, whose, no_more, one_more}
+use Rattle.ist_core.specs.LogTerms.{side_of, CanOpen, EachEnabled, state_of, GoesOn, Log, one_event, same_log, Snapshot, CanEnter, CanReserve, AreBuilds, IsBuilding, last_build, no_build, stuck_build, state, Later, whose, no_more, one_more}
 use Rattle.ist_core.specs.WordTerms.{ChangeAt, unset_word, word_of, SlotHolds, start, decided_yes, pair_words}
 use Rattle.ist_core.proofs.AllPlaceLemmas.{anchor_free, WritesSlot, WritesNoSlot, install_writes, place_writes, resolve_writes, slot_stays}
 use Rattle.ist_core.proofs.AllLogLemmas.{change_set, room_set, set_by, grow_between, inner_there, rebuild_there, words_same, next_word, goes_on_by}
@@ -20,16 +20,11 @@ use Rattle.laws_stability.proofs.LaterLemmas.{callers_later, known_later}
 -- neither side of a change is Unset
 sides_set : (t : Snapshot) (change : ChangeRow) → IsFormed t change
     → (change.from ≢ unset_word) × (change.to ≢ unset_word)
-sides_set t change (of_leaf_put h) =
-    (room_set t change.key change.from h.from, set_by change.to _ h.to (λ q. cc))
-sides_set t change (of_pair_put h) =
-    (set_by change.from _ h.from (λ q. cc), set_by change.to _ h.to (λ q. cc))
-sides_set t change (of_remove h) =
-    (set_by change.from _ h.from (λ q. cc), set_by change.to _ h.to (λ q. cc))
-sides_set t change (of_start h) =
-    (set_by change.from _ h.from (λ q. cc), set_by change.to _ h.to (λ q. cc))
-sides_set t change (of_finish h) =
-    (set_by change.from _ h.from (λ q. cc), λ e. h.set (sym h.to ∙ e))
+sides_set t change (of_leaf_put h) = grind (arith, room_set, set_by)
+sides_set t change (of_pair_put h) = grind (arith, set_by)
+sides_set t change (of_remove h) = grind (arith, set_by)
+sides_set t change (of_start h) = grind (arith, set_by)
+sides_set t change (of_finish h) = grind (arith, set_by)
 
 -- the side that a formed change leaves isn't Unset
 side_set : (t : Snapshot) (change : ChangeRow) → IsFormed t change → side_of change ≢ unset_word
@@ -141,8 +136,7 @@ builds_later t u g same next _ (stuck_build {sizes = sizes} {more = more} stuck 
 beaten_step : (caller : ℕ) (sizes : List ℕ) (event : Event) (log : Log) → whose event ≢ Caller caller
     → IsBeaten caller sizes log → IsBeaten caller sizes (event ∷ log)
 beaten_step caller sizes (Root c rebuild word rows) log other b = ((λ e. other (ap Caller e)), inr b)
-beaten_step caller sizes (Place c rebuild i word rows) log other b =
-    ((λ e. other (ap Caller e)), inr b)
+beaten_step caller sizes (Place c rebuild i word rows) log other b = grind arith
 beaten_step caller sizes (Lose c bases) log other b = ((λ e. other (ap Caller e)), b)
 beaten_step caller sizes _ log other b = b
 
@@ -155,8 +149,7 @@ beaten_later caller sizes (one_more {log = log} event later other) b =
 -- an Enter stays enabled
 pub enter_stays : (first : Snapshot) {earlier log : Log} → Later Maker earlier log → (caller : ℕ)
     → CanEnter (state first earlier) caller → CanEnter (state first log) caller
-enter_stays first later caller can =
-    record { number = can.number ∙ sym (callers_later first later); below_limit = can.below_limit }
+enter_stays first later caller can = grind (arith, callers_later)
 
 module _ (pairs : List Pair) (words : ℕ) (opens : CanOpen pairs words) {earlier log : Log}
     (caller : ℕ) (later : Later (Caller caller) earlier log)
@@ -165,28 +158,18 @@ module _ (pairs : List Pair) (words : ℕ) (opens : CanOpen pairs words) {earlie
   pub reserve_stays : (base size : ℕ) → CanReserve (state_of pairs words earlier) caller base size
       → FindsItsWord (state_of pairs words earlier) (state_of pairs words log)
       (Reserve caller base size) → CanReserve (state_of pairs words log) caller base size
-  reserve_stays base size can f = let t = state_of pairs words earlier in
-      let u = state_of pairs words log in let has = finds t u (Reserve caller base size) _ refl f in
-      let now : base ≡ u.next = next_word pairs words log h _ _ has refl in
-      let next : u.next ≡ t.next = sym now ∙ can.base_is in
-      let same : u.words ≡ t.words = words_same pairs words opens log
-      ∙ sym (words_same pairs words opens earlier) in
-      let room = can.room in record {
-        known = known_later (start pairs words) (goes_on_by later) caller can.known;
-        base_is = now;
-        room = subst (λ n. n + size ≤ u.words) (sym next)
-            (subst (λ n. t.next + size ≤ n) (sym same) room);
-        fair = subst (λ sizes. IsFair u (sizes ++ size ∷ []))
-            (sym (sizes_later pairs words caller later h))
-            record {
-              building = can.fair.building;
-              spare = can.fair.spare;
-              merge = can.fair.merge;
-              builds = builds_later t u (grow_between pairs words earlier log h (goes_on_by later)) same next can.fair.building can.fair.builds;
-              few = can.fair.few;
-              one_each = can.fair.one_each;
-            };
-      }
+  reserve_stays base size can f =
+      grind (
+        arith,
+        finds,
+        next_word,
+        words_same,
+        known_later,
+        goes_on_by,
+        sizes_later,
+        builds_later,
+        grow_between,
+      )
 
   pair_later : (bases : List ℕ) → LosesPair (state_of pairs words earlier) caller bases
       → LosesPair (state_of pairs words log) caller bases
@@ -217,7 +200,4 @@ module _ (pairs : List Pair) (words : ℕ) (opens : CanOpen pairs words) {earlie
   -- a Lose stays enabled
   pub lose_stays : (bases : List ℕ) → CanLose (state_of pairs words earlier) earlier caller bases
       → CanLose (state_of pairs words log) log caller bases
-  lose_stays bases can = record {
-    known = known_later (start pairs words) (goes_on_by later) caller can.known;
-    cause = ⊎_elim (λ p. inl (pair_later bases p)) (λ b. inr (build_later bases b)) can.cause;
-  }
+  lose_stays bases can = grind (arith, known_later, goes_on_by, pair_later, build_later)
