@@ -1,9 +1,9 @@
 #!/usr/bin/env python3
-"""Runs try_growth again and again for this many minutes, with first trees of 64 to 10,000 words.
+"""Runs try_stress on maps again and again for this many minutes, with first trees of 64 to 10,000 words.
 
     python3 bench/growth.py PROGRAM MINUTES [SEED]
 
-PROGRAM is the built program: `python3 tools/build.py try_growth` makes out/try_growth. Each run has a seed of its own, from SEED (1)
+PROGRAM is the built program: `python3 tools/build.py try_stress` makes out/try_stress. Each run has a seed of its own, from SEED (1)
 on. One whose status isn't 0 is named with its words and what it wrote. Then comes a table, one row a plan: how often it ran, the
 calls that were answered, and the words of the largest last tree. The status is 0 where each run's was.
 """
@@ -13,7 +13,7 @@ import time
 
 from stress import run
 
-# runs, workers, calls of each in a run, keys, words of the first tree
+# rounds, passes, calls of each in a round, keys, words of the first tree
 PLANS = [
     (4, 4, 1_000, 100, 64),
     (4, 4, 1_000, 2, 64),
@@ -23,7 +23,7 @@ PLANS = [
     (2, 4, 5_000, 5_000, 10_000),
     (20, 3, 100, 20, 64),
 ]
-OPTIONS = ("--runs", "--workers", "--calls", "--span", "--words")
+OPTIONS = ("--rounds", "--passes", "--calls", "--span", "--words", "--map")
 SAID = re.compile(r"answered: (\d+) calls; at the end (\d+) keys and (\d+) words")
 
 
@@ -33,14 +33,14 @@ def main(program, minutes, seed=1):
     number, failed = int(seed), 0
     while time.monotonic() < end:
         plan = PLANS[number % len(PLANS)]
-        said = run(program, plan, number, OPTIONS, SAID)
+        said = run(program, (*plan, 1), number, OPTIONS, SAID)
         number += 1
         if said is None:
             failed += 1
             continue
         row = sums[plan]
         sums[plan] = [row[0] + 1, row[1] + said[0], max(row[2], said[2])]
-    print("| runs | workers | calls | keys | words | times | answered | last words |\n" + "|---" * 8 + "|")
+    print("| rounds | passes | calls | keys | words | times | answered | last words |\n" + "|---" * 8 + "|")
     for plan in PLANS:
         print("| " + " | ".join(f"{it:,}" for it in (*plan, *sums[plan])) + " |")
     times, answered = (sum(row[k] for row in sums.values()) for k in (0, 1))

@@ -1,5 +1,5 @@
 #!/usr/bin/env python3
-"""Small runs of the programs over the tree, try_stress, try_growth and try_bench, and words that they must refuse.
+"""Small runs of the programs over the tree, try_stress and try_bench, and words that they must refuse.
 
     python3 tests/tree_programs.py
 
@@ -99,7 +99,7 @@ def bench(path):
 
 GREW = re.compile(r"answered: (\d+) calls; at the end (\d+) keys and (\d+) words\n")
 
-# Runs, workers, calls of each in a run, keys, words of the first tree, whether it grows.
+# Rounds, passes, calls of each in a round, keys, words of the first tree, whether it grows.
 GROWTHS = [
     (3, 1, 500, 100, 64, True),
     (2, 4, 500, 100, 64, True),
@@ -110,17 +110,17 @@ GROWTHS = [
 
 
 def growth(path):
-    for runs, workers, calls, span, words, grows in GROWTHS:
-        told = run(path, runs=runs, workers=workers, calls=calls, span=span, words=words)
+    for rounds, passes, calls, span, words, grows in GROWTHS:
+        told = run(path, map=1, rounds=rounds, passes=passes, calls=calls, span=span, words=words)
         grew = GREW.search(told[2])
-        holds(told[1] == 0 and grew and int(grew[1]) == runs * workers * calls, f"try_growth: {told}")
+        holds(told[1] == 0 and grew and int(grew[1]) == rounds * passes * calls, f"a map: {told}")
         holds(grew and int(grew[2]) <= span and (int(grew[3]) > words) == grows, f"other keys or words: {told}")
-    for options in ({"workers": 0}, {"workers": 65}, {"span": 0}, {"span": 1_000_001}, {"words": 3}, {"words": 268_435_457}):
+    for options in ({"map": 2}, *({"map": 1, **unfit} for unfit in UNFIT[:-1])):
         told = run(path, **options)
-        holds(told[1] == 2 and "answered" not in told[2], f"try_growth: not refused: {told}")
+        holds(told[1] == 2 and "answered" not in told[2], f"a map: not refused: {told}")
 
 
 stress(program("try_stress"))
-growth(program("try_growth"))
+growth(program("try_stress"))
 bench(program("try_bench"))
 end()

@@ -9,7 +9,7 @@ const STATUSES: &str =
     "Statuses: 0 lawful, 1 unlawful, 2 usage, 3 bad form, 4 a failed read or write";
 
 /// What the command-line arguments ask for.
-#[derive(Clone, Copy, Debug, PartialEq, Eq, Drop)]
+#[derive(Drop)]
 pub enum Job<'a> {
     /// Everything was already printed: help, the version, or that the arguments are wrong.
     Done {

@@ -5,7 +5,7 @@ use crate::kinds::fields_of;
 use std::fmt;
 
 /// What is wrong with a line of a wrong form.
-#[derive(Clone, Copy, Debug, PartialEq, Eq, Drop)]
+#[derive(Clone, Copy, Drop)]
 pub enum Fault {
     /// The first line that says something doesn't begin with `start`.
     NoStart,

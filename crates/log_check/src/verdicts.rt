@@ -9,7 +9,7 @@ use std::alloc::{AllocError, Global};
 use std::fmt;
 
 /// What is said of a log.
-#[derive(Clone, Copy, Debug, PartialEq, Eq, Drop)]
+#[derive(Drop)]
 pub enum Verdict {
     /// Each event may come after those before it. The state after the last has this first free
     /// word, this many callers, and this word in the anchor's slot.

@@ -55,7 +55,7 @@ fn slot_word(table: &TreeTable, token: &mut TreeToken) -> u64
     load_top(table, token)
 }
 
-#[derive(Clone, Copy, Debug, PartialEq, Eq, Drop)]
+#[derive(Debug, PartialEq, Drop)]
 struct HelpedTwice {
     words: [u64; 3],
     by_second: Option<Decision>,

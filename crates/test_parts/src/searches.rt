@@ -182,7 +182,7 @@ fn a_search_loads_few_keys_of_a_row_with_more_than_four(rt: HostRuntime) {
 }
 
 // What is found during a put of 1 at 1.
-#[derive(Clone, Copy, Debug, PartialEq, Eq, Drop)]
+#[derive(Debug, PartialEq, Drop)]
 struct Beside {
     // at 1 before the put is installed
     before: Option<u64>,

@@ -18,7 +18,7 @@ use std::alloc::Global;
 
 // What is seen of a rebuild: how many keys its finished target has, whether it was replaced, and
 // what is below the anchor then.
-#[derive(Clone, Copy, Debug, PartialEq, Eq, Drop)]
+#[derive(Debug, PartialEq, Drop)]
 struct RebuiltRow {
     keys: u64,
     replaced: bool,

@@ -29,7 +29,7 @@ use std::alloc::{AllocError, Global};
 
 // What is seen of a rebuild: are the leaves below its finished target the map's leaves, is what is
 // built over them the ideal tree, was it replaced, and is the tree afterwards the ideal tree?
-#[derive(Clone, Copy, Debug, PartialEq, Eq, Drop)]
+#[derive(Debug, PartialEq, Drop)]
 struct Rebuilt {
     leaves: bool,
     part: bool,
@@ -39,7 +39,7 @@ struct Rebuilt {
 
 // What is seen of a tree of some shape: the tags of the first three slots at the moment of building, the
 // rebuild, and the result of the late put.
-#[derive(Clone, Copy, Debug, PartialEq, Eq, Drop)]
+#[derive(Debug, PartialEq, Drop)]
 struct FrozenRow {
     tags: (u64, u64, u64),
     rebuilt: Rebuilt,

@@ -53,7 +53,7 @@ fn unset_slots(table: &TreeTable, token: &mut TreeToken, base: u32) -> (u64, u64
 
 // What is seen of a rebuild of n pairs whose root one caller sets and another fills, and which the
 // first ends: the slots of the root, how many are Unset after each of these steps, and the rest.
-#[derive(Clone, Copy, Debug, PartialEq, Eq, Drop)]
+#[derive(Debug, PartialEq, Drop)]
 struct Shared {
     set: (u64, u64),
     filled: (u64, u64),
@@ -159,7 +159,7 @@ fn a_shared_root_that_one_sets_is_filled_by_another(rt: HostRuntime) {
 
 // What is seen of a rebuild of 300 pairs that two threads help at once: whether both callers found the same
 // one, whether each returned that it was replaced, and whether the tree is then the ideal one.
-#[derive(Clone, Copy, Debug, PartialEq, Eq, Drop)]
+#[derive(Debug, PartialEq, Drop)]
 struct Beside {
     same_rebuild: bool,
     replaced: (bool, bool),

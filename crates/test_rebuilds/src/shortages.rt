@@ -15,7 +15,7 @@ use std::alloc::Global;
 use std::process::Abort;
 
 // The results of starting a rebuild of all pairs, and of helping it.
-#[derive(Clone, Copy, Debug, PartialEq, Eq, Drop)]
+#[derive(Debug, PartialEq, Drop)]
 struct Came {
     // Why the start, or the help, was refused, if it was.
     refused: Option<Full>,

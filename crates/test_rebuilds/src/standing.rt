@@ -26,7 +26,7 @@ const TWENTY: Pair = Pair { key: 20, value: 2 };
 // What is seen if one caller starts the rebuild of the row over both pairs and makes no step, and
 // another puts 7 at the key 10 and removes 20: the rebuild, whether both were carried out, and what
 // is found at the two keys.
-#[derive(Clone, Copy, Debug, PartialEq, Eq, Drop)]
+#[derive(Debug, PartialEq, Drop)]
 struct Still {
     rebuild: Option<u32>,
     updated: bool,
@@ -119,7 +119,7 @@ fn help_where(
 
 // The results of both rebuilds: the node above the lower one, what helping each returned, how many
 // keys the upper one's target had, and whether the tree is then the ideal one.
-#[derive(Clone, Copy, Debug, PartialEq, Eq, Drop)]
+#[derive(Debug, PartialEq, Drop)]
 struct Both {
     parent: u32,
     lower: Option<Result<Helped, Full>>,

@@ -24,7 +24,7 @@ const NINE: Pair = Pair { key: 9, value: 1 };
 // marks with its keys and its status, and its help; the words used after it, the anchor's slot, and
 // whether the ideal tree is there; the help that came too late, with the change row that its caller
 // still holds, and the words used then.
-#[derive(Clone, Copy, Debug, PartialEq, Eq, Drop)]
+#[derive(Debug, PartialEq, Drop)]
 struct TakenTurns {
     starts: (Result<Started, Full>, Result<Started, Full>),
     held: (Option<u32>, Option<u32>),

@@ -37,7 +37,7 @@ fn size(tree: &Closed) -> (u64, u64) {
 }
 
 /// What a test sees of a round and of the shelf after it.
-#[derive(Clone, Copy, Debug, PartialEq, Eq, Drop)]
+#[derive(Debug, PartialEq, Drop)]
 struct ShelfAfter {
     /// How many trees ran full, and the refusal of the first.
     fulls: (usize, Option<Full>),

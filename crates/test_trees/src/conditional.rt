@@ -13,7 +13,7 @@ use std::alloc::{AllocError, Global};
 use std::thread::{Threads, join};
 
 // A conditional update: of a put the key, the expected value and the new one; of a remove the key and the expected value.
-#[derive(Clone, Copy, Debug, PartialEq, Eq, Drop)]
+#[derive(Clone, Copy, Debug, PartialEq, Drop)]
 enum Asked {
     PutIf(u64, Reply, u64),
     RemoveIf(u64, u64),

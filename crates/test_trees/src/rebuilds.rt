@@ -29,7 +29,7 @@ fn put_again(tree: &Tree, pass: &mut Pass, key: u64, first: u64, last: u64) -> b
 }
 
 // What a tree is like at its close.
-#[derive(Clone, Copy, Debug, PartialEq, Eq, Drop)]
+#[derive(Debug, PartialEq, Drop)]
 struct Found {
     used: u64,
     pairs: u64,

@@ -127,7 +127,7 @@ fn keys_taken(tree: &Tree, pass: &mut Pass, looks: bool, keys: u32) -> Result<u6
 }
 
 // What a tree is told after two shots.
-#[derive(Clone, Copy, Debug, PartialEq, Eq, Drop)]
+#[derive(Debug, PartialEq, Drop)]
 struct Told {
     two: (Result<u64, Full>, Result<u64, Full>),
     third: Result<u64, Full>,

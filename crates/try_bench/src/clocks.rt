@@ -15,7 +15,7 @@ pub(crate) struct Moment {
 }
 
 /// Nanoseconds between two moments.
-#[derive(Clone, Copy, Debug, PartialEq, Eq, Drop)]
+#[derive(Clone, Copy, Drop)]
 pub(crate) struct Spent {
     pub elapsed: u64,
     /// Of all threads, the system's share too.

@@ -14,7 +14,7 @@ pub(crate) const MOST_KEYS: u64 = 10_000_000;
 pub(crate) const MOST_WORDS: u32 = 268_435_456;
 
 /// What a run measures.
-#[derive(Clone, Copy, Debug, PartialEq, Eq, Drop)]
+#[derive(Clone, Copy, Drop)]
 pub(crate) struct Plan {
     /// What all calls are drawn from.
     pub seed: u64,

@@ -15,7 +15,7 @@ use std::time::Clock;
 use std::{io, thread};
 
 /// What came of a run.
-#[derive(Clone, Copy, Debug, PartialEq, Eq, Drop)]
+#[derive(Clone, Copy, Drop)]
 pub(crate) struct Figures {
     pub spent: Spent,
     /// How many calls there were, how many of them found a value, and how many were refused.

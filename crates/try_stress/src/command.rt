@@ -9,7 +9,7 @@ use test_tools::{
 };
 
 // All options.
-const OPTIONS: [NumberOption; 10] = [
+const OPTIONS: [NumberOption; 11] = [
     ("seed", "What all calls are drawn from (1)", 0, u64::MAX),
     ("passes", "Threads, each with a pass (4)", 1, MOST_PASSES),
     (
@@ -35,13 +35,14 @@ const OPTIONS: [NumberOption; 10] = [
         MOST_KEYS,
     ),
     ("words", "Words of the tree (8388608)", 4, MOST_WORDS as u64),
+    ("map", "1: run a map that grows, not one tree (0)", 0, 1),
 ];
 
 // The command with its options.
 fn command<'a>(alloc: Global) -> Result<Command<'a>, AllocError> {
     let command = Command::new(alloc, "try_stress")
         .version("1.0")
-        .about("Runs threads on one search tree, and judges what each of them was told")
+        .about("Runs threads on one search tree or map, and judges what each of them was told")
         .after_help(JUDGE_STATUSES);
     with_numbers(alloc, command, &OPTIONS)
 }
@@ -61,6 +62,7 @@ fn plan_of(matches: &ArgMatches) -> Plan {
         },
         span: number(matches, "span", 1000),
         words: u32::try_from(number(matches, "words", 8_388_608)).unwrap_or(MOST_WORDS),
+        map: number(matches, "map", 0) == 1,
     }
 }
 

@@ -14,7 +14,7 @@ pub(crate) const MOST_KEYS: u64 = 1_000_000;
 pub(crate) const MOST_WORDS: u32 = 268_435_456;
 
 /// How a run is to go.
-#[derive(Clone, Copy, Debug, PartialEq, Eq, Drop)]
+#[derive(Clone, Copy, Drop)]
 pub(crate) struct Plan {
     /// What all calls are drawn from.
     pub seed: u64,
@@ -28,8 +28,10 @@ pub(crate) struct Plan {
     pub shares: Shares,
     /// How many keys there are: the numbers below this one. The lower half have values at the opening.
     pub span: u64,
-    /// How many words the tree has.
+    /// How many words the tree has, or the map's first tree, if the pairs don't need more.
     pub words: u32,
+    /// Whether the threads run a map that grows, in place of one tree.
+    pub map: bool,
 }
 
 impl Plan {

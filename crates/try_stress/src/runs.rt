@@ -16,7 +16,7 @@ use std::thread::Threads;
 use test_tools::opening_pairs;
 
 /// What a run that came to a good end did.
-#[derive(Clone, Copy, Debug, PartialEq, Eq, Drop)]
+#[derive(Drop)]
 pub(crate) struct Report {
     pub tally: Tally,
     /// How many passes met a refused rebuild.

@@ -13,7 +13,7 @@ use test_tools::{Asked, Clock, Draws, Kind, Timed, Told, When};
 const LISTED: u64 = 64;
 
 /// How many calls were answered and refused.
-#[derive(Clone, Copy, Debug, PartialEq, Eq, Drop)]
+#[derive(Clone, Copy, Drop)]
 pub(crate) struct Tally {
     pub puts: u64,
     pub removes: u64,

@@ -1,14 +1,14 @@
-//! The calls of workers, drawn from the seed, and what they were told.
+//! The calls of a map's workers, drawn from the seed, and what they were told.
 ghost use Rattle.std.specs.Prelude.{◌≤◌};
 
-use crate::plans::{MOST_WORKERS, Plan};
+use crate::plans::{MOST_PASSES, Plan};
 use ist_core::{Command, Reply};
 use std::alloc::{AllocError, Global};
 use test_tools::{Asked, Draws, Kind, Told};
 
-// The value of a put: no two puts of all runs have the same.
-fn value_of(plan: &Plan, run: u64, worker: u64, call: u64) -> u64 {
-    let before = run.wrapping_mul(plan.workers).wrapping_add(worker);
+// The value of a put: no two puts of all rounds have the same.
+fn value_of(plan: &Plan, round: u64, pass: u64, call: u64) -> u64 {
+    let before = round.wrapping_mul(plan.passes).wrapping_add(pass);
     let number = before.wrapping_mul(plan.calls).wrapping_add(call);
     number.wrapping_mul(2)
 }
@@ -26,20 +26,20 @@ fn draw(plan: &Plan, draws: &mut Draws, value: u64) -> Command
     }
 }
 
-/// Draws the calls of a worker in a run.
+/// Draws the calls of a worker in a round.
 pub(crate) fn draw_all(
     alloc: Global,
     plan: &Plan,
-    run: u64,
-    worker: u64,
+    round: u64,
+    pass: u64,
 ) -> Result<Vec<Command>, AllocError>
     requires some { 1 ≤ plan.now.span }
 {
-    let seed = plan.seed.wrapping_add(run.wrapping_mul(MOST_WORKERS));
-    let mut draws = Draws::for_thread(seed, worker);
+    let seed = plan.seed.wrapping_add(round.wrapping_mul(MOST_PASSES));
+    let mut draws = Draws::for_thread(seed, pass);
     let mut commands = Vec::new(alloc);
     for call in 0..plan.calls {
-        commands.push(draw(plan, &mut draws, value_of(plan, run, worker, call)))?;
+        commands.push(draw(plan, &mut draws, value_of(plan, round, pass, call)))?;
     }
     Ok(commands)
 }
