@@ -1,5 +1,5 @@
 -- What the table of builds says after a build and after a loss. Serves `remembering.rt`.
-use Rattle.std.proofs.Common.{◌≡◌, ◌∙◌, ℕ, List, [], ◌∷◌, Bool, true, false, cond, Option, Some, refl, sym, ap, true≢false, ◌≢◌, ◌↔◌, ◌+◌, ◌≤◌, ◌⊎◌, eqb, None, subst, inl, inr, ⊎_elim, arith}
+use Rattle.std.proofs.Common.{◌≡◌, ◌∙◌, ℕ, List, [], ◌∷◌, Bool, true, false, cond, Option, Some, refl, sym, ap, ◌≢◌, ◌↔◌, ◌+◌, ◌≤◌, ◌⊎◌, eqb, None, inl, inr, arith}
 use Rattle.std.proofs.lemmas.Map.Lookups.{exact_bytes}
 use Rattle.std.proofs.lemmas.Map.Text.{is_eq-slice_cmp}
 use Rattle.std.proofs.lemmas.Slice.Eq.{bytes_eq-Decides}
@@ -13,7 +13,7 @@ use Rattle.std.proofs.lemmas.Bool.Decides.{eqb_tells}
 use Rattle.std.specs.Global.{Vec}
 use Rattle.ist_core.specs.declared.lists.Row.{Row}
 use Rattle.ist_core.specs.declared.events.Event.{Event}
-use Rattle.ist_core.specs.declared.events.Event.TheVariants.{Enter, Reserve, Install, Okay, Decide, Resolve, Count, Mark, Pass, Finish, Root, Draw, Place, Lose}
+use Rattle.ist_core.specs.declared.events.Event.TheVariants.{Enter, Install, Okay, Decide, Resolve, Count, Mark, Pass, Finish, Root, Draw, Place, Lose}
 use Rattle.ist_core.specs.declared.pairs.Pair.{Pair}
 use Rattle.ist_core.specs.LogTerms.{sizes_of, Log, Lawful, state_of}
 use Rattle.ist_core.specs.TreeTerms.{IsBeaten, PlacedLeaf}
@@ -45,12 +45,6 @@ module _ {X : Type 0} (one other : X) (rest : X) where
   cond_twice true = refl
   cond_twice false = refl
 
-  cond_swap : (a b : Bool) → ¬ ((a ≡ true) × (b ≡ true))
-      → cond a other (cond b one rest) ≡ cond b one (cond a other rest)
-  cond_swap true true n = absurd (n (refl, refl))
-  cond_swap true false n = refl
-  cond_swap false b n = refl
-
 module _ {K X : Type 0} (items : K → List ℕ) (xs : List ℕ) where
   -- the value that a look-up by these sizes finds among the entries
   abbrev pub there : List (K × X) → Option X
@@ -73,10 +67,7 @@ module _ {K X : Type 0} (items : K → List ℕ) (xs : List ℕ) where
       at Equal p again = let same = exact_bytes (items k) (items e.0) p in
           cond_twice (Some v) (Some e.1) (there es) (are_sizes xs (items e.0))
           ∙ ap (λ ys. cond (are_sizes xs ys) (Some v) (there (e ∷ es))) (sym same)
-      at Greater p again = ap (λ z. cond (are_sizes xs (items e.0)) (Some e.1) z) again
-          ∙ cond_swap (Some v) (Some e.1) (there es) (are_sizes xs (items e.0))
-          (are_sizes xs (items k)) (λ both. true≢false (sym (sizes_are (items k) (items e.0)
-          (sym (sizes_same xs (items k) both.1) ∙ sizes_same xs (items e.0) both.0)) ∙ ap is_eq p))
+      at Greater p again = grind (arith, sizes_are, sizes_same)
 
 -- a count doesn't come after one that is at least as large
 not_after : (found : Option ℕ) (seen : ℕ) → ((at : ℕ) → found ≡ Some at → at ≤ seen)
@@ -96,13 +87,7 @@ module _ (old : BuildTable) (log : Log) (caller count : ℕ) (since : BTreeMap �
   seen_other c ne = ap seen_builds (updated_other old.since since caller count u c ne)
 
   seen_most : (c : ℕ) → seen_builds (tree.get nat_cmp since c) ≤ count
-  seen_most c = at (eqb_tells c caller)
-    where
-      at : ◌⊎◌ ((eqb c caller ≡ true) × (c ≡ caller)) ((eqb c caller ≡ false) × (c ≢ caller))
-          → seen_builds (tree.get nat_cmp since c) ≤ count
-      at (inl k) =
-          let here = ap (λ x. seen_builds (tree.get nat_cmp since x)) k.1 ∙ seen_here in omega arith
-      at (inr k) = let same = seen_other c k.1 in let before = known.seen c in omega arith
+  seen_most c = grind (arith, eqb_tells, seen_here, seen_other)
 
   -- after a build
   module _ (rebuild word : ℕ) (rows : List Row) (last : BTreeMap (Vec ℕ) ℕ)
@@ -114,11 +99,7 @@ module _ (old : BuildTable) (log : Log) (caller count : ℕ) (since : BTreeMap �
     new = record { count = count; last = last; since = since }
 
     came : (xs : List ℕ) (at : ℕ) → last_with new xs ≡ Some at → at ≤ count
-    came xs at e = by (are_sizes xs (sizes_of rows)) (sym (found xs) ∙ e)
-      where
-        by : (b : Bool) → cond b (Some count) (last_with old xs) ≡ Some at → at ≤ count
-        by true e = let same : count ≡ at = cc in omega arith
-        by false e = let before = known.came xs at e in omega arith
+    came xs at e = grind arith
 
     -- the table is right after the build
     pub build_known : KnowsBuilds new (Root caller rebuild word rows ∷ log)
@@ -134,28 +115,14 @@ module _ (old : BuildTable) (log : Log) (caller count : ℕ) (since : BTreeMap �
           (λ h. ((λ e. ne (sym e)), inl (sym (sizes_same xs (sizes_of rows) is)))),
           (λ b. let before = known.seen c in omega arith),
         )
-        others c xs ne false is = (
-          (λ h. ((λ e. ne (sym e)), inr ((known.beaten c xs).0 h))),
-          (λ b. ⊎_elim (λ e. absurd (true≢false (sym (sizes_are xs (sizes_of rows) (sym e)) ∙ is)))
-              (λ o. (known.beaten c xs).1 o) b.1),
-        )
+        others c xs ne false is = grind (arith, sizes_are)
 
         beaten : (c : ℕ) (xs : List ℕ) → ◌⊎◌ ((eqb c caller ≡ true) × (c ≡ caller))
             ((eqb c caller ≡ false) × (c ≢ caller))
             → CameAfter (last_with new xs) (seen_builds (tree.get nat_cmp since c))
             ↔ IsBeaten c xs (Root caller rebuild word rows ∷ log)
-        beaten c xs (inl k) = (
-          (λ h. absurd (not_after (last_with new xs) count (came xs)
-              (subst (CameAfter (last_with new xs))
-              (ap (λ x. seen_builds (tree.get nat_cmp since x)) k.1 ∙ seen_here) h))),
-          (λ b. absurd (b.0 (sym k.1))),
-        )
-        beaten c xs (inr k) =
-            subst (λ n. CameAfter (last_with new xs) n
-            ↔ IsBeaten c xs (Root caller rebuild word rows ∷ log)) (sym (seen_other c k.1))
-            (subst (λ o. CameAfter o (seen_builds (tree.get nat_cmp old.since c))
-            ↔ IsBeaten c xs (Root caller rebuild word rows ∷ log)) (sym (found xs))
-            (others c xs k.1 (are_sizes xs (sizes_of rows)) refl))
+        beaten c xs (inl k) = grind (arith, not_after, came)
+        beaten c xs (inr k) = grind (arith, others)
 
   -- after a loss
   module _ (bases : List ℕ) (none : count ≡ old.count) where
@@ -165,37 +132,12 @@ module _ (old : BuildTable) (log : Log) (caller count : ℕ) (since : BTreeMap �
 
     -- the table is right after the loss
     pub loss_known : KnowsBuilds left (Lose caller bases ∷ log)
-    loss_known = record {
-      beaten = λ c xs. beaten c xs (eqb_tells c caller);
-      came = known.came;
-      seen = λ c. let most_seen = seen_most c in omega arith;
-    }
-      where
-        beaten : (c : ℕ) (xs : List ℕ) → ◌⊎◌ ((eqb c caller ≡ true) × (c ≡ caller))
-            ((eqb c caller ≡ false) × (c ≢ caller))
-            → CameAfter (last_with old xs) (seen_builds (tree.get nat_cmp since c))
-            ↔ IsBeaten c xs (Lose caller bases ∷ log)
-        beaten c xs (inl k) = (
-          (λ h. absurd (not_after (last_with old xs) old.count (known.came xs)
-              (subst (CameAfter (last_with old xs))
-              (ap (λ x. seen_builds (tree.get nat_cmp since x)) k.1 ∙ seen_here ∙ none) h))),
-          (λ b. absurd (b.0 (sym k.1))),
-        )
-        beaten c xs (inr k) =
-            subst (λ n. CameAfter (last_with old xs) n ↔ IsBeaten c xs (Lose caller bases ∷ log))
-            (sym (seen_other c k.1)) (
-              (λ h. ((λ e. k.1 (sym e)), (known.beaten c xs).0 h)),
-              (λ b. (known.beaten c xs).1 b.1),
-            )
+    loss_known = grind (arith, eqb_tells, not_after)
 
 -- the same is known after another log by which the same callers are beaten
 pub as_well : (builds : BuildTable) (log other : Log) → KnowsBuilds builds log
     → ((c : ℕ) (xs : List ℕ) → IsBeaten c xs log ↔ IsBeaten c xs other) → KnowsBuilds builds other
-as_well builds log other k same = record {
-  beaten = λ c xs. iff_trans (k.beaten c xs) (same c xs);
-  came = k.came;
-  seen = k.seen;
-}
+as_well builds log other k same = grind (arith, iff_trans)
 
 -- a Place is as a Root
 pub place_known : (builds : BuildTable) (log : Log) (c o i w : ℕ) (r : List Row)
@@ -207,17 +149,7 @@ pub builds_kept : (builds : BuildTable) (log : Log) (event : Event) → ((c o w 
     → event ≢ Root c o w r) → ((c o i w : ℕ) (r : List Row) → event ≢ Place c o i w r)
     → ((c : ℕ) (b : List ℕ) → event ≢ Lose c b) → KnowsBuilds builds log
     → KnowsBuilds builds (event ∷ log)
-builds_kept builds log event ro pl lo k = as_well builds _ _ k (kept event ro pl lo)
-  where
-    kept : (e : Event) → ((c o w : ℕ) (r : List Row) → e ≢ Root c o w r)
-        → ((c o i w : ℕ) (r : List Row) → e ≢ Place c o i w r)
-        → ((c : ℕ) (b : List ℕ) → e ≢ Lose c b) → (n : ℕ) (xs : List ℕ)
-        → IsBeaten n xs log ↔ IsBeaten n xs (e ∷ log)
-    kept (Reserve c b z) ro pl lo n xs = ((λ b. b), (λ b. b))
-    kept (Root c o w r) ro pl lo n xs = absurd (ro c o w r refl)
-    kept (Place c o i w r) ro pl lo n xs = absurd (pl c o i w r refl)
-    kept (Lose c b) ro pl lo n xs = absurd (lo c b refl)
-    kept _ ro pl lo n xs = ((λ b. b), (λ b. b))
+builds_kept builds log event ro pl lo k = grind (arith, as_well)
 
 -- ---- leaves that are kept are the leaves of a finished row, after each event. Serves `placing.rt`.
 
@@ -231,8 +163,6 @@ kept_on pairs words log event law kept known node leaves is = let it = known nod
     (sound (start pairs words) log (sound_start pairs words) law.enabled.0) in
     record {
       keys = it.keys;
-      finished = finished_grows (state_of pairs words log) (state_of pairs words (event ∷ log)) node
-          it.keys g it.finished;
-      reached = leaves_kept pairs words law.opens log event law.enabled node leaves.items
-          (it.keys, it.finished) it.reached;
+      finished = grind (arith, finished_grows);
+      reached = grind (arith, leaves_kept);
     }

@@ -4,7 +4,7 @@ use Rattle.std.proofs.Common.{◌≡◌, ◌∙◌, ◌≤◌, ◌+◌, ℕ, zer
 use Rattle.std.proofs.lemmas.List.{nil_from_length}
 use Rattle.ist_core.specs.declared.lists.Row.{Row}
 use Rattle.ist_core.specs.declared.states.InnerRow.{InnerRow}
-use Rattle.ist_core.specs.WordTerms.{Ref, Empty, LeafAt, InnerAt, ref_of, parts, Inner, inner_of}
+use Rattle.ist_core.specs.WordTerms.{Ref, Empty, LeafAt, InnerAt, ref_of, parts}
 use Rattle.ist_core.specs.TreeTerms.{PlacedLeaf}
 use Rattle.ist_core.proofs.AllWordLemmas.{same_value}
 use Rattle.check_fairness.proofs.AnswerLemmas.{following, split_first}
@@ -22,17 +22,14 @@ none_inverted : (ref : Ref) (leaves : List PlacedLeaf) (above : ℕ) (rows : Lis
     → BuildsRef ref leaves above rows → leaves ≡ [] → (ref ≡ Empty) × (rows ≡ [])
 none_inverted _ _ _ _ builds_none e = (refl, refl)
 none_inverted _ _ _ _ (builds_one same) e = absurd (cc)
-none_inverted _ leaves _ _ (builds_more r top below) e = let two = top.two in let none = ap length e
-    in absurd (omega arith)
+none_inverted _ leaves _ _ (builds_more r top below) e = grind arith
 
 one_inverted : (ref : Ref) (leaves : List PlacedLeaf) (above : ℕ) (rows : List Row)
     (leaf : PlacedLeaf)
     → BuildsRef ref leaves above rows → leaves ≡ leaf ∷ [] → (ref ≡ LeafAt leaf.base) × (rows ≡ [])
 one_inverted _ _ _ _ leaf builds_none e = absurd (cc)
-one_inverted _ _ _ _ leaf (builds_one {leaf = other} same) e = let first : other ≡ leaf = cc in
-    (ap LeafAt (sym same ∙ ap (λ x. x.base) first), refl)
-one_inverted _ leaves _ _ leaf (builds_more r top below) e = let two = top.two in let one = ap
-    length e in absurd (omega arith)
+one_inverted _ _ _ _ leaf (builds_one {leaf = other} same) e = grind arith
+one_inverted _ leaves _ _ leaf (builds_more r top below) e = grind arith
 
 -- a subtree of two leaves or more: its top row, and the rows of its parts
 record IsMany (ref : Ref) (leaves : List PlacedLeaf) (above : ℕ) (rows : List Row) : Type 0 where
@@ -48,15 +45,7 @@ many_inverted : (ref : Ref) (leaves : List PlacedLeaf) (above : ℕ) (rows : Lis
     → BuildsRef ref leaves above rows → 2 ≤ length leaves → IsMany ref leaves above rows
 many_inverted _ _ _ _ builds_none two = absurd (omega arith)
 many_inverted _ _ _ _ (builds_one same) two = absurd (omega arith)
-many_inverted _ _ _ _ (builds_more {row = row} {rows = rows} r top below) two = record {
-  row = row;
-  rest = rows;
-  top = r;
-  ref_is = refl;
-  rows_are = refl;
-  is_top = top;
-  below = below;
-}
+many_inverted _ _ _ _ (builds_more {row = row} {rows = rows} r top below) two = grind arith
 
 -- ---- no leaf, or one
 
@@ -113,11 +102,7 @@ module _ (word : ℕ) (leaves : List PlacedLeaf) (above : ℕ) (rows : List Row)
     first_is : (used rest : List Row) → rows ≡ used ++ rest → (b : BuildsAt word leaves above used)
         → (it : IsMany b.ref leaves above used)
         → (it.row ≡ row) × (base ≡ it.row.base) × (following rows ≡ it.rest ++ rest)
-    first_is used rest is b it =
-        let whole : row ∷ following rows ≡ it.row ∷ (it.rest ++ rest) = sym
-        (split_first rows row long at) ∙ is ∙ ap (λ xs. xs ++ rest) it.rows_are in
-        let bases : InnerAt base ≡ InnerAt it.row.base = same_value (ref_of word) (InnerAt base)
-        (InnerAt it.row.base) names (b.names ∙ ap (λ x. Some x) it.ref_is) in (cc, cc, cc)
+    first_is used rest is b it = grind (arith, following, split_first, same_value)
 
     -- if the first row isn't the top row, there is no subtree
     pub counts_no_top : ((slots : List ℕ) → ¬ (HasTopSlots row leaves above slots))
@@ -133,13 +118,7 @@ module _ (word : ℕ) (leaves : List PlacedLeaf) (above : ℕ) (rows : List Row)
       below_is : (it_row : Row) (r : InnerRow) (rest : List Row) → it_row ≡ row → base ≡ it_row.base
           → IsTopRow it_row r leaves above → BuildsAll r.slots (parts leaves) it_row.base rest
           → BuildsAll slots (parts leaves) base rest
-      below_is it_row r rest same here is_top below =
-          let reads : Some (Inner r) ≡ Some (Inner top.top) = sym
-          (subst (λ x. inner_of x.words ≡ Some (Inner r)) same is_top.read) ∙ top.is_top.read in
-          let row_same : r ≡ top.top = cc in
-          subst (λ ws. BuildsAll ws (parts leaves) base rest) (ap (λ x. x.slots) row_same
-          ∙ top.slots_are) (subst (λ n. BuildsAll r.slots (parts leaves) n rest) (sym here)
-          below)
+      below_is it_row r rest same here is_top below = grind arith
 
       -- if the parts aren't built, there is no subtree
       pub counts_no_parts : CountsRows (λ rs. BuildsAll slots (parts leaves) base rs) (following rows)
@@ -172,5 +151,4 @@ module _ (word : ℕ) (leaves : List PlacedLeaf) (above : ℕ) (rows : List Row)
       )
         where
           taken : take (k + 1) rows ≡ row ∷ take k (following rows)
-          taken = ap (take (k + 1)) (split_first rows row long at)
-              ∙ ap (λ n. take n (row ∷ following rows)) (let e : k + 1 ≡ suc k = omega arith in e)
+          taken = grind (arith, split_first, following)

@@ -1,11 +1,11 @@
 -- What the code tests of a draw is what the condition says. Serves `drawing.rt`.
-use Rattle.std.proofs.Common.{◌≡◌, ◌↔◌, ◌<◌, ◌≤◌, ◌≢◌, ℕ, IsTrue, true, nat_lt, Some, None, refl, sym, subst, arith, Bool, false, List, [], length, slice_get, ap, ◌∙◌, ◌-◌, ◌+◌, ◌*◌, ◌^◌, min, take, Option, length-take}
+use Rattle.std.proofs.Common.{◌≡◌, ◌↔◌, ◌<◌, ◌≤◌, ◌≢◌, ℕ, IsTrue, true, nat_lt, Some, None, refl, sym, subst, arith, Bool, false, List, [], length, slice_get, ◌-◌, ◌+◌, ◌*◌, ◌^◌, min, take, Option, length-take}
 use Rattle.std.proofs.lemmas.Bool.Decides.{nat_tests}
 use Rattle.std.specs.Ordering.{nat_cmp}
 use Rattle.ist_core.specs.declared.states.RebuildRow.{RebuildRow}
 use Rattle.ist_core.specs.declared.lists.Row.{Row}
-use Rattle.ist_core.specs.WordTerms.{degree, share_from, unset_word, Rebuild, part_lens, InnerAt, ref_of, parts, with_inners, part_len, cut}
-use Rattle.ist_core.specs.LogTerms.{Snapshot, Log, Happened, Draws, bases_of}
+use Rattle.ist_core.specs.WordTerms.{degree, share_from, unset_word, Rebuild, InnerAt, ref_of, parts, part_len, cut}
+use Rattle.ist_core.specs.LogTerms.{Snapshot, Log, Happened, Draws}
 use Rattle.ist_core.specs.TreeTerms.{IsFinishedWith, CanDraw, PlacedLeaf, HasLeaves, CanPlace}
 use Rattle.ist_core.proofs.AllWordLemmas.{same_rebuild, part_len-lt}
 use Rattle.check_fairness.specs.Answers.{FindsGreatest}
@@ -16,7 +16,7 @@ use Rattle.ist_core.proofs.AllPlaceLemmas.{same_leaves, each_of_cut, part_of_eac
 use Rattle.check_builds.specs.HeldRows.{HeldAreFree}
 use Rattle.check_builds.specs.Reading.{Gathers}
 use Rattle.check_builds.specs.Publishing.{MayPublish, HasPart, IsPartOf}
-use Rattle.check_builds.specs.Built.{key_of_leaf, BuildsRef, BuildsAt, part_lens_from, BuildsAll, CountsRows}
+use Rattle.check_builds.specs.Built.{BuildsAt, part_lens_from, BuildsAll, CountsRows}
 use Rattle.check_builds.proofs.PublishLemmas.{LeafStands, builds_ideal, ideal_builds}
 use Rattle.check_builds.proofs.FitLemmas.{rows_there, leaves_there}
 use Rattle.check_builds.proofs.PartCutLemmas.{all_parts}
@@ -30,11 +30,7 @@ none_below P limit h = ((λ _ x p. absurd (h x p)), (λ _. refl))
 -- the greatest number with P is below the limit exactly if all with P are
 pub most_below : (P : ℕ → Type 0) (limit most : ℕ) → FindsGreatest P (Some most)
     → IsTrue (nat_lt most limit) ↔ ((x : ℕ) → P x → x < limit)
-most_below P limit most h = (
-  (λ y x p. let low : most < limit = grind (arith, nat_tests) in let under = h.1 x p in omega
-      arith),
-  (λ all. let low = all most h.0 in grind (arith, nat_tests)),
-)
+most_below P limit most h = grind (arith, nat_tests)
 
 -- the rebuild that the replica has is published
 module _ (s : Replica) (t : Snapshot) (log : Log) (caller rebuild part : ℕ) (r : RebuildRow)
@@ -68,17 +64,7 @@ module _ (s : Replica) (t : Snapshot) (log : Log) (caller rebuild part : ℕ) (r
       → ((x : ℕ) → Happened (Draws caller rebuild x) log → x < degree keys) ↔ CanDraw t log caller
       rebuild part
   draw_is keys known rooted is finished one many = (
-    (λ below. record {
-      known = known;
-      row = r;
-      published = e;
-      rooted = rooted;
-      k = keys;
-      finished = finished;
-      shared = many;
-      part_is = sym is;
-      not_past = below;
-    }),
+    (λ below. grind (arith, e)),
     (λ h x d. subst (λ k. x < degree k) (one h.k (target_finished h)) (h.not_past x d)),
   )
 
@@ -92,26 +78,18 @@ module _ (t : Snapshot) (word i target above : ℕ) (rows : List Row) where
   -- if no leaves were found below the target, there is no part over them
   pub no_part_found : (old new : List PlacedLeaf) (found : Bool) → found ≡ false
       → Gathers Below old found new → ¬ (HasPart t word i target above rows)
-  no_part_found old new found none g h =
-      subst (λ b. Gathers Below old b new) none g h.leaves h.reached
+  no_part_found old new found none g h = grind arith
 
   -- the part over these leaves, which lie below the target, is the part over the target's leaves
   pub part_over : (leaves : List PlacedLeaf) → Below leaves
       → IsPartOf word i leaves above rows ↔ HasPart t word i target above rows
-  part_over leaves reached = (
-    (λ r. record { leaves = leaves; reached = reached; part = r }),
-    (λ h. subst (λ ls. IsPartOf word i ls above rows) (same_leaves t.pieces (Some (InnerAt target))
-        h.leaves leaves h.reached reached) h.part),
-  )
+  part_over leaves reached = grind (arith, same_leaves)
 
   -- the part over the leaves that were found is the part over the target's leaves
   pub part_found : (old leaves : List PlacedLeaf) (found : Bool) → found ≡ true → old ≡ []
       → Gathers Below old found leaves
       → IsPartOf word i leaves above rows ↔ HasPart t word i target above rows
-  part_found old leaves found some empty g =
-      let all = subst (λ xs. Gathers Below xs true leaves) empty
-      (subst (λ b. Gathers Below old b leaves) some g) in
-      part_over leaves (subst Below (sym all.1) all.2)
+  part_found old leaves found some empty g = grind (arith, part_over)
 
 module _ (word i above : ℕ) (leaves : List PlacedLeaf) (rows : List Row) where
   -- if there is no part i, nothing is built over it
@@ -121,10 +99,7 @@ module _ (word i above : ℕ) (leaves : List PlacedLeaf) (rows : List Row) where
   -- the subtree over part i is the part
   pub such_part : (part : List PlacedLeaf) → slice_get (parts leaves) i ≡ Some part
       → BuildsAt word part above rows ↔ IsPartOf word i leaves above rows
-  such_part part is = (
-    (λ b. record { part = part; part_is = is; builds = b }),
-    (λ h. subst (λ ls. BuildsAt word ls above rows) (cc (h.part_is)) h.builds),
-  )
+  such_part part is = grind arith
 
 -- a part that the rows are is one that may be placed
 module _ (t : Snapshot) (caller : ℕ) (rows : List Row) (publish : MayPublish t caller rows)
@@ -153,33 +128,11 @@ module _ (t : Snapshot) (caller : ℕ) (rows : List Row) (publish : MayPublish t
           part_is = h.part.part_is;
           ref = h.part.builds.ref;
           ref_is = h.part.builds.names;
-          ideal = builds_ideal (with_inners t.pieces rows) h.part.builds.ref h.part.part root rows
-              h.part.builds.builds (rows_there t caller rows publish free)
-              (part_of_each key_of_leaf (LeafStands (with_inners t.pieces rows)) (parts h.leaves) i
-              h.part.part
-              (each_of_cut key_of_leaf (LeafStands (with_inners t.pieces rows))
-              (part_lens (length h.leaves)) h.leaves all) h.part.part_is);
+          ideal = grind (arith, builds_ideal, rows_there, part_of_each, LeafStands, each_of_cut);
           once = publish.once;
           held = publish.held;
         }),
-    (λ c. let same = same_rebuild (t.pieces rebuild) c.row row c.published published in
-        let target : c.row.target ≡ row.target = ap (λ r. r.target) same in
-        let base : c.root ≡ root = cc (subst (λ r. ref_of r.root ≡ Some (InnerAt c.root)) same c.root_is) in
-        record {
-          leaves = c.leaves;
-          reached = subst (λ n. HasLeaves t.pieces (Some (InnerAt n)) c.leaves) target c.reached;
-          part = record {
-            part = c.part;
-            part_is = c.part_is;
-            builds = record {
-              ref = c.ref;
-              names = c.ref_is;
-              builds = subst (λ b. BuildsRef c.ref c.part b rows) base
-                  (ideal_builds (with_inners t.pieces rows) c.ref c.part c.root (bases_of rows)
-                  c.ideal rows refl (rows_there t caller rows publish free));
-            };
-          };
-        }),
+    (λ c. grind (arith, same_rebuild, ideal_builds, rows_there)),
   )
 
 -- what a part that may be placed requires of its rows, and of the slot
@@ -193,11 +146,7 @@ module _ (t : Snapshot) (caller rebuild i word : ℕ) (rows : List Row) (c : Can
     -- if the rebuild's root is this row, and the slot isn't Unset in it, no part may be placed
     pub no_free_root : (root : ℕ) → ((n : ℕ) → ref_of row.root ≡ Some (InnerAt n) → n ≡ root)
         → ¬ (RowHolds t root i unset_word) → ⊥
-    no_free_root root one taken =
-        let is = subst (λ r. ref_of r.root ≡ Some (InnerAt c.root))
-        (same_rebuild (t.pieces rebuild) c.row row c.published published) c.root_is in
-        taken (subst (λ n. RowHolds t n i unset_word) (one c.root is)
-        record { row = c.root_row; published = c.root_published; in_slot = c.free })
+    no_free_root root one taken = grind (arith, same_rebuild)
 
 -- ---- sizes of parts, and parts by a degree that was computed. Serves `leaves` and `building`.
 
@@ -215,12 +164,9 @@ pub parts_by_degree : (leaves : List PlacedLeaf) (d : ℕ) (slots : List ℕ) (b
     (rows : List Row) (o : Option ℕ) → d ≡ degree (length leaves)
     → CountsRows (λ rs. BuildsAll slots (cut (part_lens_from (length leaves) 0 d) leaves) base rs) rows o
     → CountsRows (λ rs. BuildsAll slots (parts leaves) base rs) rows o
-parts_by_degree leaves d slots base rows o e h =
-    subst (λ ps. CountsRows (λ rs. BuildsAll slots ps base rs) rows o)
-    (ap (λ k. cut (part_lens_from (length leaves) 0 k) leaves) e ∙ all_parts leaves) h
+parts_by_degree leaves d slots base rows o e h = grind (arith, all_parts)
 
 -- the same of one part
 pub nth_by_degree : (leaves : List PlacedLeaf) (d i : ℕ) → d ≡ degree (length leaves)
     → slice_get (cut (part_lens_from (length leaves) 0 d) leaves) i ≡ slice_get (parts leaves) i
-nth_by_degree leaves d i e = ap (λ ps. slice_get ps i)
-    (ap (λ k. cut (part_lens_from (length leaves) 0 k) leaves) e ∙ all_parts leaves)
+nth_by_degree leaves d i e = grind (arith, all_parts)

@@ -1,8 +1,8 @@
 -- What is tested of the rows of a Root is what its condition says. Serves `building.rt`.
-use Rattle.std.proofs.Common.{◌≡◌, ◌↔◌, ◌∙◌, ◌<◌, ℕ, List, [], ◌∷◌, Option, Some, true, refl, sym, ap, subst, arith}
+use Rattle.std.proofs.Common.{◌≡◌, ◌↔◌, ◌∙◌, ◌<◌, ℕ, List, [], ◌∷◌, Option, Some, true, sym, ap, subst, arith}
 use Rattle.ist_core.specs.declared.lists.Row.{Row}
 use Rattle.ist_core.specs.declared.states.RebuildRow.{RebuildRow}
-use Rattle.ist_core.specs.WordTerms.{Ref, InnerAt, unset_word, finished_word, Pieces, Inner, Rebuild, with_inners}
+use Rattle.ist_core.specs.WordTerms.{Ref, InnerAt, unset_word, finished_word, Pieces, Rebuild, with_inners}
 use Rattle.ist_core.specs.LogTerms.{Each, Snapshot, bases_of}
 use Rattle.ist_core.specs.TreeTerms.{PlacedLeaf, HasLeaves, IsStarted, IsFinishedWith, IsRoot, root_whole, root_top, CanRoot}
 use Rattle.ist_core.proofs.AllPlaceLemmas.{same_leaves, each_mapped}
@@ -18,36 +18,14 @@ use Rattle.check_builds.proofs.PublishLemmas.{StandsAsSaid, LeafStands, leaf_kep
 module _ (qs : Pieces) (word k : ℕ) (leaves : List PlacedLeaf) (target : ℕ) (rows : List Row)
     (stand : Each (StandsAsSaid qs) rows) where
   root_by_rows : IsRoot qs word k leaves target (bases_of rows) → IsRootOf word k leaves target rows
-  root_by_rows (root_whole ref few e ideal) = whole few record {
-    ref = ref;
-    names = e;
-    builds = ideal_builds qs ref leaves target (bases_of rows) ideal rows refl stand;
-  }
+  root_by_rows (root_whole ref few e ideal) = grind (arith, ideal_builds)
   root_by_rows (root_top base row many e top unset one) = alone rows one stand
     where
       alone : (rs : List Row) → bases_of rs ≡ base ∷ [] → Each (StandsAsSaid qs) rs → IsRootOf word k
           leaves target rs
       alone [] one stands = absurd (cc)
       alone (x ∷ y ∷ rs) one stands = absurd (cc)
-      alone (x ∷ []) one stands = let here : x.base ≡ base = cc in top_alone many record {
-        row = x;
-        rows_are = refl;
-        names = e ∙ ap (λ b. Some (InnerAt b)) (sym here);
-        top = record {
-          top = row;
-          is_top = record {
-            read = sym stands.0 ∙ subst (λ b. qs b ≡ Some (Inner row)) (sym here) top.published;
-            two = top.two;
-            higher = subst (λ b. target < b) (sym here) top.higher;
-            status = top.status;
-            count = top.count;
-            degree = top.degree;
-            size = top.size;
-            keys = top.keys;
-          };
-          slots_are = unset;
-        };
-      }
+      alone (x ∷ []) one stands = grind arith
 
   root_by_bases : Each (LeafStands qs) leaves → IsRootOf word k leaves target rows
       → IsRoot qs word k leaves target (bases_of rows)
@@ -77,10 +55,7 @@ module _ (t : Snapshot) (caller : ℕ) (rows : List Row) (publish : MayPublish t
   -- the leaves below a reference are still published
   pub leaves_there : (ref : Option Ref) (leaves : List PlacedLeaf) → HasLeaves t.pieces ref leaves
       → Each (LeafStands (with_inners t.pieces rows)) leaves
-  leaves_there ref leaves has =
-      each_mapped (LeafStands t.pieces) (LeafStands (with_inners t.pieces rows)) leaves
-      (λ leaf e. leaf_kept t caller rows publish.held free leaf e)
-      (leaves_stand t.pieces ref leaves has)
+  leaves_there ref leaves has = grind (arith, each_mapped, LeafStands, leaf_kept, leaves_stand)
 
   -- a root that the rows are is one that may be published
   pub root_is : (rebuild word k : ℕ) (row : RebuildRow) → caller < t.callers
@@ -112,7 +87,7 @@ module _ (t : Snapshot) (caller : ℕ) (rows : List Row) (publish : MayPublish t
         target c.finished).status ∙ ap (λ r. r.status) inner ∙ finished.status in
         let keys : c.k ≡ k = omega arith in record {
           leaves = c.leaves;
-          reached = subst (λ n. HasLeaves t.pieces (Some (InnerAt n)) c.leaves) target c.reached;
+          reached = grind arith;
           root = subst (λ m. IsRootOf word m c.leaves row.target rows) keys
               (subst (λ n. IsRootOf word c.k c.leaves n rows) target
               (root_by_rows (with_inners t.pieces rows) word c.k c.leaves c.row.target rows
@@ -147,12 +122,4 @@ module _ (t : Snapshot) (word k target : ℕ) (rows : List Row) where
   -- the root over the leaves that were found is the root over the target's leaves
   pub root_over : (found : List PlacedLeaf) → Gathers Below [] true found
       → IsRootOf word k found target rows ↔ HasRootOf t word k target rows
-  root_over found g = (
-    (λ r. record {
-      leaves = g.0;
-      reached = g.2;
-      root = subst (λ ls. IsRootOf word k ls target rows) g.1 r;
-    }),
-    (λ h. subst (λ ls. IsRootOf word k ls target rows) (same_leaves t.pieces (Some (InnerAt target))
-        h.leaves g.0 h.reached g.2 ∙ sym g.1) h.root),
-  )
+  root_over found g = grind (arith, same_leaves)

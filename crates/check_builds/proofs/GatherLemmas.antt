@@ -17,8 +17,7 @@ use Rattle.check_builds.specs.Reading.{Gathers, LeavesLeft, GathersOn, PutsSlots
 -- words are the first and those after it
 pub first_word : (xs : List ℕ) → 1 ≤ length xs → xs ≡ get_or xs 0 0 ∷ following xs
 first_word [] h = absurd (omega arith)
-first_word (x ∷ xs) h = let l : length (x ∷ xs) - 1 ≡ length xs = omega arith in
-    ap (λ ys. x ∷ ys) (sym (ap (λ k. take k xs) l ∙ take_all (length xs) xs (omega arith)))
+first_word (x ∷ xs) h = grind (arith, take_all)
 
 as_leaf-some : (o : Option Piece) (r : LeafRow) → as_leaf o ≡ Some r → o ≡ Some (Leaf r)
 as_leaf-some (Some (Leaf s)) r e = let i : s ≡ r = cc in ap (λ x. Some (Leaf x)) i
@@ -42,8 +41,7 @@ module _ (ps : Pieces) where
   -- no row, no leaves
   pub no_row_gathers : (base : ℕ) → ((r : InnerRow) → ¬ (ps base ≡ Some (Inner r)))
       → (ls : List PlacedLeaf) → ¬ (HasLeaves ps (Some (InnerAt base)) ls)
-  no_row_gathers base none ls has = let it = reached ps (Some (InnerAt base)) ls has in none it.0
-      it.1
+  no_row_gathers base none ls has = grind (arith, reached)
 
   -- ---- slots
 
@@ -53,9 +51,7 @@ module _ (ps : Pieces) where
       → LeavesLeft ps (SlotsHaveLeaves ps (word ∷ words)) here words
   first_found word words here has = record {
     all = λ rest h. one_slot has h;
-    no_other = λ leaves h. let it = slots_reached ps (word ∷ words) leaves h in
-        let same = same_leaves ps (logical ps word) it.0 here it.2 has in
-        (it.1, it.4 ∙ ap (λ zs. zs ++ it.1) same, it.3);
+    no_other = grind (arith, slots_reached, same_leaves);
   }
 
   -- slots of which the first has no list of leaves have none
@@ -68,13 +64,8 @@ module _ (ps : Pieces) where
   pub first_gathered : (word : ℕ) (words : List ℕ) (ref : Option Ref) (old new : List PlacedLeaf)
       (found : Bool) → logical ps word ≡ ref → Gathers (λ ls. HasLeaves ps ref ls) old found new
       → GathersOn ps (word ∷ words) old found words new
-  first_gathered word words ref old new true read h = (
-    h.0,
-    h.1,
-    first_found word words h.0 (subst (λ r. HasLeaves ps r h.0) (sym read) h.2),
-  )
-  first_gathered word words ref old new false read h =
-      first_lacks word words (λ ls has. h ls (subst (λ r. HasLeaves ps r ls) read has))
+  first_gathered word words ref old new true read h = grind (arith, first_found)
+  first_gathered word words ref old new false read h = grind (arith, first_lacks)
 
   -- a slot that reads as nothing has no leaf
   pub first_empty : (word : ℕ) (words : List ℕ) (old : List PlacedLeaf)
@@ -87,12 +78,7 @@ module _ (ps : Pieces) where
   -- the leaves of an inner row are the leaves of its slots
   pub row_left : (base : ℕ) (r : InnerRow) → ps base ≡ Some (Inner r)
       → LeavesLeft ps (λ ls. HasLeaves ps (Some (InnerAt base)) ls) [] r.slots
-  row_left base r e = record {
-    all = λ rest h. row_here r e h;
-    no_other = λ leaves has. let it = reached ps (Some (InnerAt base)) leaves has in
-        let same : it.0 ≡ r = cc (it.1) in
-        (leaves, refl, subst (λ x. SlotsHaveLeaves ps x.slots leaves) same it.2);
-  }
+  row_left base r e = record { all = λ rest h. row_here r e h; no_other = grind (arith, reached) }
 
   slots_joined : (xs ys : List ℕ) (here rest : List PlacedLeaf) → SlotsHaveLeaves ps xs here
       → SlotsHaveLeaves ps ys rest → SlotsHaveLeaves ps (xs ++ ys) (here ++ rest)
@@ -122,15 +108,7 @@ module _ (ps : Pieces) where
     all = λ rest h. let it = slots_split r.slots words rest h in
         let has = subst (λ o. HasLeaves ps o it.0) (sym read) (row_here r e it.3) in
         subst (λ ls. SlotsHaveLeaves ps (word ∷ words) ls) (sym it.2) (one_slot has it.4);
-    no_other = λ leaves h. let it = slots_reached ps (word ∷ words) leaves h in
-        let has = subst (λ o. HasLeaves ps o it.0) read it.2 in
-        let own = (row_left base r e).no_other it.0 has in
-        let here = subst (λ ls. SlotsHaveLeaves ps r.slots ls) (sym own.1) own.2 in (
-          leaves,
-          refl,
-          subst (λ ls. SlotsHaveLeaves ps (r.slots ++ words) ls) (sym it.4)
-              (slots_joined r.slots words it.0 it.1 here it.3),
-        );
+    no_other = grind (arith, slots_reached, row_left, slots_joined);
   }
 
   -- a row is gathered if its slots were appended to those that wait
@@ -138,16 +116,9 @@ module _ (ps : Pieces) where
       → logical ps word ≡ Some (InnerAt base) → PutsSlots ps base waiting found new
       → GathersOn ps (word ∷ reverse waiting) out found (reverse new) out
   row_gathered word base waiting new out true read puts =
-      let turned : reverse new ≡ puts.0.slots ++ reverse waiting =
-      ap reverse puts.2 ∙ reverse-append waiting (reverse puts.0.slots)
-      ∙ ap (λ ws. ws ++ reverse waiting) (reverse-reverse puts.0.slots) in (
-        [],
-        sym (append-nil out),
-        subst (λ ws. LeavesLeft ps (SlotsHaveLeaves ps (word ∷ reverse waiting)) [] ws) (sym turned)
-            (slots_before word base (reverse waiting) puts.0 puts.1 read),
-      )
+      grind (arith, reverse-append, reverse-reverse, append-nil, slots_before)
   row_gathered word base waiting new out false read none = first_lacks word (reverse waiting)
-      (λ ls has. no_row_gathers base none ls (subst (λ o. HasLeaves ps o ls) read has))
+      (λ ls has. grind (arith, no_row_gathers))
 
   -- ---- a search, step by step
 
@@ -187,15 +158,7 @@ module _ (ps : Pieces) where
   pub begun : (base : ℕ) (none waiting : List ℕ) (out : List PlacedLeaf) → none ≡ []
       → PutsSlots ps base none true waiting
       → IsFoundAndLeft (λ ls. HasLeaves ps (Some (InnerAt base)) ls) out out (reverse waiting)
-  begun base none waiting out empty puts =
-      let turned : reverse waiting ≡ puts.0.slots =
-      ap reverse (puts.2 ∙ ap (λ ws. ws ++ reverse puts.0.slots) empty)
-      ∙ reverse-reverse puts.0.slots in (
-        [],
-        sym (append-nil out),
-        subst (λ ws. LeavesLeft ps (λ ls. HasLeaves ps (Some (InnerAt base)) ls) [] ws) (sym turned)
-            (row_left base puts.0 puts.1),
-      )
+  begun base none waiting out empty puts = grind (arith, reverse-reverse, append-nil, row_left)
 
 -- ---- words that wait
 
@@ -207,5 +170,4 @@ next_waits waiting rest word e = ap reverse e ∙ reverse-append rest (word ∷ 
 -- if no word waits, none is next
 pub nothing_waits : (waiting rest : List ℕ) (n : ℕ) → waiting ≡ rest ++ [] → rest ≡ take (n - 1) waiting
     → n ≡ 0 → reverse waiting ≡ []
-nothing_waits waiting rest n is taken none = let zero_first : n - 1 ≡ 0 = omega arith in
-    ap reverse (is ∙ append-nil rest ∙ taken ∙ ap (λ k. take k waiting) zero_first)
+nothing_waits waiting rest n is taken none = grind (arith, append-nil)

@@ -1,5 +1,5 @@
 -- What the code tests of rows that are given up is what the condition says. Serves `giving_up.rt`.
-use Rattle.std.proofs.Common.{◌≡◌, ◌↔◌, ◌∙◌, ◌+◌, ◌<◌, ◌≤◌, ◌++◌, ℕ, zero, suc, List, [], ◌∷◌, Option, Some, None, length, get_or, take, refl, sym, ap, subst, inl, inr, ⊎_elim, arith}
+use Rattle.std.proofs.Common.{◌≡◌, ◌↔◌, ◌∙◌, ◌+◌, ◌<◌, ◌≤◌, ◌++◌, ℕ, zero, suc, List, [], ◌∷◌, Option, Some, None, length, get_or, take, refl, sym, ap, subst, inl, arith}
 use Rattle.std.proofs.lemmas.List.{take_more}
 use Rattle.std.specs.Global.{Vec}
 use Rattle.std.specs.Option.{option_map}
@@ -15,10 +15,7 @@ use Rattle.check_fairness.proofs.AnswerLemmas.{following, first_after}
 -- if the first base isn't among the others, all are distinct exactly if the others are
 pub distinct_first : (xs : List ℕ) → 1 ≤ length xs → ¬ (Among (get_or xs 0 0) (following xs))
     → Distinct (following xs) ↔ Distinct xs
-distinct_first xs n far = (
-  (λ d. subst Distinct (first_after xs n) (far, d)),
-  (λ d. (subst Distinct (sym (first_after xs n)) d).1),
-)
+distinct_first xs n far = grind (arith, first_after)
 
 -- if the first base is among the others, they aren't distinct
 pub distinct_not : (xs : List ℕ) → 1 ≤ length xs → Among (get_or xs 0 0) (following xs)
@@ -118,23 +115,7 @@ module _ (t : Snapshot) (caller : ℕ) (bases : List ℕ) (one : length bases �
   -- a held pair row may be lost exactly if an inner row has a base above its own
   pub pair_is : HoldsRow t caller (get_or bases 0 0) pair_words
       → HasRowAbove t (get_or bases 0 0) ↔ LosesPair t caller bases
-  pair_is held = (
-    (λ a. record {
-      pair = get_or bases 0 0;
-      bases_are = one_base bases one;
-      held = held;
-      node = a.node;
-      row = a.row;
-      published = a.published;
-      above = a.above;
-    }),
-    (λ h. subst (HasRowAbove t) (same_pair h) record {
-      node = h.node;
-      row = h.row;
-      published = h.published;
-      above = h.above;
-    }),
-  )
+  pair_is held = grind (arith, one_base, same_pair)
 
   -- a row that isn't a held pair row isn't lost as one
   pub pair_not : ¬ (HoldsRow t caller (get_or bases 0 0) pair_words) → ¬ (LosesPair t caller bases)
@@ -149,10 +130,7 @@ module _ (t : Snapshot) (log : Log) (caller : ℕ) (bases : List ℕ) (known : c
 
   -- without such a pair row, rows may be given up exactly if they are a build that is lost
   pub lose_is : ¬ (LosesPair t caller bases) → LosesBuild t log caller bases ↔ CanLose t log caller bases
-  lose_is no_pair = (
-    (λ b. record { known = known; cause = inr b }),
-    (λ h. ⊎_elim (λ p. absurd (no_pair p)) (λ b. b) h.cause),
-  )
+  lose_is no_pair = grind arith
 
 -- the sizes that were found are the sizes of the rows, and there are no others
 pub sizes_found : (t : Snapshot) (caller : ℕ) (bases : List ℕ) (found : Option (Vec ℕ))
@@ -160,41 +138,21 @@ pub sizes_found : (t : Snapshot) (caller : ℕ) (bases : List ℕ) (found : Opti
     → ((xs : List ℕ) → (option_map (λ v. v.items) found ≡ Some xs) ↔ HoldsSizes t caller bases xs)
     → HoldsSizes t caller bases sizes.items
     × ((xs : List ℕ) → HoldsSizes t caller bases xs → sizes.items ≡ xs)
-sizes_found t caller bases found sizes is exact = (
-  (exact sizes.items).0 there,
-  (λ xs h. let e = (exact xs).1 h in let both : Some sizes.items ≡ Some xs = sym there ∙ e in cc),
-)
-  where
-    there : option_map (λ v. v.items) found ≡ Some sizes.items
-    there = ap (option_map (λ v. v.items)) is
+sizes_found t caller bases found sizes is exact = grind arith
 
 -- sizes of another caller's build are too late exactly if they are a building list
 pub late_is : (t : Snapshot) (log : Log) (caller : ℕ) (sizes : List ℕ) → IsBeaten caller sizes log
     → (lists : List (List ℕ)) → AreBuilding t lists
     → Among sizes lists ↔ IsTooLate t log caller sizes
-late_is t log caller sizes beaten lists are = (
-  (λ a. record { building = (are sizes).1 a; beaten = beaten }),
-  (λ late. (are sizes).0 late.building),
-)
+late_is t log caller sizes beaten lists are = grind arith
 
 module _ (t : Snapshot) (log : Log) (caller : ℕ) (bases sizes : List ℕ)
     (same : (others : List ℕ) → HoldsSizes t caller bases others → sizes ≡ others) where
   -- if the sizes don't come too late, no build is lost
   pub build_not : ¬ (IsTooLate t log caller sizes) → ¬ (LosesBuild t log caller bases)
-  build_not early b =
-      early (subst (IsTooLate t log caller) (sym (same b.sizes b.held))
-      record { building = b.building; beaten = b.beaten })
+  build_not early b = grind arith
 
   -- if the sizes come too late, a build is lost exactly if the bases are distinct
   pub build_is : HoldsSizes t caller bases sizes → IsTooLate t log caller sizes
       → Distinct bases ↔ LosesBuild t log caller bases
-  build_is held late = (
-    (λ once. record {
-      sizes = sizes;
-      held = held;
-      once = once;
-      building = late.building;
-      beaten = late.beaten;
-    }),
-    (λ b. b.once),
-  )
+  build_is held late = grind arith

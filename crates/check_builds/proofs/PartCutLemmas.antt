@@ -1,5 +1,5 @@
 -- A list cut into parts, one part at a time, and the first keys of the parts. Serves `ideals.rt`.
-use Rattle.std.proofs.Common.{◌≡◌, ◌≢◌, ◌↔◌, ◌∙◌, ◌≤◌, ◌<◌, ◌-◌, ◌+◌, ℕ, zero, suc, min, ⊎_elim, List, [], ◌∷◌, length, take, drop, get_or, slice_get, IsTrue, Bool, refl, sym, ap, arith, length-drop, ◌++◌, Some, None, subst, append_assoc, length-append}
+use Rattle.std.proofs.Common.{◌≡◌, ◌≢◌, ◌↔◌, ◌∙◌, ◌≤◌, ◌<◌, ◌-◌, ◌+◌, ℕ, zero, suc, min, List, [], ◌∷◌, length, take, drop, get_or, slice_get, IsTrue, Bool, refl, sym, ap, arith, length-drop, ◌++◌, Some, None, subst, append_assoc, length-append}
 use Rattle.std.proofs.lemmas.List.{take_all, take_min, nil_from_length}
 use Rattle.std.proofs.lemmas.Bool.{cases_lt}
 use Rattle.std.proofs.Math.ListN.{drop_of_length-le}
@@ -23,25 +23,14 @@ module _ {A : Type 0} where
 
   -- a list without more elements than it has
   pub drop_min : (n : ℕ) (xs : List A) → drop (min n (length xs)) xs ≡ drop n xs
-  drop_min n xs = ⊎_elim
-      (λ (h : n < length xs). ap (λ k. drop k xs) (let e : min n (length xs) ≡ n = omega arith in
-      e))
-      (λ (h : length xs ≤ n). drop_of_length-le xs (omega arith) ∙ sym (drop_of_length-le xs h))
-      (cases_lt n (length xs))
+  drop_min n xs = grind (arith, drop_of_length-le, cases_lt)
 
   -- a list cut from part j on is part j, followed by the rest cut from the next part on
   pub cut_first : (n j left end : ℕ) (xs : List A) → left ≢ 0 → end ≡ min (part_len n j) (length xs)
       → cut (part_lens_from n j left) xs ≡ take end xs ∷ cut (part_lens_from n (j + 1) (left - 1))
       (from xs end)
   cut_first n j zero end xs some is = absurd (some refl)
-  cut_first n j (suc left) end xs some is = let one : left ≡ suc left - 1 = omega arith in
-      let first : take (part_len n j) xs ≡ take end xs = sym (take_min (part_len n j) xs)
-      ∙ ap (λ k. take k xs) (sym is) in
-      let rest : drop (part_len n j) xs ≡ from xs end = sym (drop_min (part_len n j) xs)
-      ∙ ap (λ k. drop k xs) (sym is) ∙ sym (from-drop xs end) in
-      ap (λ ys. ys ∷ cut (part_lens_from n (j + 1) left) (drop (part_len n j) xs)) first
-      ∙ ap (λ ys. take end xs ∷ cut (part_lens_from n (j + 1) left) ys) rest
-      ∙ ap (λ k. take end xs ∷ cut (part_lens_from n (j + 1) k) (from xs end)) one
+  cut_first n j (suc left) end xs some is = grind (arith, take_min, drop_min, from-drop)
 
   -- a later part is one of those after the first
   pub nth_more : (n j left end i : ℕ) (xs : List A) → left ≢ 0 → end ≡ min (part_len n j)
@@ -49,10 +38,7 @@ module _ {A : Type 0} where
       → slice_get (cut (part_lens_from n (j + 1) (left - 1)) (from xs end)) (i - 1)
       ≡ slice_get (cut (part_lens_from n j left) xs) i
   nth_more n j left end zero xs some is ne = absurd (ne refl)
-  nth_more n j left end (suc i) xs some is ne =
-      ap (slice_get (cut (part_lens_from n (j + 1) (left - 1)) (from xs end))) (let e : suc i - 1
-      ≡ i = omega arith in e)
-      ∙ ap (λ ps. slice_get ps (suc i)) (sym (cut_first n j left end xs some is))
+  nth_more n j left end (suc i) xs some is ne = grind (arith, cut_first)
 
   -- a list cut into no part
   pub cut_last : (n j left : ℕ) (xs : List A) → left ≡ 0 → cut (part_lens_from n j left) xs ≡ []
@@ -84,8 +70,7 @@ module _ (n j left end : ℕ) (leaves : List PlacedLeaf) (some : left ≢ 0)
           parts
       head zero xs z h e parts = absurd (z refl)
       head (suc k) [] z h e parts = absurd (omega arith)
-      head (suc k) (x ∷ xs) z h e parts = ap (λ y. key_of_leaf y ∷ first_keys key_of_leaf parts)
-          (sym e)
+      head (suc k) (x ∷ xs) z h e parts = grind arith
 
   -- so a part that isn't empty has some first key
   pub keys_some : end ≢ 0
@@ -107,11 +92,7 @@ none_begins (x ∷ xs) k ks h e = omega arith
 -- keys with this first one
 pub begins_so : (keys : List ℕ) (k : ℕ) (ks : List ℕ) (b : Bool) → 1 ≤ length keys → get_or keys 0 0
     ≡ k → (IsTrue b ↔ (following keys ≡ ks)) → IsTrue b ↔ (keys ≡ k ∷ ks)
-begins_so keys k ks b n e i = (
-  (λ y. first_word keys n ∙ ap (λ x. x ∷ following keys) e ∙ ap (λ xs. k ∷ xs) (i.0 y)),
-  (λ same. i.1 (let whole : get_or keys 0 0 ∷ following keys ≡ k ∷ ks = sym (first_word keys n)
-      ∙ same in cc)),
-)
+begins_so keys k ks b n e i = grind (arith, first_word, following)
 
 -- ---- which rows are the rows of the parts of an ideal subtree, one part after another. Serves
 -- `ideals.rt`.
@@ -139,14 +120,7 @@ AllInverted _ _ above rows = ⊥
 all_inverted : (words : List ℕ) (ps : List (List PlacedLeaf)) (above : ℕ) (rows : List Row)
     → BuildsAll words ps above rows → AllInverted words ps above rows
 all_inverted _ _ _ _ builds_end = refl
-all_inverted _ _ _ _ (builds_part {here = here} {rest = rest} ref e first more) = record {
-  here = here;
-  rest = rest;
-  rows_are = refl;
-  first = record
-      { ref = ref; names = e; builds = first };
-  more = more;
-}
+all_inverted _ _ _ _ (builds_part {here = here} {rest = rest} ref e first more) = grind arith
 
 module _ (n j left : ℕ) (slots : List ℕ) (leaves : List PlacedLeaf) (above : ℕ) (rows : List Row)
   where

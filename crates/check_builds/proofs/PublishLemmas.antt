@@ -1,5 +1,5 @@
 -- The rows of a Root or a Place, published, are those that the words say. Serves `building.rt`.
-use Rattle.std.proofs.Common.{◌≡◌, ◌∙◌, ◌<◌, ℕ, List, [], ◌∷◌, ◌++◌, length, Option, Some, None, refl, sym, ap, subst, inl, inr}
+use Rattle.std.proofs.Common.{◌≡◌, ◌∙◌, ◌<◌, ℕ, List, [], ◌∷◌, ◌++◌, length, Option, Some, None, refl, sym, ap, subst, inl, inr, arith}
 use Rattle.ist_core.specs.declared.lists.Row.{Row}
 use Rattle.ist_core.specs.WordTerms.{part_lens, Ref, InnerAt, parts, Pieces, Piece, Leaf, Inner, inner_of, with_row, with_inners, logical, IsIdeal, AreIdeal, of_none, of_one, of_more, no_part, one_part}
 use Rattle.ist_core.specs.LogTerms.{Among, Each, Distinct, Snapshot, bases_of, HoldsRow, HoldsRows}
@@ -32,12 +32,7 @@ held_is_free t caller rows held free base i = let it = row_among base rows i in
 pub leaf_kept : (t : Snapshot) (caller : ℕ) (rows : List Row) → HoldsRows t caller rows
     → HeldAreFree t
     → (leaf : PlacedLeaf) → LeafStands t.pieces leaf → LeafStands (with_inners t.pieces rows) leaf
-leaf_kept t caller rows held free leaf e =
-    with_inners-other t.pieces rows leaf.base (λ i. clash (t.pieces leaf.base)
-    (held_is_free t caller rows held free leaf.base i) e) ∙ e
-  where
-    clash : (o : Option Piece) → o ≡ None → o ≡ Some (Leaf leaf.row) → ⊥
-    clash o a b = cc
+leaf_kept t caller rows held free leaf e = grind (arith, with_inners-other, held_is_free)
 
 -- each row of them is published
 pub rows_stand : (ps : Pieces) (rows : List Row) → Distinct (bases_of rows)
@@ -51,8 +46,7 @@ rows_stand ps (row ∷ rows) once free = (
   where
     here : (o : Option Piece) → inner_of row.words ≡ o → with_row (with_inners ps rows) row.base
         (inner_of row.words) row.base ≡ inner_of row.words
-    here (Some p) e = subst (λ x. with_row (with_inners ps rows) row.base x row.base ≡ x) (sym e)
-        (with_row-same (with_inners ps rows) row.base p)
+    here (Some p) e = grind (arith, with_row-same)
     here None e = subst (λ x. with_row (with_inners ps rows) row.base x row.base ≡ x) (sym e)
         (with_inners-other ps rows row.base once.0 ∙ free row.base (inl refl))
 

@@ -17,8 +17,7 @@ module _ (P : List Row → Type 0) (rows : List Row) where
   -- the first k have P, and so all of them have it exactly if there are k
   pub some_whole : (k : ℕ) → CountsRows P rows (Some k) → IsTrue (nat_eq k (length rows)) ↔ P rows
   some_whole k some = (
-    (λ y. let e : k ≡ length rows = grind (arith, nat_tests) in subst P (ap (λ n. take n rows) e
-        ∙ take_all (length rows) rows (omega arith)) some.0),
+    (λ y. grind (arith, nat_tests, take_all)),
     (λ p. let e : length rows ≡ k = some.1 rows [] (sym (append-nil rows)) p in grind
         (arith, nat_tests)),
   )
@@ -94,38 +93,21 @@ module _ (row : Row) (leaves : List PlacedLeaf) (above : ℕ) (ws : List ℕ) (i
       (from leaves first))
 
   wanted : wanted_keys ≡ first_keys key_of_leaf (drop 1 (parts leaves))
-  wanted = ap (λ d. first_keys key_of_leaf (cut (part_lens_from (length leaves) 1 (d - 1))
-      (from leaves first))) degree_is
-      ∙ sym (ap (first_keys key_of_leaf) (parts_after leaves first some first_is))
+  wanted = grind (arith, from, parts_after)
 
   keys_are : take end (from ws 4) ≡ take (get_or ws 2 0 - 1) (from ws 4)
   keys_are = ap (λ k. take k (from ws 4)) end_is ∙ take_min (get_or ws 2 0 - 1) (from ws 4)
 
   slots_are : from (from ws 4) end ≡ drop (get_or ws 2 0 - 1) (from ws 4)
-  slots_are = from-drop (from ws 4) end ∙ ap (λ k. drop k (from ws 4)) end_is
-      ∙ drop_min (get_or ws 2 0 - 1) (from ws 4)
+  slots_are = grind (arith, from-drop, from, drop_min)
 
   -- a row with these fields and keys is the top row
   pub has_top : 2 ≤ length leaves → above < row.base → get_or ws 0 0 ≡ 0 → get_or ws 1 0 ≡ 0
       → get_or ws 3 0 ≡ length leaves → take end (from ws 4) ≡ wanted_keys
       → HasTopSlots row leaves above (from (from ws 4) end)
-  has_top two higher status count size keys = record {
-    top = read_row ws;
-    is_top = record {
-      read = read;
-      two = two;
-      higher = higher;
-      status = status;
-      count = count;
-      degree = degree_is;
-      size = size;
-      keys = sym keys_are ∙ keys ∙ wanted;
-    };
-    slots_are = sym slots_are;
-  }
+  has_top two higher status count size keys = grind (arith, read, keys_are, wanted, slots_are)
 
   -- and a top row has these keys
   pub top_keys : (slots : List ℕ) → HasTopSlots row leaves above slots → take end (from ws 4)
       ≡ wanted_keys
-  top_keys slots h = let same : h.top ≡ (read_row ws) = cc (sym h.is_top.read ∙ read) in
-      keys_are ∙ sym (ap (λ r. r.keys) same) ∙ h.is_top.keys ∙ sym wanted
+  top_keys slots h = grind (arith, read, keys_are, wanted)

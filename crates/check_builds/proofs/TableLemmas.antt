@@ -1,12 +1,11 @@
 -- What a table says after an insertion. Serves `remembering.rt`.
-use Rattle.std.proofs.Common.{◌≡◌, ◌≢◌, ◌↔◌, ◌∙◌, ◌≤◌, ◌<◌, ◌^◌, ◌⊎◌, ℕ, [], IsTrue, true, false, eqb, max, ◌∷◌, Option, Some, None, IfSome, Result, Ok, Err, OnOk, refl, sym, ap, subst, inl, inr, ⊎_elim, arith}
+use Rattle.std.proofs.Common.{◌≡◌, ◌≢◌, ◌↔◌, ◌∙◌, ◌≤◌, ◌<◌, ◌^◌, ◌⊎◌, ℕ, [], true, false, eqb, max, ◌∷◌, Option, Some, None, IfSome, Result, Ok, Err, OnOk, refl, sym, ap, subst, inl, inr, ⊎_elim, arith}
 use Rattle.std.proofs.lemmas.Bool.Decides.{eqb_tells, leb_tells}
 use Rattle.std.proofs.lemmas.Grind.{common_steps}
 use Rattle.std.specs.Ordering.{nat_cmp}
 use Rattle.std.specs.BTreeMap as tree
-use Rattle.std.specs.BTreeMap.{BTreeMap, is_at}
+use Rattle.std.specs.BTreeMap.{BTreeMap}
 use Rattle.std.specs.BTreeSet.{BTreeSet}
-use Rattle.std.specs.List.{list_any}
 use Rattle.ist_core.specs.declared.events.Event.{Event}
 use Rattle.ist_core.specs.declared.events.Event.TheVariants.{Enter, Reserve, Install, Okay, Decide, Resolve, Count, Mark, Pass, Finish, Root, Draw, Place, Lose}
 use Rattle.ist_core.specs.LogTerms.{Log, Happened, Draws, Passes}
@@ -57,8 +56,7 @@ module _ (m n : BTreeMap ℕ ℕ) (log : Log) (caller rebuild part most : ℕ) (
           older x (inl d) = ⊎_elim (λ z. absurd (z (sym d.0))) (λ z. absurd (z (sym d.1))) ne
 
       differ : pair_key c o ≢ pair_key caller rebuild → (c ≢ caller) ⊎ (o ≢ rebuild)
-      differ ne = ⊎_elim (λ z. inr (λ e. ne (let p = z.1 in ap (λ x. pair_key x o) p
-          ∙ ap (pair_key caller) e))) (λ z. inl z.1) (eqb_tells c caller)
+      differ ne = grind (arith, eqb_tells)
 
       at : ◌⊎◌ ((eqb (pair_key c o) (pair_key caller rebuild) ≡ true)
           × (pair_key c o ≡ pair_key caller rebuild)) ((eqb (pair_key c o) (pair_key caller rebuild)
@@ -74,10 +72,7 @@ module _ (m n : BTreeMap ℕ ℕ) (log : Log) (caller rebuild part most : ℕ) (
           (subst (λ p. FindsGreatest (λ x. Happened (Draws caller rebuild x)
           (Draw caller rebuild part ∷ log)) p)
           (sym (updated_here m n (pair_key caller rebuild) most u)) is_most))
-      at (inr k) =
-          subst (λ p. FindsGreatest (λ x. Happened (Draws c o x) (Draw caller rebuild part ∷ log))
-          p) (sym (updated_other m n (pair_key caller rebuild) most u (pair_key c o) k.1))
-          (others (differ k.1) (tree.get nat_cmp m (pair_key c o)) (known c o fits fits_too))
+      at (inr k) = grind (arith, others, differ)
 
 -- the greatest part after a draw
 pub most_first : (log : Log) (caller rebuild part : ℕ)
@@ -145,8 +140,7 @@ pub passes_kept : (m : BTreeMap ℕ ℕ) (log : Log) (event : Event)
 passes_kept m log event other known node i word fits fits_too =
     let it = known node i word fits fits_too in (
       (λ e. inr (it.0 e)),
-      (λ d. ⊎_elim (λ now. absurd (no_pass event other node i word now))
-          (λ before. it.1 before) d),
+      (λ d. grind (arith, no_pass)),
     )
 
 module _ (m n : BTreeMap ℕ ℕ) (log : Log) (caller node index word : ℕ) (known : KnowsPasses m log)
@@ -164,7 +158,7 @@ module _ (m n : BTreeMap ℕ ℕ) (log : Log) (caller node index word : ℕ) (kn
           (λ x. tree.get nat_cmp n (pair_key x i)) same.0
           ∙ ap (λ y. tree.get nat_cmp n (pair_key node y)) same.1 ∙ updated_here m n
           (pair_key node index) word u in (
-            (λ e. let is : word ≡ w = cc in inl (sym same.0, sym same.1, is)),
+            (λ e. grind arith),
             (λ d. here ∙ ap (λ x. Some x) (one a i word w (inl (sym same.0, sym same.1, refl)) d)),
           )
 
@@ -173,9 +167,7 @@ module _ (m n : BTreeMap ℕ ℕ) (log : Log) (caller node index word : ℕ) (kn
       other ne = let same = updated_other m n (pair_key node index) word u (pair_key a i) ne in
           let it = known a i w fits fits_too in (
             (λ e. inr (it.0 (sym same ∙ e))),
-            (λ d. same ∙ it.1 (⊎_elim (λ z. absurd
-                (ne (ap (λ x. pair_key x i) (sym z.0) ∙ ap (pair_key node) (sym z.1)))) (λ z. z)
-                d)),
+            (λ d. grind arith),
           )
 
       at : ◌⊎◌ ((eqb (pair_key a i) (pair_key node index) ≡ true)
@@ -191,8 +183,4 @@ module _ (m n : BTreeMap ℕ ℕ) (log : Log) (caller node index word : ℕ) (kn
 
 -- an empty set holds nothing
 pub holds_none : (set : BTreeSet ℕ) (x : ℕ) → set.keys ≡ [] → ¬ (Holds set x)
-holds_none set x empty h =
-    clash (subst (λ keys. IsTrue (list_any (is_at (nat_cmp x)) keys)) empty h)
-  where
-    clash : IsTrue false → ⊥
-    clash e = cc
+holds_none set x empty h = grind arith

@@ -1,6 +1,6 @@
 -- A search finds a number exactly if it is among the others. Serves `kinds.rt` and `shapes.rt`, and
 -- whoever looks for a base twice.
-use Rattle.std.proofs.Common.{◌≡◌, ◌↔◌, ◌==◌, ◌||◌, Bool, true, false, ℕ, IsTrue, List, [], ◌∷◌, refl, ap, inl, inr, arith}
+use Rattle.std.proofs.Common.{◌≡◌, ◌↔◌, ◌==◌, ◌||◌, Bool, true, false, ℕ, IsTrue, List, [], ◌∷◌, refl, inl, inr, arith}
 use Rattle.std.proofs.lemmas.Bool.Decides.{nat_tests}
 use Rattle.std.specs.List.{list_any}
 use Rattle.ist_core.specs.LogTerms.{Among}
@@ -23,8 +23,7 @@ module _ (x : ℕ) where
 
   found_any : (xs : List ℕ) → Among x xs → IsTrue (list_any (λ y. y == x) xs)
   found_any [] a = absurd a
-  found_any (y ∷ ys) (inl i) = let e : (y == x) ≡ true = grind (arith, nat_tests) in ap
-      (λ b. b || list_any (λ z. z == x) ys) e
+  found_any (y ∷ ys) (inl i) = grind (arith, nat_tests)
   found_any (y ∷ ys) (inr a) = finds_later ys (found_any ys a) (y == x)
 
   -- a search finds a number exactly if it is among these

@@ -24,15 +24,7 @@ module _ (first : Snapshot) (log : Log) (caller node : ℕ) where
   -- the part of the condition that is about the log
   pub count_uncounted : (h : CanCount first log caller node)
       → IsUncounted (state first log) log caller node h.base
-  count_uncounted h = record {
-    later = h.later;
-    by = h.by;
-    earlier = h.earlier;
-    log_is = h.log_is;
-    update = h.update;
-    last = h.last;
-    uncounted = h.uncounted;
-  }
+  count_uncounted h = grind arith
 
   -- if one change may be counted, what remains is whether the node is on its chain
   pub count_is : (base : ℕ) (change : ChangeRow) → (state first log).pieces base
@@ -52,9 +44,7 @@ module _ (first : Snapshot) (log : Log) (caller node : ℕ) where
           update = u.update;
           last = u.last;
           uncounted = u.uncounted;
-          on_chain = subst (λ c. WasOnChain first log c.node node)
-              (same_change ((state first log).pieces base) change u.update.change e
-              u.update.published) w;
+          on_chain = grind (arith, same_change);
         }),
     (λ h. let same = one h.base (count_uncounted h) in
         let there = subst (λ b. (state first log).pieces b ≡ Some (Change h.update.change))
@@ -70,8 +60,7 @@ module _ (first : Snapshot) (log : Log) (caller node : ℕ) (updates : BTreeMap 
   -- a change that may be counted is the entry's, which lacks the node
   pub counted_lacks : (o : Option LastUpdate) → o ≡ tree.get nat_cmp updates caller
       → (h : CanCount first log caller node) → LacksCount o node h.base
-  counted_lacks o is h = subst (λ x. LacksCount x node h.base) (sym is)
-      ((known caller node h.base).1 (count_uncounted first log caller node h))
+  counted_lacks o is h = grind arith
 
   -- if the replica lacks the entry's change, nothing may be counted
   pub no_change_counts : (s : Replica) (last : LastUpdate) → Mirrors s (state first log)
@@ -103,82 +92,24 @@ module _ (t : Snapshot) (change : ChangeRow) (fresh : List Row) where
       → ref_of change.from ≡ Some (InnerAt target) → MayBeRebuilt t change.node target
       → ref_of change.to ≡ Some (RebuildAt rebuild)
       → (fresh ≡ row_at rebuild (new_rebuild change target) ∷ []) ↔ Starts t change fresh
-  starts_is target rebuild kind key value from may to = (
-    (λ are. record {
-      kind = kind;
-      key = key;
-      value = value;
-      target = target;
-      row = may.row;
-      from = from;
-      published = may.published;
-      due = may.due;
-      rebuild = rebuild;
-      to = to;
-      fresh_are = are;
-    }),
-    (λ h. let same = one_target (ref_of change.from) h.target target h.from from in
-        let alike : h.rebuild ≡ rebuild = cc (h.to) in
-        subst (λ o. fresh ≡ row_at o (new_rebuild change target) ∷ []) alike
-        (subst (λ n. fresh ≡ row_at h.rebuild (new_rebuild change n) ∷ []) same h.fresh_are)),
-  )
+  starts_is target rebuild kind key value from may to = grind (arith, one_target)
 
   -- if the target may not be rebuilt, the change isn't a start
   pub starts_not : (target : ℕ) → ref_of change.from ≡ Some (InnerAt target)
       → ¬ (MayBeRebuilt t change.node target) → ¬ (Starts t change fresh)
-  starts_not target from not_due h =
-      not_due (subst (λ n. MayBeRebuilt t change.node n) (one_target (ref_of change.from) h.target
-      target h.from from) record { row = h.row; published = h.published; due = h.due })
+  starts_not target from not_due h = grind (arith, one_target)
 
   -- a change from a rebuild is a finish exactly if it puts in the rebuild's root
   pub finishes_is : (rebuild : ℕ) → change.kind ≡ 4 → change.key ≡ 0 → change.value ≡ 0 → fresh ≡ []
       → ref_of change.from ≡ Some (RebuildAt rebuild)
       → IsFinishOf t change rebuild ↔ Finishes t change fresh
-  finishes_is rebuild kind key value none from = (
-    (λ f. record {
-      kind = kind;
-      key = key;
-      value = value;
-      rebuild = rebuild;
-      row = f.row;
-      from = from;
-      published = f.published;
-      started = f.started;
-      parent = f.parent;
-      index = f.index;
-      to = f.to;
-      built = f.built;
-      fresh_are = none;
-    }),
-    (λ h. let same : h.rebuild ≡ rebuild = cc (h.from) in
-        subst (λ o. IsFinishOf t change o) same record {
-          row = h.row;
-          published = h.published;
-          started = h.started;
-          parent = h.parent;
-          index = h.index;
-          to = h.to;
-          built = h.built;
-        }),
-  )
+  finishes_is rebuild kind key value none from = grind arith
 
   -- the change is the finish of its rebuild exactly if the root is built
   pub finish_of_is : (rebuild : ℕ) (r : RebuildRow) → t.pieces rebuild ≡ Some (Rebuild r)
       → IsStarted t rebuild → r.parent ≡ change.node → r.index ≡ change.index → r.root ≡ change.to
       → IsBuilt t r.root ↔ IsFinishOf t change rebuild
-  finish_of_is rebuild r e started parent index root = (
-    (λ b. record {
-      row = r;
-      published = e;
-      started = started;
-      parent = parent;
-      index = index;
-      to = sym root;
-      built = b;
-    }),
-    (λ h. subst (λ x. IsBuilt t x.root) (same_rebuild (t.pieces rebuild) h.row r h.published e)
-        h.built),
-  )
+  finish_of_is rebuild r e started parent index root = grind (arith, same_rebuild)
 
 -- ---- built roots
 
@@ -196,8 +127,7 @@ module _ (t : Snapshot) (root base : ℕ) (e : ref_of root ≡ Some (InnerAt bas
   row_slots : (r : InnerRow) → t.pieces base ≡ Some (Inner r) → (i word : ℕ) → SlotHolds t base i
       word → Among word r.slots
   row_slots r p i word (in_anchor a b c) = absurd (no_anchor a)
-  row_slots r p i word (in_row s q g) = get_among r.slots i word
-      (subst (λ x. slice_get x.slots i ≡ Some word) (same_inner (t.pieces base) s r q p) g)
+  row_slots r p i word (in_row s q g) = grind (arith, get_among, same_inner)
 
   -- a root is built exactly if no slot of its row is Unset
   pub built_is : (r : InnerRow) → t.pieces base ≡ Some (Inner r) → root ≢ unset_word

@@ -1,6 +1,6 @@
 -- What the code tests of a change and its slot is what the conditions say. Serves `nodes.rt` and
 -- `deciding.rt`.
-use Rattle.std.proofs.Common.{◌≡◌, ◌↔◌, ◌<◌, ◌≢◌, ℕ, IsTrue, Bool, nat_eq, Some, subst, eq-eqb, ◌∙◌, Option, None, sym, ap, ◌≤◌, is_some, true≢false, refl, arith, inl, inr}
+use Rattle.std.proofs.Common.{◌≡◌, ◌↔◌, ◌<◌, ◌≢◌, ℕ, IsTrue, Bool, nat_eq, Some, subst, ◌∙◌, Option, None, sym, ap, ◌≤◌, is_some, true≢false, refl, arith, inl, inr}
 use Rattle.ist_core.specs.declared.states.InnerRow.{InnerRow}
 use Rattle.ist_core.specs.declared.states.ChangeRow.{ChangeRow}
 use Rattle.ist_core.specs.declared.states.RebuildRow.{RebuildRow}
@@ -26,8 +26,7 @@ open_row t node r far e = ((λ y. row_is r e (is_equal r.status 0 y)), back)
   where
     back : IsOpen t node → IsTrue (nat_eq r.status 0)
     back (anchor_is i) = absurd (far i)
-    back (row_is s i k) = let same : s ≡ r = same_inner (t.pieces node) s r i e in
-        eq-eqb r.status 0 (subst (λ x. x.status ≡ 0) same k)
+    back (row_is s i k) = grind (arith, same_inner)
 
 -- a slot is the anchor's, or one of an inner row
 pub slot_of_row : (t : Snapshot) (node i word : ℕ)
@@ -63,16 +62,7 @@ module _ (t : Snapshot) (caller base : ℕ) (change : ChangeRow) (e : t.pieces b
   -- an undecided change may be decided this way exactly if its outcome allows it
   pub decision_is : (log : Log) (said : Bool) → change.decision ≡ 0
       → MayBe t log base change said ↔ CanDecide t log caller base said
-  decision_is log said u = (
-    (λ o. record {
-      known = known;
-      change = change;
-      pending = record { published = e; unset = u };
-      outcome = o;
-    }),
-    (λ h. subst (λ x. MayBe t log base x said) (same_change (t.pieces base) h.change change
-        h.pending.published e) h.outcome),
-  )
+  decision_is log said u = grind (arith, same_change)
 
   -- a decided change may be resolved exactly if its slot holds it
   pub resolve_is : change.decision ≢ 0
@@ -143,8 +133,7 @@ module _ (slots : BTreeMap ℕ Slot) (n : ℕ) (slot : Slot) (e : tree.get nat_c
         out : (n : ℕ) → ClimbsBy slots x n → n ≢ x → tree.get nat_cmp slots n ≡ Some slot
             → ClimbsBy slots x slot.node
         out _ (here s i) f j = absurd (f refl)
-        out _ (higher s i h) f j = let same : s ≡ slot = cc in subst (λ y. ClimbsBy slots x y.node)
-            same h
+        out _ (higher s i h) f j = grind arith
 
     -- if the node's slot is the key's, its way up is for the key exactly if its parent's is
     pub climbs_on : (t : Snapshot) (key : ℕ) → n ≢ anchor → IsChildFor t slot.node key slot.index
@@ -154,8 +143,7 @@ module _ (slots : BTreeMap ℕ Slot) (n : ℕ) (slot : Slot) (e : tree.get nat_c
         out : (n : ℕ) → Climbs slots t key n → n ≢ anchor → tree.get nat_cmp slots n ≡ Some slot
             → Climbs slots t key slot.node
         out _ at_top f j = absurd (f refl)
-        out _ (up s i g h) f j = let same : s ≡ slot = cc in subst (λ y. Climbs slots t key y.node)
-            same h
+        out _ (up s i g h) f j = grind arith
 
     -- if the node's slot is not the one for the key, its way up is not for the key
     pub climbs_off : (t : Snapshot) (key : ℕ) → n ≢ anchor → ¬ (IsChildFor t slot.node key slot.index)

@@ -1,12 +1,11 @@
 -- Held rows by their bases and by their callers. Serves `held.rt`.
-use Rattle.std.proofs.Common.{◌≡◌, ◌≢◌, ◌↔◌, ◌∙◌, ◌<◌, ◌⊎◌, ◌==◌, ◌++◌, ◌∷◌, [], ℕ, List, Bool, true, false, not, if◌then◌else◌, filter, Some, None, refl, sym, ap, subst, inl, inr, arith}
+use Rattle.std.proofs.Common.{◌≡◌, ◌≢◌, ◌↔◌, ◌∙◌, ◌<◌, ◌⊎◌, ◌==◌, ◌++◌, ◌∷◌, [], ℕ, List, Bool, true, false, not, if◌then◌else◌, filter, Some, None, refl, sym, ap, inl, inr, arith}
 use Rattle.std.proofs.lemmas.Cmp.{ranked}
 use Rattle.std.specs.BTreeMap.{is_at, insert_entry}
 use Rattle.std.specs.List.{list_any}
 use Rattle.std.specs.Map.{lookup}
-use Rattle.std.specs.declared.cmp.Ordering.{Ordering}
-use Rattle.std.specs.declared.cmp.Ordering.TheVariants.{Less, Equal, Greater}
-use Rattle.std.specs.Ordering.{MatchOrdering, is_eq, nat_cmp, match_ordering}
+use Rattle.std.specs.declared.cmp.Ordering.TheVariants.{Greater}
+use Rattle.std.specs.Ordering.{nat_cmp, match_ordering}
 use Rattle.ist_core.specs.declared.lists.HeldRow.{HeldRow}
 use Rattle.ist_core.specs.LogTerms.{Among, Each, without}
 use Rattle.ist_core.proofs.AllWordLemmas.{each-among, each_append}
@@ -14,23 +13,11 @@ use Rattle.check_events.specs.Holding.{by_base, BasesRise}
 
 -- a look-up at a number finds it, or passes it by
 pub tells : (b k : ℕ) → ((is_at (nat_cmp b) k ≡ true) × (b ≡ k)) ⊎ ((is_at (nat_cmp b) k ≡ false) × (b ≢ k))
-tells b k = at (nat_cmp b k) refl (ranked b k (nat_cmp b k) refl)
-  where
-    at : (o : Ordering) → o ≡ nat_cmp b k → MatchOrdering o (b < k) (b ≡ k) (k < b)
-        → ((is_at (nat_cmp b) k ≡ true) × (b ≡ k)) ⊎ ((is_at (nat_cmp b) k ≡ false) × (b ≢ k))
-    at Less e l = inr (sym (ap is_eq e), λ s. omega arith)
-    at Equal e s = inl (sym (ap is_eq e), s)
-    at Greater e g = inr (sym (ap is_eq e), λ s. omega arith)
+tells b k = grind (arith, ranked)
 
 -- a number above another is ordered after it
 greater_is : (b k : ℕ) → k < b → nat_cmp b k ≡ Greater
-greater_is b k g = at (nat_cmp b k) refl (ranked b k (nat_cmp b k) refl)
-  where
-    at : (o : Ordering) → o ≡ nat_cmp b k → MatchOrdering o (b < k) (b ≡ k) (k < b)
-        → nat_cmp b k ≡ Greater
-    at Less e l = absurd (omega arith)
-    at Equal e s = absurd (omega arith)
-    at Greater e h = sym e
+greater_is b k g = grind (arith, ranked)
 
 -- ---- by base
 
@@ -47,15 +34,10 @@ found_at (h ∷ hs) row r i = at (found_at hs row r.1) (tells row.base h.base) i
         → ((is_at (nat_cmp row.base) h.base ≡ true) × (row.base ≡ h.base))
         ⊎ ((is_at (nat_cmp row.base) h.base ≡ false) × (row.base ≢ h.base)) → Among row (h ∷ hs)
         → lookup (is_at (nat_cmp row.base)) (by_base (h ∷ hs)) ≡ Some row
-    at again (inl k) (inl e) =
-        ap (λ b. if b then Some h else lookup (is_at (nat_cmp row.base)) rest) k.0
-        ∙ ap (λ x. Some x) (sym e)
-    at again (inl k) (inr i) = let low = each-among (λ g. h.base < g.base) row hs r.0 i in
-        let same = k.1 in absurd (omega arith)
+    at again (inl k) (inl e) = grind (arith, rest)
+    at again (inl k) (inr i) = grind (arith, each-among)
     at again (inr k) (inl e) = absurd (k.1 (ap (λ x. x.base) e))
-    at again (inr k) (inr i) =
-        ap (λ b. if b then Some h else lookup (is_at (nat_cmp row.base)) rest) k.0
-        ∙ again i
+    at again (inr k) (inr i) = grind (arith, rest)
 
 -- what is found at a base is held, and lies there
 pub held_at : (held : List HeldRow) (b : ℕ) (row : HeldRow)
@@ -69,13 +51,8 @@ held_at (h ∷ hs) b row e = at (held_at hs b row) (tells b h.base)
     at : (lookup (is_at (nat_cmp b)) (by_base hs) ≡ Some row → Among row hs × (row.base ≡ b))
         → ((is_at (nat_cmp b) h.base ≡ true) × (b ≡ h.base))
         ⊎ ((is_at (nat_cmp b) h.base ≡ false) × (b ≢ h.base)) → Among row (h ∷ hs) × (row.base ≡ b)
-    at again (inl k) =
-        let both = sym (ap (λ z. if z then Some h else lookup (is_at (nat_cmp b)) rest) k.0) ∙ e in
-        let same : h ≡ row = cc in (inl (sym same), ap (λ x. x.base) (sym same) ∙ sym k.1)
-    at again (inr k) =
-        let more = again
-        (sym (ap (λ z. if z then Some h else lookup (is_at (nat_cmp b)) rest) k.0) ∙ e) in
-        (inr more.0, more.1)
+    at again (inl k) = grind (arith, rest)
+    at again (inr k) = grind (arith, rest)
 
 -- if nothing is found at its base, a row isn't held
 pub none_found : (held : List HeldRow) (row : HeldRow) → BasesRise held
@@ -85,13 +62,7 @@ none_found held row r none i = cc (sym none ∙ found_at held row r i)
 -- if a row is found at its base, it is held exactly if it is that row
 pub one_found : (held : List HeldRow) (row found : HeldRow) → BasesRise held
     → lookup (is_at (nat_cmp row.base)) (by_base held) ≡ Some found → (row ≡ found) ↔ Among row held
-one_found held row found r e = (
-  (λ same. subst (λ h. Among h held) (sym same) (held_at held row.base found e).0),
-  (λ i. one (sym (found_at held row r i) ∙ e)),
-)
-  where
-    one : Some row ≡ Some found → row ≡ found
-    one k = cc
+one_found held row found r e = grind (arith, held_at, found_at)
 
 -- a row above all others comes last
 pub put_last : (held : List HeldRow) (row : HeldRow) → Each (λ e. e.0 < row.base) (by_base held)
@@ -139,16 +110,10 @@ module _ {A : Type 0} where
     where
       at : filter p (filter q xs) ≡ filter q (filter p xs) → (a b : Bool) → p x ≡ a → q x ≡ b
           → filter p (filter q (x ∷ xs)) ≡ filter q (filter p (x ∷ xs))
-      at again true true e f = ap (filter p) (kept_yes q x xs f) ∙ kept_yes p x (filter q xs) e
-          ∙ ap (λ ys. x ∷ ys) again
-          ∙ sym (ap (filter q) (kept_yes p x xs e) ∙ kept_yes q x (filter p xs) f)
-      at again true false e f = ap (filter p) (kept_no q x xs f) ∙ again
-          ∙ sym (ap (filter q) (kept_yes p x xs e) ∙ kept_no q x (filter p xs) f)
-      at again false true e f =
-          ap (filter p) (kept_yes q x xs f) ∙ kept_no p x (filter q xs) e ∙ again
-          ∙ sym (ap (filter q) (kept_no p x xs e))
-      at again false false e f =
-          ap (filter p) (kept_no q x xs f) ∙ again ∙ sym (ap (filter q) (kept_no p x xs e))
+      at again true true e f = grind (arith, kept_yes)
+      at again true false e f = grind (arith, kept_no, kept_yes)
+      at again false true e f = grind (arith, kept_yes, kept_no)
+      at again false false e f = grind (arith, kept_no)
 
 -- rows kept of increasing rows are increasing
 pub rises_kept : (test : HeldRow → Bool) (held : List HeldRow) → BasesRise held

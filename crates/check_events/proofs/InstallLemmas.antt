@@ -1,28 +1,16 @@
 -- What the code tests of an Install is what the condition says. Serves `installing.rt`.
-use Rattle.std.proofs.Common.{◌≡◌, ◌↔◌, ◌∙◌, ◌<◌, ◌≤◌, ℕ, List, [], ◌∷◌, length, get_or, Option, Some, sym, ap, subst, inl, inr}
+use Rattle.std.proofs.Common.{◌≡◌, ◌↔◌, ◌∙◌, ◌<◌, ◌≤◌, ℕ, List, [], ◌∷◌, length, get_or, Option, Some, sym, ap, subst, inl, inr, arith}
 use Rattle.ist_core.specs.declared.states.ChangeRow.{ChangeRow}
 use Rattle.ist_core.specs.declared.lists.Row.{Row}
 use Rattle.ist_core.specs.WordTerms.{Change, words_of, change_of, row_at, SlotHolds, undecided}
 use Rattle.ist_core.specs.LogTerms.{Snapshot, HoldsRows, Log, state}
-use Rattle.ist_core.specs.TreeTerms.{WasLinked, IsUnrefused, ComesByKey, PutsLeaf, PutsPair, Removes, Starts, Finishes, FitsKind, a_put, a_pair, a_remove, a_start, a_finish, CanInstall}
+use Rattle.ist_core.specs.TreeTerms.{WasLinked, IsUnrefused, ComesByKey, PutsLeaf, PutsPair, Removes, Starts, Finishes, FitsKind, a_put, a_pair, a_remove, CanInstall}
 use Rattle.check_events.specs.InstallRows.{MayStand, FitsByKey}
 use Rattle.check_fairness.proofs.AnswerLemmas.{following, split_first}
 
 -- words that are read as a change are its words
 change_words_are : (ws : List ℕ) (c : ChangeRow) → change_of ws ≡ Some c → ws ≡ words_of (Change c)
-change_words_are (a ∷ b ∷ d ∷ e ∷ f ∷ g ∷ h ∷ i ∷ j ∷ []) c k =
-    let same : record {
-      decision = a;
-      kind = b;
-      node = d;
-      index = e;
-      from = f;
-      to = g;
-      owner = h;
-      key = i;
-      value = j;
-    } ≡ c = cc in
-    ap (λ x. words_of (Change x)) same
+change_words_are (a ∷ b ∷ d ∷ e ∷ f ∷ g ∷ h ∷ i ∷ j ∷ []) c k = grind arith
 change_words_are [] c k = cc
 change_words_are (a ∷ []) c k = cc
 change_words_are (a ∷ b ∷ []) c k = cc
@@ -49,15 +37,13 @@ module _ (first : Snapshot) (log : Log) (caller base : ℕ) (rows : List Row) (r
   whole = split_first rows row n e
 
   same_change : (h : CanInstall first log caller base rows) → h.change ≡ change
-  same_change h = let one = head_same (sym whole ∙ h.rows_are) in
-      sym (cc (sym reads ∙ ap (λ r. change_of r.words) one))
+  same_change h = grind (arith, head_same, whole)
 
   same_fresh : (h : CanInstall first log caller base rows) → h.fresh ≡ following rows
   same_fresh h = sym (cc (sym whole ∙ h.rows_are))
 
   rows_named : rows ≡ row_at base (Change change) ∷ following rows
-  rows_named = let words = change_words_are row.words change reads in
-      whole ∙ ap (λ r. r ∷ following rows) (λ i. record { base = at i; words = words i })
+  rows_named = grind (arith, change_words_are, whole, following)
 
   -- what remains to be checked is the condition of the kind
   pub install_is : caller < (state first log).callers → HoldsRows (state first log) caller rows
@@ -78,8 +64,7 @@ module _ (first : Snapshot) (log : Log) (caller base : ℕ) (rows : List Row) (r
           unrefused = stand.unrefused;
           fits = fits;
         }),
-    (λ h. subst (λ c. FitsKind first log c (following rows)) (same_change h)
-        (subst (λ xs. FitsKind first log h.change xs) (same_fresh h) h.fits)),
+    (λ h. grind (arith, following, same_change, same_fresh)),
   )
 
   -- a change that may be installed meets what is required of any kind
@@ -138,11 +123,4 @@ module _ (first : Snapshot) (log : Log) (change : ChangeRow) (fresh : List Row) 
   -- a change that is of no other kind must be a finish
   pub fits_finish : ¬ (FitsByKey first log change fresh) → ¬ (Starts (state first log) change fresh)
       → Finishes (state first log) change fresh ↔ FitsKind first log change fresh
-  fits_finish a d = ((λ f. a_finish f), back)
-    where
-      back : FitsKind first log change fresh → Finishes (state first log) change fresh
-      back (a_put h) = absurd (a (inl h))
-      back (a_pair h) = absurd (a (inr (inl h)))
-      back (a_remove h) = absurd (a (inr (inr h)))
-      back (a_start h) = absurd (d h)
-      back (a_finish h) = h
+  fits_finish a d = grind arith

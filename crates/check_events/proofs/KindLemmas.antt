@@ -1,5 +1,5 @@
 -- What the code tests of a change, by its kind, is what the conditions say. Serves `kinds.rt`.
-use Rattle.std.proofs.Common.{◌≡◌, ◌↔◌, ◌∙◌, ◌≢◌, ℕ, IsTrue, nat_eq, List, [], ◌∷◌, Option, Some, sym, subst, eq-eqb}
+use Rattle.std.proofs.Common.{◌≡◌, ◌↔◌, ◌∙◌, ◌≢◌, ℕ, IsTrue, nat_eq, List, [], ◌∷◌, Option, Some, subst, arith}
 use Rattle.ist_core.specs.declared.states.ChangeRow.{ChangeRow}
 use Rattle.ist_core.specs.declared.lists.Row.{Row}
 use Rattle.ist_core.specs.WordTerms.{Ref, Empty, LeafAt, InnerAt, ref_of, row_at, IsChildFor}
@@ -21,16 +21,7 @@ module _ (t : Snapshot) (word leaf : ℕ) (e : ref_of word ≡ Some (LeafAt leaf
   -- a word names a leaf of the key that its leaf has
   pub names_is : (found key : ℕ) → IsLeafOf t leaf found → ((k : ℕ) → IsLeafOf t leaf k → k ≡ found)
       → IsTrue (nat_eq found key) ↔ NamesLeafOf t word key
-  names_is found key stands one = (
-    (λ y. record {
-      leaf = leaf;
-      names = e;
-      stands = subst (λ k. IsLeafOf t leaf k) (is_equal found key y) stands;
-    }),
-    (λ h. let same = one_leaf (ref_of word) h.leaf leaf h.names e in
-        let is : found ≡ key = sym (one key (subst (λ l. IsLeafOf t l key) same h.stands)) in
-        eq-eqb found key is),
-  )
+  names_is found key stands one = grind (arith, is_equal, one_leaf)
 
   -- if there is no leaf at the base, the word names no leaf of a key
   pub names_none : (key : ℕ) → ((k : ℕ) → ¬ (IsLeafOf t leaf k)) → ¬ (NamesLeafOf t word key)
@@ -86,8 +77,7 @@ module _ (first : Snapshot) (log : Log) (change : ChangeRow) (fresh : List Row)
       to = to;
       fresh_are = are;
     }),
-    (λ h. subst (λ l. fresh ≡ row_at l (new_leaf change) ∷ []) (one_leaf (ref_of change.to) h.leaf
-        leaf h.to to) h.fresh_are),
+    (λ h. grind (arith, one_leaf)),
   )
 
   -- without room for its key a change isn't a put of a leaf
@@ -117,18 +107,7 @@ module _ (first : Snapshot) (log : Log) (change : ChangeRow) (fresh : List Row)
           fresh_are = p.rows.rows_are;
         }),
     (λ h.
-        let pairs : PairsWith change fresh h.other h.other_key = record {
-          pair = h.pair;
-          to = h.to;
-          above = h.above;
-          rows = record
-              { leaf = h.leaf; rows_are = h.fresh_are };
-        } in
-        let same = one_leaf (ref_of change.from) h.other other h.from from in
-        let alike = one h.other_key (subst (λ l. IsLeafOf (state first log) l h.other_key) same
-        h.stands) in
-        subst (λ k. PairsWith change fresh other k) alike
-        (subst (λ l. PairsWith change fresh l h.other_key) same pairs)),
+        grind (arith, one_leaf)),
   )
 
   -- if the slot names no published leaf, the change isn't a put of a pair

@@ -1,5 +1,5 @@
 -- Held rows without some of them, and their lists by callers. Serves `held.rt`.
-use Rattle.std.proofs.Common.{◌≡◌, ◌≢◌, ◌∙◌, ◌<◌, ◌⊎◌, ◌==◌, ◌++◌, ◌∷◌, [], ℕ, List, Bool, true, false, not, eqb, ◌||◌, if◌then◌else◌, Some, None, refl, sym, ap, subst, inl, inr, arith}
+use Rattle.std.proofs.Common.{◌≡◌, ◌≢◌, ◌∙◌, ◌⊎◌, ◌==◌, ◌++◌, ◌∷◌, [], ℕ, List, Bool, true, false, not, eqb, Some, None, refl, sym, ap, subst, inl, inr, arith}
 use Rattle.std.proofs.lemmas.Bool.Decides.{eqb_tells}
 use Rattle.std.proofs.lemmas.List.{append-nil}
 use Rattle.std.proofs.lemmas.List.Elements.{filter-append}
@@ -9,7 +9,7 @@ use Rattle.std.specs.List.{list_any}
 use Rattle.std.specs.Map.{lookup, remove_entry, values_of}
 use Rattle.std.specs.Ordering.{nat_cmp}
 use Rattle.ist_core.specs.declared.lists.HeldRow.{HeldRow}
-use Rattle.ist_core.specs.LogTerms.{Among, Each, without}
+use Rattle.ist_core.specs.LogTerms.{Each, without}
 use Rattle.ist_core.proofs.AllWordLemmas.{each-among, among-filter, each_of}
 use Rattle.check_events.specs.declared.held.HeldTable.{HeldTable}
 use Rattle.check_events.specs.Holding.{by_base, listed_rows, of_caller, BasesRise, TableHolds}
@@ -23,20 +23,10 @@ module _ (b : ℕ) where
   stays h = not (list_any (λ base. base == h.base) (b ∷ []))
 
   other_stays : (h : HeldRow) → b ≢ h.base → stays h ≡ true
-  other_stays h ne = at (eqb_tells b h.base)
-    where
-      at : ((eqb b h.base ≡ true) × (b ≡ h.base)) ⊎ ((eqb b h.base ≡ false) × (b ≢ h.base))
-          → stays h ≡ true
-      at (inl k) = absurd (ne k.1)
-      at (inr k) = ap (λ z. not (z || false)) k.0
+  other_stays h ne = grind (arith, eqb_tells)
 
   same_goes : (h : HeldRow) → b ≡ h.base → stays h ≡ false
-  same_goes h same = at (eqb_tells b h.base)
-    where
-      at : ((eqb b h.base ≡ true) × (b ≡ h.base)) ⊎ ((eqb b h.base ≡ false) × (b ≢ h.base))
-          → stays h ≡ false
-      at (inl k) = ap (λ z. not (z || false)) k.0
-      at (inr k) = absurd (k.1 same)
+  same_goes h same = grind (arith, eqb_tells)
 
   -- rows at other bases all stay
   pub all_stay : (held : List HeldRow) → Each (λ h. b ≢ h.base) held → without (b ∷ []) held ≡ held
@@ -57,43 +47,20 @@ module _ (b : ℕ) where
           → ((is_at (nat_cmp b) h.base ≡ true) × (b ≡ h.base))
           ⊎ ((is_at (nat_cmp b) h.base ≡ false) × (b ≢ h.base))
           → remove_entry (is_at (nat_cmp b)) (by_base (h ∷ hs)) ≡ by_base (without (b ∷ []) (h ∷ hs))
-      at again (inl k) =
-          let apart : Each (λ g. b ≢ g.base) hs = each_of _ hs
-          (λ g i s. let low = each-among (λ x. h.base < x.base) g hs r.0 i in
-          let same = k.1 in absurd (omega arith)) in
-          ap (λ z. if z then by_base hs else (h.base, h) ∷ out b (by_base hs)) k.0
-          ∙ sym (ap by_base (kept_no stays h hs (same_goes h k.1) ∙ all_stay hs apart))
-      at again (inr k) = ap (λ z. if z then by_base hs else (h.base, h) ∷ out b (by_base hs)) k.0
-          ∙ ap (λ es. (h.base, h) ∷ es) again
-          ∙ sym (ap by_base (kept_yes stays h hs (other_stays h k.1)))
+      at again (inl k) = grind (arith, each_of, each-among, out, kept_no, same_goes, all_stay)
+      at again (inr k) = grind (arith, out, kept_yes, other_stays)
 
   -- if no row is found at the base, all stay
   pub none_goes : (held : List HeldRow) → BasesRise held
       → lookup (is_at (nat_cmp b)) (by_base held) ≡ None → without (b ∷ []) held ≡ held
-  none_goes held r none = all_stay held (each_of _ held
-      (λ h i s. let found = found_at held h r i in
-      let same = ap (λ k. lookup (is_at (nat_cmp k)) (by_base held)) s in
-      absurd (cc (sym none ∙ same ∙ found))))
+  none_goes held r none = grind (arith, all_stay, each_of, found_at)
 
   -- if the row at the base is another caller's, all rows of the caller stay
   pub others_stay : (held : List HeldRow) (row : HeldRow) → BasesRise held
       → lookup (is_at (nat_cmp b)) (by_base held) ≡ Some row → (caller : ℕ) → caller ≢ row.caller
       → of_caller caller (without (b ∷ []) held) ≡ of_caller caller held
-  others_stay held row r found caller ne = kept_swap (λ h. h.caller == caller) stays held
-      ∙ all_stay (of_caller caller held) (each_of _ (of_caller caller held)
-      (λ h i s. absurd (other h (among-filter (λ x. x.caller == caller) h held i) s)))
-    where
-      is : (h : HeldRow) → ((eqb h.caller caller ≡ true) × (h.caller ≡ caller))
-          ⊎ ((eqb h.caller caller ≡ false) × (h.caller ≢ caller))
-          → (h.caller == caller) ≡ true → h.caller ≡ caller
-      is h (inl k) e = k.1
-      is h (inr k) e = cc
-
-      other : (h : HeldRow) → Among h held × ((h.caller == caller) ≡ true) → b ≡ h.base → ⊥
-      other h it s =
-          let same : row ≡ h = cc (sym found ∙ ap (λ k. lookup (is_at (nat_cmp k)) (by_base held)) s
-          ∙ found_at held h r it.0) in
-          ne (sym (is h (eqb_tells h.caller caller) it.1) ∙ ap (λ x. x.caller) (sym same))
+  others_stay held row r found caller ne =
+      grind (arith, kept_swap, all_stay, each_of, among-filter, found_at, eqb_tells)
 
   -- a caller's rows without the base
   pub callers_rest : (held : List HeldRow) (caller : ℕ)
@@ -108,22 +75,8 @@ pub listed_last : (held : List HeldRow) (row : HeldRow) (old new : BTreeMap ℕ 
     → listed_rows new row.caller ≡ listed_rows old row.caller ++ row ∷ []
     → ((caller : ℕ) → caller ≢ row.caller → listed_rows new caller ≡ listed_rows old caller)
     → (caller : ℕ) → listed_rows new caller ≡ of_caller caller (held ++ row ∷ [])
-listed_last held row old new known here others caller = at (eqb_tells row.caller caller)
-  where
-    both : of_caller caller (held ++ row ∷ [])
-        ≡ of_caller caller held ++ of_caller caller (row ∷ [])
-    both = filter-append (λ h. h.caller == caller) held (row ∷ [])
-
-    at : ((eqb row.caller caller ≡ true) × (row.caller ≡ caller))
-        ⊎ ((eqb row.caller caller ≡ false) × (row.caller ≢ caller))
-        → listed_rows new caller ≡ of_caller caller (held ++ row ∷ [])
-    at (inl k) = subst (λ c. listed_rows new c ≡ listed_rows old c ++ row ∷ []) k.1 here
-        ∙ ap (λ xs. xs ++ row ∷ []) (known caller)
-        ∙ sym (both ∙ ap (λ xs. of_caller caller held ++ xs)
-        (kept_yes (λ h. h.caller == caller) row [] k.0))
-    at (inr k) = others caller (λ e. k.1 (sym e)) ∙ known caller
-        ∙ sym (both ∙ ap (λ xs. of_caller caller held ++ xs)
-        (kept_no (λ h. h.caller == caller) row [] k.0) ∙ append-nil (of_caller caller held))
+listed_last held row old new known here others caller =
+    grind (arith, eqb_tells, filter-append, kept_yes, kept_no, append-nil)
 
 -- the callers' rows without the row at a base
 pub listed_without : (b : ℕ) (held : List HeldRow) (row : HeldRow) → BasesRise held
@@ -158,22 +111,9 @@ without_more b bs (h ∷ hs) = at (without_more b bs hs) (b == h.base) refl
   where
     at : without bs (without (b ∷ []) hs) ≡ without (b ∷ bs) hs → (x : Bool) → (b == h.base) ≡ x → (y : Bool) → list_any (λ base. base == h.base) bs ≡ y
         → without bs (without (b ∷ []) (h ∷ hs)) ≡ without (b ∷ bs) (h ∷ hs)
-    at again true e y f =
-        ap (without bs) (kept_no (stays b) h hs (ap (λ z. not (z || false)) e)) ∙ again
-        ∙ sym (kept_no (λ g. not (list_any (λ base. base == g.base) (b ∷ bs))) h hs
-        (ap (λ z. not (z || list_any (λ base. base == h.base) bs)) e))
-    at again false e true f =
-        ap (without bs) (kept_yes (stays b) h hs (ap (λ z. not (z || false)) e))
-        ∙ kept_no (λ g. not (list_any (λ base. base == g.base) bs)) h (without (b ∷ []) hs)
-        (ap not f) ∙ again
-        ∙ sym (kept_no (λ g. not (list_any (λ base. base == g.base) (b ∷ bs))) h hs
-        (ap (λ z. not (z || list_any (λ base. base == h.base) bs)) e ∙ ap not f))
-    at again false e false f =
-        ap (without bs) (kept_yes (stays b) h hs (ap (λ z. not (z || false)) e))
-        ∙ kept_yes (λ g. not (list_any (λ base. base == g.base) bs)) h (without (b ∷ []) hs)
-        (ap not f) ∙ ap (λ xs. h ∷ xs) again
-        ∙ sym (kept_yes (λ g. not (list_any (λ base. base == g.base) (b ∷ bs))) h hs
-        (ap (λ z. not (z || list_any (λ base. base == h.base) bs)) e ∙ ap not f))
+    at again true e y f = grind (arith, kept_no)
+    at again false e true f = grind (arith, kept_yes, kept_no)
+    at again false e false f = grind (arith, kept_yes)
 
 -- without some bases, and then without one more
 pub without_last : (bs : List ℕ) (b : ℕ) (held : List HeldRow)
@@ -198,5 +138,4 @@ keeps_none table held k = subst (TableHolds table) (sym (without_none held)) k
 pub keeps_last : (table : HeldTable) (held : List HeldRow) (bs all : List ℕ) (b : ℕ)
     → all ≡ bs ++ b ∷ [] → TableHolds table (without (b ∷ []) (without bs held))
     → TableHolds table (without all held)
-keeps_last table held bs all b is k =
-    subst (TableHolds table) (without_last bs b held ∙ ap (λ xs. without xs held) (sym is)) k
+keeps_last table held bs all b is k = grind (arith, without_last)

@@ -1,5 +1,5 @@
 -- What the code tests of a marked node is what the conditions say. Serves `marking.rt`.
-use Rattle.std.proofs.Common.{◌≡◌, ◌↔◌, ◌∙◌, ◌<◌, ◌≤◌, ◌+◌, ◌-◌, ◌^◌, ℕ, List, [], ◌∷◌, length, take, drop, Option, Some, None, refl, sym, ap, subst, arith}
+use Rattle.std.proofs.Common.{◌≡◌, ◌↔◌, ◌<◌, ◌≤◌, ◌+◌, ◌-◌, ◌^◌, ℕ, List, [], ◌∷◌, length, take, drop, Option, Some, None, refl, sym, subst, arith}
 use Rattle.std.proofs.lemmas.List.{take_all}
 use Rattle.std.specs.Ordering.{nat_cmp}
 use Rattle.std.specs.BTreeMap as tree
@@ -28,11 +28,7 @@ module _ (t : Snapshot) (caller node : ℕ) (r : InnerRow) (e : t.pieces node �
 -- a row is finished with what its status says
 pub finished_is : (t : Snapshot) (node k : ℕ) (r : InnerRow) → t.pieces node ≡ Some (Inner r)
     → (r.status ≡ finished_word k) ↔ IsFinishedWith t node k
-finished_is t node k r e = (
-  (λ s. record { row = r; published = e; status = s }),
-  (λ h. subst (λ x. x.status ≡ finished_word k) (same_inner (t.pieces node) h.row r h.published e)
-      h.status),
-)
+finished_is t node k r e = grind (arith, same_inner)
 
 -- a rebuild's target is the one that its row says
 pub target_is : (t : Snapshot) (rebuild k : ℕ) (r : RebuildRow) → t.pieces rebuild
@@ -43,8 +39,7 @@ target_is t rebuild k r e = (
     of = record { row = r; published = e; target_is = refl };
     finished = f;
   }),
-  (λ h. let same : h.of.row ≡ r = same_rebuild (t.pieces rebuild) h.of.row r h.of.published e in
-      subst (λ n. IsFinishedWith t n k) (sym h.of.target_is ∙ ap (λ x. x.target) same) h.finished),
+  (λ h. grind (arith, same_rebuild)),
 )
 
 -- ---- what a passed word counts for
@@ -91,8 +86,7 @@ counts_inner t ref child k e = (
         → IsFinishedWith t child k
     out _ _ i no_key = cc
     out _ _ i one_key = cc
-    out _ k i (of_child {child = n} f) = let same : n ≡ child = cc in subst
-        (λ x. IsFinishedWith t x k) same f
+    out _ k i (of_child {child = n} f) = grind arith
     out _ _ i (of_target h f) = cc
 
 -- a rebuild counts for the keys with which its target is finished
@@ -106,8 +100,7 @@ counts_rebuild t ref rebuild k e =
     out _ _ i no_key = cc
     out _ _ i one_key = cc
     out _ _ i (of_child f) = cc
-    out _ k i (of_target {rebuild = o} {target = n} h f) = let same : o ≡ rebuild = cc in
-        subst (λ x. TargetFinishedWith t x k) same record { target = n; of = h; finished = f }
+    out _ k i (of_target {rebuild = o} {target = n} h f) = grind arith
 
 module _ (t : Snapshot) (ref : Option Ref) where
   -- an empty reference counts for 0 keys only
@@ -174,8 +167,7 @@ module _ (t : Snapshot) (log : Log) (node i : ℕ) where
   pub passed_apart : (x : ℕ) (xs : List ℕ) (k : ℕ) → ArePassed t log node i (x ∷ xs) k
       → (here rest : ℕ) × PassCounts t log node i here × ArePassed t log node (i + 1) xs rest
       × (here + rest ≡ k)
-  passed_apart x xs _ (one_passed {here = h} {rest = r} w p c more) =
-      (h, r, record { word = w; passed = p; counts = c }, more, refl)
+  passed_apart x xs _ (one_passed {here = h} {rest = r} w p c more) = grind arith
 
   -- slots count for k keys exactly if the others count for what the first leaves
   pub passed_first : (slots : List ℕ) (here k : ℕ) → 1 ≤ length slots → PassCounts t log node i here
@@ -183,8 +175,7 @@ module _ (t : Snapshot) (log : Log) (node i : ℕ) where
       → ArePassed t log node (i + 1) (after_first slots) (k - here) ↔ ArePassed t log node i slots k
   passed_first [] here k n p one fits = absurd (omega arith)
   passed_first (x ∷ xs) here k n p one fits =
-      let front : after_first (x ∷ xs) ≡ xs = let e : length (x ∷ xs) - 1 ≡ length xs = omega arith
-      in ap (λ j. take j xs) e ∙ take_all (length xs) xs (omega arith) in
+      let front : after_first (x ∷ xs) ≡ xs = grind (arith, take_all) in
       let sum : here + (k - here) ≡ k = omega arith in (
         (λ m. subst (λ j. ArePassed t log node i (x ∷ xs) j) sum
             (one_passed p.word p.passed p.counts

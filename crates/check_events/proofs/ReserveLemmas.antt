@@ -1,5 +1,5 @@
 -- A row may be reserved if it is fair to hold it too. Serves `entering.rt`.
-use Rattle.std.proofs.Common.{◌≡◌, ◌↔◌, ◌+◌, ◌<◌, ◌≤◌, Bool, ℕ, IsTrue, List, [], ◌∷◌, ◌++◌, sym, subst}
+use Rattle.std.proofs.Common.{◌≡◌, ◌↔◌, ◌+◌, ◌<◌, ◌≤◌, Bool, ℕ, IsTrue, List, [], ◌∷◌, ◌++◌, arith}
 use Rattle.ist_core.specs.LogTerms.{Snapshot, sizes_held, IsFair, CanReserve}
 
 -- a row may be reserved exactly if the sizes with it are fair
@@ -7,7 +7,4 @@ pub reserves : (t : Snapshot) (caller base size : ℕ) (xs : List ℕ) (fair : B
     → caller < t.callers → base ≡ t.next
     → t.next + size ≤ t.words → xs ≡ sizes_held t caller ++ size ∷ []
     → (IsTrue fair ↔ IsFair t xs) → IsTrue fair ↔ CanReserve t caller base size
-reserves t caller base size xs fair known at fits e i = (
-  (λ y. record { known = known; base_is = at; room = fits; fair = subst (IsFair t) e (i.0 y) }),
-  (λ r. i.1 (subst (IsFair t) (sym e) r.fair)),
-)
+reserves t caller base size xs fair known at fits e i = grind arith

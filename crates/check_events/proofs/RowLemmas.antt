@@ -1,6 +1,6 @@
 -- What the code tests of the rows of an event is what the conditions say. Serves `rows.rt` and
 -- `pairs.rt`.
-use Rattle.std.proofs.Common.{◌≡◌, ◌↔◌, ◌∙◌, ◌≤◌, ℕ, List, [], ◌∷◌, length, get_or, sym, ap, subst, arith}
+use Rattle.std.proofs.Common.{◌≡◌, ◌↔◌, ◌≤◌, ℕ, List, [], ◌∷◌, length, get_or, subst, arith}
 use Rattle.ist_core.specs.declared.lists.Row.{Row}
 use Rattle.ist_core.specs.WordTerms.{LeafAt, word_of, row_at}
 use Rattle.ist_core.specs.LogTerms.{Snapshot, HoldsRow, HoldsRows}
@@ -16,10 +16,7 @@ module _ (t : Snapshot) (caller : ℕ) (rows : List Row) (row : Row) (n : 1 ≤ 
   -- if the first row is held, all are exactly if the others are
   pub holds_first : HoldsRow t caller row.base (length row.words)
       → HoldsRows t caller (following rows) ↔ HoldsRows t caller rows
-  holds_first h = (
-    (λ more. subst (HoldsRows t caller) (sym whole) (h, more)),
-    (λ all. (subst (HoldsRows t caller) whole all).1),
-  )
+  holds_first h = grind (arith, whole)
 
   -- if the first row isn't held, not all are
   pub lacks_first : ¬ (HoldsRow t caller row.base (length row.words)) → ¬ (HoldsRows t caller rows)
@@ -36,20 +33,13 @@ pub pair_over_is : (row : Row) (ws : List ℕ) (base key left right : ℕ) → w
 pair_over_is row [] base key left right is n at w0 w1 w2 w3 w4 w5 = absurd (omega arith)
 pair_over_is row (a ∷ []) base key left right is n at w0 w1 w2 w3 w4 w5 = absurd (omega arith)
 pair_over_is row (a ∷ b ∷ []) base key left right is n at w0 w1 w2 w3 w4 w5 = absurd (omega arith)
-pair_over_is row (a ∷ b ∷ c ∷ []) base key left right is n at w0 w1 w2 w3 w4 w5 = absurd
-    (omega arith)
-pair_over_is row (a ∷ b ∷ c ∷ d ∷ []) base key left right is n at w0 w1 w2 w3 w4 w5 = absurd
-    (omega arith)
+pair_over_is row (a ∷ b ∷ c ∷ []) base key left right is n at w0 w1 w2 w3 w4 w5 = grind arith
+pair_over_is row (a ∷ b ∷ c ∷ d ∷ []) base key left right is n at w0 w1 w2 w3 w4 w5 = grind arith
 pair_over_is row (a ∷ b ∷ c ∷ d ∷ e ∷ []) base key left right is n at w0 w1 w2 w3 w4 w5 = absurd
     (omega arith)
 pair_over_is row (a ∷ b ∷ c ∷ d ∷ e ∷ f ∷ []) base key left right is n at w0 w1 w2 w3 w4 w5 = absurd
     (omega arith)
-pair_over_is row (a ∷ b ∷ c ∷ d ∷ e ∷ f ∷ g ∷ []) base key left right is n at w0 w1 w2 w3 w4 w5 = (
-  (λ w6. λ i. record {
-    base = at i;
-    words = (sym is ∙ (λ j. w0 j ∷ w1 j ∷ w2 j ∷ w3 j ∷ w4 j ∷ w5 j ∷ w6 j ∷ [])) i;
-  }),
-  (λ same. ap (λ xs. get_or xs 6 0) (is ∙ ap (λ r. r.words) same)),
-)
+pair_over_is row (a ∷ b ∷ c ∷ d ∷ e ∷ f ∷ g ∷ []) base key left right is n at w0 w1 w2 w3 w4 w5 =
+    grind arith
 pair_over_is row (a ∷ b ∷ c ∷ d ∷ e ∷ f ∷ g ∷ h ∷ xs) base key left right is n at w0 w1 w2 w3 w4
     w5 = absurd (omega arith)

@@ -1,6 +1,6 @@
 -- The way up by the slots in which nodes hung is the way down that was at some moment. Serves
 -- `climbing.rt`.
-use Rattle.std.proofs.Common.{◌≡◌, ◌↔◌, ◌∙◌, ◌≢◌, ◌⊎◌, ℕ, List, [], ◌∷◌, ◌++◌, Option, Some, None, IsTrue, is_some, true≢false, refl, sym, ap, subst, arith, inl, inr, ⊎_elim}
+use Rattle.std.proofs.Common.{◌≡◌, ◌↔◌, ◌∙◌, ◌≢◌, ◌⊎◌, ℕ, List, [], ◌∷◌, ◌++◌, Some, IsTrue, is_some, refl, sym, ap, subst, arith, inl, inr, ⊎_elim}
 use Rattle.std.specs.Ordering.{nat_cmp}
 use Rattle.std.specs.BTreeMap as tree
 use Rattle.std.specs.BTreeMap.{BTreeMap}
@@ -80,8 +80,7 @@ module _ (first : Snapshot) (log : Log) (slots : BTreeMap ℕ Slot) (k : KnowsSl
     -- a node that was linked has a slot in the map, unless it is the anchor
     pub linked_in : (n : ℕ) → n ≢ anchor → WasLinked first log n
         → (slot : Slot) × (tree.get nat_cmp slots n ≡ Some slot)
-    linked_in n far h = let w = ever_at first (λ t. Linked t n) log h in
-        ⊎_elim (λ e. absurd (far e)) (λ s. s) (linked_entry w.0 w.1 n w.2)
+    linked_in n far h = grind (arith, ever_at, linked_entry)
 
     -- a node with a slot in the map was linked
     pub linked_out : (n : ℕ) (slot : Slot) → tree.get nat_cmp slots n ≡ Some slot → WasLinked first
@@ -147,10 +146,7 @@ module _ (first : Snapshot) (log : Log) (slots : BTreeMap ℕ Slot) (k : KnowsSl
     -- the way up from a node is for a key exactly if the key led to the node at some moment
     pub climbs_is : KeysStay first log → (key n : ℕ)
         → Climbs slots (state first log) key n ↔ WasLedTo first log key n
-    climbs_is stay key n = (
-      climbs_led stay key n,
-      (λ h. let w = ever_at first (λ t. Leads t key n) log h in led_climbs stay w.0 w.1 key n w.2),
-    )
+    climbs_is stay key n = grind (arith, climbs_led, ever_at, led_climbs)
 
     -- ---- chains
 
@@ -175,10 +171,8 @@ module _ (first : Snapshot) (log : Log) (slots : BTreeMap ℕ Slot) (k : KnowsSl
         among_left x rs (n ∷ []) (above x (subst (λ s. ClimbsBy slots x s.node) (sym same) rest))
 
     none_on_anchor : (x n : ℕ) → n ≡ anchor → ¬ (ClimbsBy slots x n)
-    none_on_anchor _ n a (here slot e) = no_slot_of_anchor slot
-        (subst (λ y. tree.get nat_cmp slots y ≡ Some slot) a e)
-    none_on_anchor x n a (higher slot e rest) = no_slot_of_anchor slot
-        (subst (λ y. tree.get nat_cmp slots y ≡ Some slot) a e)
+    none_on_anchor _ n a (here slot e) = grind (arith, no_slot_of_anchor)
+    none_on_anchor x n a (higher slot e rest) = grind (arith, no_slot_of_anchor)
 
     linked_chain : (u : Snapshot) → IsMoment first log u → (n : ℕ) → Linked u n
         → (rows : List ℕ) × Chain u n rows × ((x : ℕ) → ClimbsBy slots x n → Among x rows)
@@ -196,8 +190,7 @@ module _ (first : Snapshot) (log : Log) (slots : BTreeMap ℕ Slot) (k : KnowsSl
     pub comes_is : (n x : ℕ) → ClimbsBy slots x n ↔ WasOnChain first log n x
     comes_is n x = (
       out,
-      (λ h. let w = ever_at first (λ t. (rows : List ℕ) × Chain t n rows
-          × Among x rows) log h in chain_comes w.0 w.1 n w.2.0 w.2.1 x w.2.2),
+      (λ h. grind (arith, ever_at, chain_comes)),
     )
       where
         out : ClimbsBy slots x n → WasOnChain first log n x
@@ -211,12 +204,7 @@ module _ (first : Snapshot) (log : Log) (slots : BTreeMap ℕ Slot) (k : KnowsSl
     -- a node below the anchor was linked exactly if the map has a slot for it
     pub linked_is : (n : ℕ) → n ≢ anchor
         → IsTrue (is_some (tree.get nat_cmp slots n)) ↔ WasLinked first log n
-    linked_is n far = at (tree.get nat_cmp slots n) refl
-      where
-        at : (o : Option Slot) → tree.get nat_cmp slots n ≡ o → IsTrue (is_some o) ↔ WasLinked first
-            log n
-        at (Some slot) e = ((λ _. linked_out n slot e), (λ _. refl))
-        at None e = ((λ y. absurd (true≢false (sym y))), (λ h. let s = linked_in n far h in cc))
+    linked_is n far = grind (arith, linked_out, linked_in)
 
 -- the anchor is linked always
 pub anchor_linked : (first : Snapshot) (log : Log) → WasLinked first log anchor

@@ -10,7 +10,7 @@ use Rattle.check_fairness.specs.Answers.{FindsOne}
 use Rattle.check_fairness.specs.declared.readings.SizeReading.{SizeReading}
 use Rattle.check_fairness.specs.declared.spares.Spare.{Spare}
 use Rattle.check_fairness.specs.Searching.{IsSpare, without_spare, Goes, all_read, leaves_out, goes_on, begins, is_full, TakesNext, BeginsOne, LeavesOut}
-use Rattle.check_fairness.specs.Readings.{rest_at, GoesFrom, SomeGoes, LeavesSame, IsLeftBefore}
+use Rattle.check_fairness.specs.Readings.{GoesFrom, SomeGoes, LeavesSame, IsLeftBefore}
 use Rattle.std.specs.BTreeMap as tree
 
 -- ---- some elements are the first one and those after it; the first ones are among them.
@@ -23,9 +23,7 @@ module _ {A : Type 0} where
   -- some elements are the first and those after it
   pub split_first : (xs : List A) (x : A) → 1 ≤ length xs → x ≡ get_or xs 0 x → xs ≡ x ∷ following xs
   split_first [] x n e = absurd (omega arith)
-  split_first (y ∷ ys) x n e = let l : length (y ∷ ys) - 1 ≡ length ys = omega arith in
-      ap (λ z. z ∷ ys) (sym e) ∙ ap (λ zs. x ∷ zs)
-      (sym (ap (λ k. take k ys) l ∙ take_all (length ys) ys (omega arith)))
+  split_first (y ∷ ys) x n e = grind (arith, take_all)
 
   -- one of the first elements is one of the elements
   pub among_first : (n : ℕ) (ys : List A) (y : A) → Among y (take n ys) → Among y ys
@@ -100,8 +98,7 @@ module _ (P : List ℕ → Type 0) (room : ℕ) (may : Spare) (rest : List ℕ) 
           ⊎ (IsTrue free × BeginsOne P room may x xs))
       at rest free (leaves_out _ s g) = inl (s, g)
       at _ free (goes_on {rest = r} _ g) = inr (inl record { rest = r; list_is = refl; goes = g })
-      at old _ (begins _ rest p g) = inr
-          (inr (refl, record { rest = rest; building = p; goes = g }))
+      at old _ (begins _ rest p g) = grind arith
 
   by_on : (free : Bool) → TakesNext P room may rest x xs → Goes P room may rest free (x ∷ xs)
   by_on free h = subst (λ r. Goes P room may r free (x ∷ xs)) (sym h.list_is) (goes_on x h.goes)
@@ -111,7 +108,7 @@ module _ (P : List ℕ → Type 0) (room : ℕ) (may : Spare) (rest : List ℕ) 
       ↔ (LeavesOut P room may rest free x xs ⊎ (TakesNext P room may rest x xs ⊎ BeginsOne P room
       may x xs))
   goes_free free e = (
-    (λ g. ⊎_elim inl (λ h. inr (⊎_elim inl (λ b. inr b.1) h)) (goes_apart free g)),
+    (λ g. grind (arith, goes_apart)),
     (λ k. ⊎_elim (λ l. leaves_out x l.0 l.1)
         (λ h. ⊎_elim (by_on free) (λ b. subst (λ f. Goes P room may rest f (x ∷ xs)) (sym e)
         (begins x b.rest b.building b.goes)) h) k),
@@ -121,8 +118,7 @@ module _ (P : List ℕ → Type 0) (room : ℕ) (may : Spare) (rest : List ℕ) 
   pub goes_bound : (free : Bool) → free ≡ false → Goes P room may rest free (x ∷ xs)
       ↔ (LeavesOut P room may rest free x xs ⊎ TakesNext P room may rest x xs)
   goes_bound free e = (
-    (λ g. ⊎_elim inl (λ h. inr (⊎_elim (λ o. o) (λ b. absurd (true≢false (sym b.0 ∙ e))) h))
-        (goes_apart free g)),
+    (λ g. grind (arith, goes_apart)),
     (λ k. ⊎_elim (λ l. leaves_out x l.0 l.1) (by_on free) k),
   )
 
@@ -138,29 +134,13 @@ module _ (P : List ℕ → Type 0) (room : ℕ) (may : Spare) (rest : List ℕ) 
 pub on_is : (P : List ℕ → Type 0) (room : ℕ) (may : Spare) (list : List ℕ) (x : ℕ) (xs : List ℕ)
     (full : Bool) → 1 ≤ length list → get_or list 0 0 ≡ x → full ≡ is_full room (following list)
     → Goes P room may (following list) full xs ↔ TakesNext P room may list x xs
-on_is P room may list x xs full n i e =
-    let split = sym (first_after list n) in (
-      (λ g. record {
-        rest = following list;
-        list_is = split ∙ ap (λ z. z ∷ following list) i;
-        goes = subst (λ f. Goes P room may (following list) f xs) e g;
-      }),
-      (λ h. let same = tail_same (sym h.list_is ∙ split) in
-          subst (λ f. Goes P room may (following list) f xs) (sym e)
-          (subst (λ r. Goes P room may r (is_full room r) xs) same h.goes)),
-    )
-  where
-    tail_same : {a b : ℕ} {ys zs : List ℕ} → a ∷ ys ≡ b ∷ zs → ys ≡ zs
-    tail_same e = cc
+on_is P room may list x xs full n i e = grind (arith, first_after)
 
 -- a spare row is left out
 pub out_is : (P : List ℕ → Type 0) (room : ℕ) (may less : Spare) (rest : List ℕ) (free : Bool)
     (x : ℕ) (xs : List ℕ) → IsSpare may x → less ≡ without_spare may x
     → Goes P room less rest free xs ↔ LeavesOut P room may rest free x xs
-out_is P room may less rest free x xs s e = (
-  (λ g. (s, subst (λ m. Goes P room m rest free xs) e g)),
-  (λ h. subst (λ m. Goes P room m rest free xs) (sym e) h.1),
-)
+out_is P room may less rest free x xs s e = grind arith
 
 -- ---- readings
 
@@ -185,12 +165,7 @@ module _ (lists : List (List ℕ)) (room : ℕ) (sizes : List ℕ) where
   -- one reading more
   pub some_pushed : (rs new : List SizeReading) (r : SizeReading) → new ≡ rs ++ r ∷ []
       → SomeGoes lists room new sizes ↔ (SomeGoes lists room rs sizes ⊎ GoesFrom lists room r sizes)
-  some_pushed rs new r e =
-      subst (λ qs. SomeGoes lists room qs sizes ↔ (SomeGoes lists room rs sizes ⊎ GoesFrom lists
-      room r sizes)) (sym e) (
-        (λ h. ⊎_elim inl (λ k. ⊎_elim inr (λ n. absurd n) k) (some_apart rs (r ∷ []) h)),
-        (λ h. ⊎_elim (some_left rs (r ∷ [])) (λ g. some_right rs (r ∷ []) (inl g)) h),
-      )
+  some_pushed rs new r e = grind (arith, some_apart, some_left, some_right)
 
   -- the readings up to one more
   pub some_more : (rs : List SizeReading) (i : ℕ) (default : SizeReading) → i < length rs
@@ -203,14 +178,7 @@ module _ (lists : List (List ℕ)) (room : ℕ) (sizes : List ℕ) where
   pub reached_goes : (rs : List SizeReading) (r : SizeReading) → IsLeftBefore lists rs r
       → GoesFrom lists room r sizes → SomeGoes lists room rs sizes
   reached_goes [] r h g = absurd h
-  reached_goes (q ∷ rs) r (inl s) g =
-      inl (
-      subst (λ m. Goes (λ l. Among l lists) room m (rest_at lists q.list q.at) q.free sizes)
-      (sym s.may)
-      (subst (λ ys. Goes (λ l. Among l lists) room r.may ys q.free sizes) (sym s.rest)
-      (subst (λ f. Goes (λ l. Among l lists) room r.may (rest_at lists r.list r.at) f sizes)
-      (sym s.free) g))
-      )
+  reached_goes (q ∷ rs) r (inl s) g = grind arith
   reached_goes (q ∷ rs) r (inr h) g = inr (reached_goes rs r h g)
 
   -- a reading that leaves the same as another adds nothing
@@ -223,10 +191,7 @@ pub end_read : (lists : List (List ℕ)) (room : ℕ) (rs : List SizeReading) (r
     → length rest < 1
     → empty ≡ nat_eq (length rs) 0 → IsTrue (not empty) ↔ SomeGoes lists room rs rest
 end_read lists room rs (x ∷ rest) empty n e = absurd (omega arith)
-end_read lists room [] [] empty n e = (
-  (λ y. absurd (true≢false (sym y ∙ ap not e))),
-  (λ h. absurd h),
-)
+end_read lists room [] [] empty n e = grind arith
 end_read lists room (r ∷ rs) [] empty n e =
     let some : nat_eq (length (r ∷ rs)) 0 ≡ false = grind (arith, nat_tests) in
     ((λ y. inl all_read), (λ h. ap not (e ∙ some)))
@@ -253,6 +218,4 @@ module _ (lists : List (List ℕ)) (r : SizeReading) where
   pub reached_more : (rs : List SizeReading) (i : ℕ) (default : SizeReading) → i < length rs
       → ¬ (IsLeftBefore lists (take i rs) r) → ¬ (LeavesSame lists (get_or rs i default) r)
       → ¬ (IsLeftBefore lists (take (i + 1) rs) r)
-  reached_more rs i default h none other k =
-      ⊎_elim none other (reached_apart (take i rs) (get_or rs i default)
-      (subst (λ qs. IsLeftBefore lists qs r) (take_more rs i default h) k))
+  reached_more rs i default h none other k = grind (arith, reached_apart, take_more)

@@ -1,5 +1,5 @@
 -- Shapes, the building lists of one rebuild, and each list once. Serves `shapes.rt`.
-use Rattle.std.proofs.Common.{◌≡◌, ◌↔◌, ◌∙◌, ◌+◌, ◌-◌, ◌*◌, ◌%◌, ◌<◌, ◌≤◌, ◌⊎◌, ℕ, zero, suc, Bool, true, false, nat_lt, if◌then◌else◌, List, [], ◌∷◌, ◌++◌, map, refl, sym, ap, subst, inl, inr, ⊎_elim, append_assoc, append-nil, length, take, length-append, arith}
+use Rattle.std.proofs.Common.{◌≡◌, ◌↔◌, ◌∙◌, ◌+◌, ◌-◌, ◌*◌, ◌<◌, ◌≤◌, ◌⊎◌, ℕ, zero, suc, Bool, true, false, nat_lt, if◌then◌else◌, List, [], ◌∷◌, ◌++◌, map, refl, sym, ap, subst, inl, inr, ⊎_elim, append_assoc, append-nil, length, take, length-append, arith}
 use Rattle.std.proofs.lemmas.List.{take-append-le}
 use Rattle.std.specs.BTreeSet.{BTreeSet}
 use Rattle.std.specs.List.{flat_map, range_with_len}
@@ -48,11 +48,7 @@ shape_whole n d j old pushed out h e i p o =
 -- a part is as long as the first one or as the last one
 part_first_or_last : (k j : ℕ) → j < degree k
     → (part_len k j ≡ part_len k 0) ⊎ (part_len k j ≡ part_len k (degree k - 1))
-part_first_or_last k j h = ⊎_elim
-    (λ (l : j < k % degree k). inl (part_len-long k j l ∙ sym (part_len-long k 0 (omega arith))))
-    (λ (l : k % degree k ≤ j). inr (part_len-short k j l
-    ∙ sym (part_len-short k (degree k - 1) (omega arith))))
-    (cases_lt j (k % degree k))
+part_first_or_last k j h = grind (arith, part_len-long, part_len-short, cases_lt)
 
 -- a list of k keys is a build of them
 pub listed_build : (k : ℕ) (l : List ℕ) → Among l (lists_of k) → IsBuild k l
@@ -85,14 +81,9 @@ in_lists k l a b e i h = rw (e, i) h
 
 -- a build of k keys has one of the building lists for k
 pub build_listed : (k : ℕ) (l : List ℕ) → 2 ≤ share_from → IsBuild k l → Among l (lists_of k)
-build_listed k _ two (build_whole n m) = in_lists k (shape k) false true (grind (arith, nat_tests))
-    (grind (arith, nat_tests)) (inl refl)
-build_listed k _ two (build_top n) = in_lists k (inner_words (degree k) ∷ []) false false
-    (grind (arith, nat_tests)) (grind (arith, nat_tests)) (inl refl)
-build_listed k _ two (build_part j n m) =
-    in_lists k (shape (part_len k j)) false false (grind (arith, nat_tests))
-    (grind (arith, nat_tests))
-    (inr (⊎_elim (λ e. inl (ap shape e)) (λ e. inr (inl (ap shape e))) (part_first_or_last k j m)))
+build_listed k _ two (build_whole n m) = grind (arith, in_lists, nat_tests)
+build_listed k _ two (build_top n) = grind (arith, in_lists, nat_tests)
+build_listed k _ two (build_part j n m) = grind (arith, in_lists, nat_tests, part_first_or_last)
 
 -- ---- each list once
 
@@ -101,8 +92,7 @@ begins_same xs m h = (h, refl)
 
 begins_both : (old mid new : List (List ℕ)) → BeginsWith old mid → BeginsWith mid new
     → BeginsWith old new
-begins_both old mid new a b m h = let first = a m h in let next = b m first.0 in
-    (next.0, next.1 ∙ first.1)
+begins_both old mid new a b m h = grind arith
 
 begins_pushed : (xs new : List (List ℕ)) (n : List ℕ) → new ≡ xs ++ n ∷ [] → BeginsWith xs new
 begins_pushed xs new n e m h =
@@ -111,10 +101,7 @@ begins_pushed xs new n e m h =
 
 -- what is among them needn't be added
 pub list_known : (xs : List (List ℕ)) (n : List ℕ) → Among n xs → AddsList xs xs n
-list_known xs n a = record {
-  among = λ x. (inl, (λ h. ⊎_elim (λ b. b) (λ e. subst (λ y. Among y xs) (sym e) a) h));
-  following = begins_same xs;
-}
+list_known xs n a = grind (arith, begins_same)
 
 -- a list that was pushed was added
 pub list_pushed : (xs new : List (List ℕ)) (n : List ℕ) → new ≡ xs ++ n ∷ [] → AddsList xs new n
@@ -137,66 +124,29 @@ lists_few : (k : ℕ) → k < 2 → [] ≡ lists_of k
 lists_few k n = let a : nat_lt k 2 ≡ true = grind (arith, nat_tests) in rw a refl
 
 lists_small : (k : ℕ) → 2 ≤ k → k < share_from → shape k ∷ [] ≡ lists_of k
-lists_small k n m = let a : nat_lt k 2 ≡ false = grind (arith, nat_tests) in
-    let b : nat_lt k share_from ≡ true = grind (arith, nat_tests) in rw (a, b) refl
+lists_small k n m = grind (arith, nat_tests)
 
 lists_large : (k : ℕ) → 2 ≤ k → share_from ≤ k
     → (inner_words (degree k) ∷ []) ∷ shape (part_len k 0) ∷ shape (part_len k (degree k - 1)) ∷ []
     ≡ lists_of k
-lists_large k n m = let a : nat_lt k 2 ≡ false = grind (arith, nat_tests) in
-    let b : nat_lt k share_from ≡ false = grind (arith, nat_tests) in rw (a, b) refl
+lists_large k n m = grind (arith, nat_tests)
 
 -- of fewer than two keys there are none
 pub adds_none : (k : ℕ) → k < 2 → (lists : List (List ℕ)) → AddsLists lists lists k
-adds_none k n lists = record {
-  among = λ l. subst (λ (xs : List (List ℕ)). Among l lists ↔ (Among l lists ⊎ Among l xs))
-      (lists_few k n) (inl, (λ h. ⊎_elim (λ a. a) (λ none. absurd none) h));
-  following = begins_same lists;
-}
+adds_none k n lists = grind (arith, lists_few, begins_same)
 
 -- of few keys there is one
 pub adds_one : (k : ℕ) → 2 ≤ k → k < share_from → (old new : List (List ℕ))
     → AddsList old new (shape k) → AddsLists old new k
-adds_one k n m old new adds = record {
-  among = λ l. subst (λ (xs : List (List ℕ)). Among l new ↔ (Among l old ⊎ Among l xs))
-      (lists_small k n m) (
-        (λ a. ⊎_elim inl (λ e. inr (inl e)) ((adds.among l).0 a)),
-        (λ h. (adds.among l).1 (⊎_elim inl (λ c. inr (⊎_elim (λ e. e) (λ none. absurd none) c)) h)),
-      );
-  following = adds.following;
-}
+adds_one k n m old new adds = grind (arith, lists_small)
 
 -- for many keys there are only the top row, and the shapes of the first part and of the last
 pub adds_three : (k d first last : ℕ) (old mid next new : List (List ℕ)) → 2 ≤ k → share_from ≤ k
     → d ≡ degree k → first ≡ part_len k 0 → last ≡ part_len k (d - 1)
     → AddsList old mid (inner_words d ∷ []) → AddsList mid next (shape first)
     → AddsList next new (shape last) → AddsLists old new k
-adds_three k d first last old mid next new n m e f g top one two = record {
-  among = λ l. subst (λ (xs : List (List ℕ)). Among l new ↔ (Among l old ⊎ Among l xs))
-      (same ∙ lists_large k n m) (
-        (λ h. ⊎_elim
-            (λ x. ⊎_elim (λ y. ⊎_elim inl (λ t. inr (inl t)) ((top.among l).0 y))
-            (λ s. inr (inr (inl s))) ((one.among l).0 x))
-            (λ s. inr (inr (inr (inl s)))) ((two.among l).0 h)),
-        (λ h. ⊎_elim (λ x. (two.among l).1 (inl ((one.among l).1 (inl ((top.among l).1 (inl x))))))
-            (listed l) h),
-      );
-  following = begins_both old next new (begins_both old mid next top.following one.following) two.following;
-}
-  where
-    same : (inner_words d ∷ []) ∷ shape first ∷ shape last ∷ []
-        ≡ (inner_words (degree k) ∷ []) ∷ shape (part_len k 0)
-        ∷ shape (part_len k (degree k - 1)) ∷ []
-    same = ap (λ x. (inner_words d ∷ []) ∷ shape x ∷ shape last ∷ []) f
-        ∙ ap (λ x. (inner_words d ∷ []) ∷ shape (part_len k 0) ∷ shape x ∷ []) g
-        ∙ ap (λ x. (inner_words x ∷ []) ∷ shape (part_len k 0) ∷ shape (part_len k (x - 1)) ∷ []) e
-
-    listed : (l : List ℕ) → Among l ((inner_words d ∷ []) ∷ shape first ∷ shape last ∷ [])
-        → Among l new
-    listed l (inl t) = (two.among l).1 (inl ((one.among l).1 (inl ((top.among l).1 (inr t)))))
-    listed l (inr (inl s)) = (two.among l).1 (inl ((one.among l).1 (inr s)))
-    listed l (inr (inr (inl s))) = (two.among l).1 (inr s)
-    listed l (inr (inr (inr none))) = absurd none
+adds_three k d first last old mid next new n m e f g top one two =
+    grind (arith, lists_large, begins_both)
 
 -- ---- shapes that are there
 
@@ -209,6 +159,4 @@ shapes_kept shapes old new n adds has m h = (adds.among (shape m)).1 (inl (has m
 pub shapes_more : (before following : BTreeSet ℕ) (old new : List (List ℕ)) (n : ℕ)
     → ((q : ℕ) → Holds following q ↔ (Holds before q ⊎ (q ≡ n))) → AddsList old new (shape n)
     → HasShapes before old → HasShapes following new
-shapes_more before following old new n held adds has m h =
-    ⊎_elim (λ k. (adds.among (shape m)).1 (inl (has m k))) (λ e. (adds.among (shape m)).1 (inr (ap shape e)))
-    ((held m).0 h)
+shapes_more before following old new n held adds has m h = grind arith

@@ -1,5 +1,5 @@
 -- What is left of a building list from a place on, and the lists that begin. Serves `fairness.rt`.
-use Rattle.std.proofs.Common.{◌≡◌, ◌≢◌, ◌↔◌, ◌∙◌, ◌+◌, ◌-◌, ◌<◌, ◌≤◌, ◌⊎◌, Bool, ℕ, zero, suc, List, [], ◌∷◌, ◌++◌, length, get_or, take, drop, sym, ap, subst, inl, inr, ⊎_elim, arith}
+use Rattle.std.proofs.Common.{◌≡◌, ◌≢◌, ◌↔◌, ◌∙◌, ◌+◌, ◌-◌, ◌<◌, ◌≤◌, ◌⊎◌, Bool, ℕ, zero, suc, List, [], ◌∷◌, ◌++◌, length, get_or, take, drop, sym, ap, subst, ⊎_elim, arith}
 use Rattle.std.specs.Prelude.{slice_index_or}
 use Rattle.std.proofs.lemmas.List.{take_more, take_all}
 use Rattle.ist_core.specs.LogTerms.{Among}
@@ -17,8 +17,7 @@ rest_after lists i n left e some = ap following e ∙ at n (slice_index_or lists
   where
     at : (n : ℕ) (xs : List ℕ) → 1 ≤ length (drop n xs) → following (drop n xs) ≡ drop (n + 1) xs
     at zero [] h = absurd (omega arith)
-    at zero (x ∷ xs) h = let whole : length xs ≡ length (x ∷ xs) - 1 = omega arith in ap
-        (λ k. take k xs) (sym whole) ∙ take_all (length xs) xs (omega arith)
+    at zero (x ∷ xs) h = grind (arith, take_all)
     at (suc n) [] h = absurd (omega arith)
     at (suc n) (x ∷ xs) h = let next : suc n + 1 ≡ suc (n + 1) = omega arith in at n xs h
         ∙ sym (ap (λ k. drop k (x ∷ xs)) next)
@@ -29,27 +28,19 @@ module _ (lists : List (List ℕ)) (room : ℕ) (may : Spare) (i n : ℕ) (left 
   -- if nothing is left, no size goes on
   pub nothing_on : length left < 1
       → ¬ (TakesNext (λ l. Among l lists) room may (rest_at lists i n) x xs)
-  nothing_on h = subst (λ ys. ¬ (TakesNext (λ l. Among l lists) room may ys x xs)) left_is
-      (on_none (λ l. Among l lists) room may left x xs h)
+  nothing_on h = grind (arith, on_none)
 
   -- if another size comes first, this one doesn't go on
   pub other_on : get_or left 0 0 ≢ x
       → ¬ (TakesNext (λ l. Among l lists) room may (rest_at lists i n) x xs)
-  other_on ne = subst (λ ys. ¬ (TakesNext (λ l. Among l lists) room may ys x xs)) left_is
-      (on_other (λ l. Among l lists) room may left x xs ne)
+  other_on ne = grind (arith, on_other)
 
   -- if the size comes first, the further sizes go on with the rest of the list
   pub this_on : (full : Bool) → 1 ≤ length left → get_or left 0 0 ≡ x
       → full ≡ is_full room (following left)
       → Goes (λ l. Among l lists) room may (rest_at lists i (n + 1)) full xs
       ↔ TakesNext (λ l. Among l lists) room may (rest_at lists i n) x xs
-  this_on full some e f =
-      subst (λ ys. Goes (λ l. Among l lists) room may ys full xs ↔ TakesNext (λ l. Among l lists)
-      room may (rest_at lists i n) x xs)
-      (rest_after lists i n left left_is some)
-      (subst (λ ys. Goes (λ l. Among l lists) room may (following left) full xs
-      ↔ TakesNext (λ l. Among l lists) room may ys x xs) left_is
-      (on_is (λ l. Among l lists) room may left x xs full some e f))
+  this_on full some e f = grind (arith, rest_after, following, on_is)
 
 -- ---- begun lists
 
@@ -59,18 +50,13 @@ module _ (lists : List (List ℕ)) (room : ℕ) (may : Spare) (x : ℕ) (xs : Li
   begins_none h = h.listed
 
   begins_all : BeginsAmong lists lists room may x xs ↔ BeginsOne (λ l. Among l lists) room may x xs
-  begins_all = (
-    (λ h. record { rest = h.rest; building = h.listed; goes = h.goes }),
-    (λ h. record { rest = h.rest; listed = h.building; goes = h.goes }),
-  )
+  begins_all = grind arith
 
   -- one of all lists begins with the size exactly if the size can begin a list
   pub begins_end : (i : ℕ) → length lists ≤ i
       → BeginsAmong lists (take i lists) room may x xs ↔ BeginsOne (λ l. Among l lists) room may x
       xs
-  begins_end i h =
-      subst (λ some. BeginsAmong lists some room may x xs ↔ BeginsOne (λ l. Among l lists) room may
-      x xs) (sym (take_all i lists h)) begins_all
+  begins_end i h = grind (arith, take_all, begins_all)
 
   -- one of the lists up to one more
   pub begins_more : (i : ℕ) → i < length lists
@@ -79,26 +65,9 @@ module _ (lists : List (List ℕ)) (room : ℕ) (may : Spare) (x : ℕ) (xs : Li
       (rest_at lists i 0) x xs)
   begins_more i h = let here = get_or lists i [] in
       let whole : take (i + 1) lists ≡ take i lists ++ here ∷ [] = take_more lists i [] h in (
-        (λ b. ⊎_elim (λ a. inl record { rest = b.rest; listed = a; goes = b.goes })
-            (λ a. inr record {
-              rest = b.rest;
-              list_is = ⊎_elim (λ e. sym e) (λ n. absurd n) a;
-              goes = b.goes;
-            })
+        (λ b. ⊎_elim (λ a. grind arith)
+            (λ a. grind arith)
             (among-append (x ∷ b.rest) (take i lists) (here ∷ []) (subst (Among (x ∷ b.rest)) whole
             b.listed))),
-        (λ k. ⊎_elim
-            (λ b. record {
-              rest = b.rest;
-              listed = subst (Among (x ∷ b.rest)) (sym whole)
-                  (among_left (x ∷ b.rest) (take i lists) (here ∷ []) b.listed);
-              goes = b.goes;
-            })
-            (λ g. record {
-              rest = g.rest;
-              listed = subst (Among (x ∷ g.rest)) (sym whole)
-                  (among_right (x ∷ g.rest) (take i lists) (here ∷ []) (inl (sym g.list_is)));
-              goes = g.goes;
-            })
-            k),
+        (λ k. grind (arith, among_left, among_right)),
       )

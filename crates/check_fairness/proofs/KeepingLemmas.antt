@@ -62,18 +62,12 @@ none_kept all lists empty caller kept e = absurd (cc (sym (finds_none all caller
 -- what was kept is right with more lists too
 kept_stays : (old new : List (List ℕ)) (kept : KeptReadings) → BeginsWith old new → IsKept old kept
     → IsKept new kept
-kept_stays old new kept front k = let same = front kept.lists k.within in record {
-  within = same.0;
-  long = k.long;
-  each = λ n h. subst (λ ls. AreReadings ls any_room (take n kept.sizes.items) (left_at kept n)) (sym same.1)
-      (k.each n h);
-}
+kept_stays old new kept front k = grind arith
 
 -- what is kept stays right when lists are added at the end
 pub readings_stay : (all : BTreeMap ℕ KeptReadings) (old new : List (List ℕ)) → BeginsWith old new
     → KnowsReadings all old → KnowsReadings all new
-readings_stay all old new front known caller kept e = kept_stays old new kept front
-    (known caller kept e)
+readings_stay all old new front known caller kept e = grind (arith, kept_stays)
 
 module _ (lists : List (List ℕ)) where
   -- readings may go on with a size
@@ -90,11 +84,7 @@ module _ (lists : List (List ℕ)) where
 pub first_is : (xs ys fs : List (Vec ℕ Global)) (m : ℕ) → xs ≡ ys
     → m ≤ length (map (λ v. v.items) ys) → (m ≤ length xs → fs ≡ take m xs)
     → map (λ v. v.items) fs ≡ take m (map (λ v. v.items) ys)
-first_is xs ys fs m e h value =
-    let long : length (map (λ v. v.items) ys) ≡ length ys = length-map ys (λ v. v.items) in
-    let same : length xs ≡ length ys = ap length e in
-    ap (map (λ v. v.items)) (value (omega arith)) ∙ sym (take-map (λ v. v.items) m xs)
-    ∙ ap (λ zs. take m (map (λ v. v.items) zs)) e
+first_is xs ys fs m e h value = grind (arith, length-map, take-map)
 
 -- ---- the kept readings after each number of sizes
 
@@ -103,29 +93,7 @@ module _ (lists : List (List ℕ)) where
   pub kept_cut : (old new : KeptReadings) (n : ℕ) → new.lists ≡ old.lists
       → n ≤ length old.sizes.items → new.sizes.items ≡ take n old.sizes.items
       → new.left.items ≡ take (n + 1) old.left.items → IsKept lists old → IsKept lists new
-  kept_cut old new n count fits sizes left k =
-      let many : length new.sizes.items ≡ n = ap length sizes
-      ∙ length-take-le n old.sizes.items fits in
-      record {
-        within = let w : old.lists ≤ length lists = k.within in omega arith;
-        long = let more : length old.left.items ≡ length old.sizes.items + 1 = k.long in
-            let all : length new.left.items ≡ n + 1 = ap length left
-            ∙ length-take-le (n + 1) old.left.items (omega arith) in
-            omega arith;
-        each = λ i h.
-            let whole : take i new.sizes.items ≡ take i old.sizes.items =
-            ap (take i) sizes ∙ take_take i n old.sizes.items (omega arith) in
-            let same : left_at new i ≡ left_at old i =
-            ap (λ xs. at xs i) left ∙ at_take (n + 1) i old.left.items (omega arith) in
-            moved count (sym whole) (sym same) (k.each i (omega arith));
-      }
-    where
-      moved : {m : ℕ} {xs ys : List ℕ} {rs qs : List SizeReading} → m ≡ old.lists → xs ≡ ys → rs ≡ qs
-          → AreReadings (take old.lists lists) any_room xs rs → AreReadings (take m lists) any_room ys qs
-      moved {m} {xs} {ys} {rs} {qs} c x r a =
-          subst (λ o. AreReadings (take o lists) any_room ys qs) (sym c)
-          (subst (AreReadings (take old.lists lists) any_room ys) r
-          (subst (λ zs. AreReadings (take old.lists lists) any_room zs rs) x a))
+  kept_cut old new n count fits sizes left k = grind (arith, length-take-le, take_take, at_take)
 
   -- of one more
   pub kept_more : (old new : KeptReadings) (size : ℕ) (next : Vec SizeReading Global)
@@ -136,15 +104,12 @@ module _ (lists : List (List ℕ)) where
       (size ∷ more))
       → IsKept lists old → IsKept lists new
   kept_more old new size next count sizes left r k = record {
-    within = let w : old.lists ≤ length lists = k.within in omega arith;
+    within = grind arith;
     long = let more : length old.left.items ≡ length old.sizes.items + 1 = k.long in
         let all : length new.left.items ≡ length old.left.items + 1 = ap length left
         ∙ length-append old.left.items (next ∷ []) in
         let longer : length new.sizes.items ≡ length old.sizes.items + 1 = many in omega arith;
-    each = λ i h. let longer : length new.sizes.items ≡ length old.sizes.items + 1 = many in
-        let fits : i ≤ length old.sizes.items + 1 = omega arith in
-        subst (λ o. AreReadings (take o lists) any_room (take i new.sizes.items) (left_at new i)) (sym count)
-        (⊎_elim (before i) last (up_to i len fits));
+    each = grind (arith, many, before, last, up_to);
   }
     where
       len : ℕ
@@ -157,15 +122,7 @@ module _ (lists : List (List ℕ)) where
       many = ap length sizes ∙ length-append old.sizes.items (size ∷ [])
 
       before : (i : ℕ) → i ≤ len → AreReadings known any_room (take i new.sizes.items) (left_at new i)
-      before i h =
-          let whole : take i new.sizes.items ≡ take i old.sizes.items =
-          ap (take i) sizes ∙ take-append-le i old.sizes.items (size ∷ []) h in
-          let more : length old.left.items ≡ length old.sizes.items + 1 = k.long in
-          let same : left_at new i ≡ left_at old i =
-          ap (λ xs. at xs i) left
-          ∙ at_left i old.left.items (next ∷ []) (omega arith) in
-          subst (AreReadings known any_room (take i new.sizes.items)) (sym same)
-          (subst (λ xs. AreReadings known any_room xs (left_at old i)) (sym whole) (k.each i h))
+      before i h = grind (arith, take-append-le, at_left, known)
 
       last : {i : ℕ} → i ≡ len + 1 → AreReadings known any_room (take i new.sizes.items) (left_at new i)
       last {i} e = let longer : length new.sizes.items ≡ length old.sizes.items + 1 = many in
@@ -198,10 +155,7 @@ some_left lists before sizes left next r k =
 module _ (all : BTreeMap ℕ KeptReadings) (lists : List (List ℕ)) (caller : ℕ) (sizes : List ℕ) where
   -- nothing goes on if nothing is kept for the caller
   pub none_goes_on : tree.get nat_cmp all caller ≡ None → IsTrue false ↔ GoOnFrom all lists caller sizes
-  none_goes_on none = never (λ g. clash g.kept (sym none ∙ g.found))
-    where
-      clash : (kept : KeptReadings) → None ≡ Some kept → ⊥
-      clash kept h = cc
+  none_goes_on none = grind (arith, never)
 
   -- what is kept for the caller decides
   pub kept_goes_on : (kept : KeptReadings) (b : Bool) → tree.get nat_cmp all caller ≡ Some kept
@@ -209,8 +163,7 @@ module _ (all : BTreeMap ℕ KeptReadings) (lists : List (List ℕ)) (caller : �
       → IsTrue b ↔ GoOnFrom all lists caller sizes
   kept_goes_on kept b found i = (
     (λ y. record { kept = kept; found = found; read = i.0 y }),
-    (λ g. let same : g.kept ≡ kept = cc (sym g.found ∙ found) in
-        i.1 (subst (λ (k : KeptReadings). CanBeRead (take k.lists lists) sizes) same g.read)),
+    (λ g. grind arith),
   )
 
   -- the sizes after those that were kept are read on from what is left there
@@ -244,7 +197,5 @@ module _ (lists : List (List ℕ)) where
       (end_read known any_room rs [] empty (omega arith) e).0 (ap not not_empty) in
       record {
         sizes_are = is;
-        enough = λ _. subst (CanBeRead known) whole
-            ((k.each (length sizes) (omega arith) []).0
-            (subst (λ qs. SomeGoes known any_room qs []) left some));
+        enough = grind arith;
       }

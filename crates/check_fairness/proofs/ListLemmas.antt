@@ -1,5 +1,5 @@
 -- Lists among the lists of a slice. Serves `fairness.rt` and `shapes.rt`.
-use Rattle.std.proofs.Common.{◌≡◌, ◌∙◌, ◌+◌, ◌<◌, ◌⊎◌, ℕ, zero, suc, List, [], ◌∷◌, length, get_or, map, take, sym, ap, subst, inl, inr, ⊎_elim, arith}
+use Rattle.std.proofs.Common.{◌≡◌, ◌∙◌, ◌+◌, ◌<◌, ◌⊎◌, ℕ, zero, suc, List, [], ◌∷◌, length, get_or, map, take, ap, subst, inl, inr, ⊎_elim, arith}
 use Rattle.std.proofs.lemmas.List.{take_more, map-append}
 use Rattle.ist_core.specs.LogTerms.{Among}
 use Rattle.ist_core.proofs.AllWordLemmas.{among-append}
@@ -17,7 +17,6 @@ module _ {A : Type 0} (f : A → List ℕ) where
       → Among l (map f (take (i + 1) xs)) → Among l (map f (take i xs)) ⊎ (l ≡ f x)
   among_more xs i x l h e a =
       let whole = ap (map f) (take_more xs i x h) ∙ map-append f (take i xs) (get_or xs i x ∷ []) in
-      ⊎_elim (λ k. inl k) (λ (o : Among l (f (get_or xs i x) ∷ [])). inr
-      (⊎_elim (λ k. k ∙ ap f (sym e)) (λ n. absurd n) o))
+      ⊎_elim (λ k. inl k) (λ (o : Among l (f (get_or xs i x) ∷ [])). grind arith)
       (among-append l (map f (take i xs)) (f (get_or xs i x) ∷ []) (subst (λ ys. Among l ys) whole
       a))

@@ -125,12 +125,7 @@ module _ (P : List ℕ → Type 0) (room : ℕ) where
       cut : (done rest : List ℕ) → is_full room rest ≡ true → IsBuilding t (done ++ rest)
           → IsStuck t done
       cut done [] e i = cc
-      cut done (s ∷ rest) e i = record {
-        next_size = s;
-        rest = rest;
-        building = i;
-        no_room = grind (arith, nat_tests);
-      }
+      cut done (s ∷ rest) e i = grind (arith, nat_tests)
 
       read_after : (xs done rest : List ℕ) (free : Bool) → is_full room rest ≡ free
           → IsBuilding t (done ++ rest) → ReadsOn rest free xs → AreBuilds t (done ++ xs)

@@ -8,14 +8,7 @@ use Rattle.check_fairness.proofs.AnswerLemmas.{following, first_after}
 
 -- a flag is cleared by the size of its own kind, and by no other
 cleared : (b : Bool) (x kind : ℕ) → IsTrue (b && not (x == kind)) → IsTrue b × (x ≢ kind)
-cleared true x kind e = (
-  refl,
-  λ i. let k : (x == kind) ≡ true = grind (arith, nat_tests) in clash (x == kind) k e,
-)
-  where
-    clash : (b : Bool) → b ≡ true → not b ≡ true → ⊥
-    clash true e f = cc
-    clash false e f = cc
+cleared true x kind e = grind (arith, nat_tests)
 cleared false x kind e = cc
 
 kept_flag : (b : Bool) (x kind : ℕ) → IsTrue b → x ≢ kind → IsTrue (b && not (x == kind))
@@ -26,24 +19,17 @@ kept_flag false x kind e n = cc
 module _ (may : Spare) (x y : ℕ) where
   -- what may be held once a row of size x is might be held before, and is of another size
   pub spare_before : IsSpare (without_spare may x) y → IsSpare may y × (y ≢ x)
-  spare_before (inl h) = let k = cleared may.leaf x 2 h.1 in
-      (inl (h.0, k.0), λ e. k.1 (sym e ∙ h.0))
-  spare_before (inr (inl h)) = let k = cleared may.rebuild x 5 h.1 in
-      (inr (inl (h.0, k.0)), λ e. k.1 (sym e ∙ h.0))
-  spare_before (inr (inr (inl h))) = let k = cleared may.pair x 7 h.1 in
-      (inr (inr (inl (h.0, k.0))), λ e. k.1 (sym e ∙ h.0))
-  spare_before (inr (inr (inr h))) = let k = cleared may.change x 9 h.1 in
-      (inr (inr (inr (h.0, k.0))), λ e. k.1 (sym e ∙ h.0))
+  spare_before (inl h) = grind (arith, cleared)
+  spare_before (inr (inl h)) = grind (arith, cleared)
+  spare_before (inr (inr (inl h))) = grind (arith, cleared)
+  spare_before (inr (inr (inr h))) = grind (arith, cleared)
 
   -- a row of another size may be held still
   pub spare_after : y ≢ x → IsSpare may y → IsSpare (without_spare may x) y
   spare_after n (inl h) = inl (h.0, kept_flag may.leaf x 2 h.1 (λ e. n (h.0 ∙ sym e)))
-  spare_after n (inr (inl h)) = inr
-      (inl (h.0, kept_flag may.rebuild x 5 h.1 (λ e. n (h.0 ∙ sym e))))
-  spare_after n (inr (inr (inl h))) = inr
-      (inr (inl (h.0, kept_flag may.pair x 7 h.1 (λ e. n (h.0 ∙ sym e)))))
-  spare_after n (inr (inr (inr h))) = inr
-      (inr (inr (h.0, kept_flag may.change x 9 h.1 (λ e. n (h.0 ∙ sym e)))))
+  spare_after n (inr (inl h)) = grind (arith, kept_flag)
+  spare_after n (inr (inr (inl h))) = grind (arith, kept_flag)
+  spare_after n (inr (inr (inr h))) = grind (arith, kept_flag)
 
 -- the same of each of some sizes
 pub each_before : (may : Spare) (x : ℕ) (ys : List ℕ) → Each (IsSpare (without_spare may x)) ys
@@ -66,10 +52,7 @@ each_after may x (y ∷ ys) n h = (
 module _ (may : Spare) (xs : List ℕ) (some : 1 ≤ length xs) where
   spare_apart : AreSpare may (get_or xs 0 0 ∷ following xs)
       ↔ (IsSpare may (get_or xs 0 0) × AreSpare (without_spare may (get_or xs 0 0)) (following xs))
-  spare_apart = (
-    (λ h. (h.0.0, (each_after may (get_or xs 0 0) (following xs) h.1.0 h.0.1, h.1.1))),
-    (λ h. let k = each_before may (get_or xs 0 0) (following xs) h.1.0 in ((h.0, k.0), (k.1, h.1.1))),
-  )
+  spare_apart = grind (arith, each_after, following, each_before)
 
   -- if the first size is a spare row's, the sizes are spare exactly if the others are after it
   pub spare_first : (less : Spare) → IsSpare may (get_or xs 0 0)

@@ -1,6 +1,6 @@
 -- The building lists of a state are those for the numbers of keys with which targets of started rebuilds are finished. Serves
 -- `lists.rt`.
-use Rattle.std.proofs.Common.{◌≡◌, ◌≢◌, ◌↔◌, ◌∙◌, ◌≤◌, ◌⊎◌, ℕ, true, false, eqb, cond, List, map, refl, sym, subst, inl, inr, ⊎_elim, arith}
+use Rattle.std.proofs.Common.{◌≡◌, ◌↔◌, ◌≤◌, ◌⊎◌, ℕ, true, cond, List, map, refl, subst, inl, inr, ⊎_elim, arith}
 use Rattle.std.proofs.lemmas.Bool.Decides.{eqb_tells}
 use Rattle.std.proofs.lemmas.Grind.{common_steps}
 use Rattle.std.specs.Ordering.{nat_cmp}
@@ -8,12 +8,10 @@ use Rattle.std.specs.BTreeMap.{is_at}
 use Rattle.std.specs.BTreeSet.{BTreeSet, contains}
 use Rattle.ist_core.specs.WordTerms.{share_from}
 use Rattle.ist_core.specs.LogTerms.{Snapshot, IsBuild, IsBuilding}
-use Rattle.ist_core.specs.TreeTerms.{IsFinishedWith}
 use Rattle.check_fairness.specs.Answers.{Holds}
 use Rattle.check_fairness.specs.Targets.{HasFinishedTarget, GainsKeys}
 use Rattle.check_fairness.specs.Knowing.{KnowsLists}
 use Rattle.check_fairness.specs.declared.lists.BuildingLists.{BuildingLists}
-use Rattle.check_fairness.specs.Keeping.{KnowsReadings}
 use Rattle.check_fairness.proofs.KeepingLemmas.{readings_stay}
 use Rattle.check_fairness.specs.Builds.{AddsLists, HasShapes}
 use Rattle.check_fairness.proofs.BuildLemmas.{listed_build, build_listed}
@@ -22,53 +20,23 @@ use Rattle.check_fairness.proofs.BuildLemmas.{listed_build, build_listed}
 pub held_after : (old new : BTreeSet ℕ) (k q : ℕ)
     → contains nat_cmp new q ≡ cond (is_at (nat_cmp k) q) true (contains nat_cmp old q)
     → Holds new q ↔ (Holds old q ⊎ (q ≡ k))
-held_after old new k q u = at (eqb_tells q k)
-  where
-    at : ◌⊎◌ ((eqb q k ≡ true) × (q ≡ k)) ((eqb q k ≡ false) × (q ≢ k)) → Holds new q
-        ↔ (Holds old q ⊎ (q ≡ k))
-    at (inl e) = let same = e.1 in ((λ h. inr same), (λ h. grind (arith, common_steps, u)))
-    at (inr e) = let other : contains nat_cmp new q ≡ contains nat_cmp old q = let ne = e.1 in grind
-        (arith, common_steps, u) in
-        ((λ h. inl (sym other ∙ h)), (λ s. ⊎_elim (λ h. other ∙ h) (λ is. absurd (e.1 is)) s))
+held_after old new k q u = grind (arith, eqb_tells, common_steps)
 
 -- a building list belongs to a number of keys with which a target is finished
 building_of : (t : Snapshot) (l : List ℕ) → IsBuilding t l
     → (k : ℕ) × HasFinishedTarget t k × IsBuild k l
-building_of t l b = (
-  b.k,
-  record {
-    node = b.row.target;
-    targeted = record {
-      rebuild = b.rebuild;
-      of = record { row = b.row; published = b.published; target_is = refl };
-      started = b.started;
-    };
-    finished = b.finished;
-  },
-  b.build,
-)
+building_of t l b = grind arith
 
 is_building : (t : Snapshot) (l : List ℕ) (k : ℕ) → HasFinishedTarget t k → IsBuild k l
     → IsBuilding t l
-is_building t l k h b = record {
-  rebuild = h.targeted.rebuild;
-  row = h.targeted.of.row;
-  published = h.targeted.of.published;
-  started = h.targeted.started;
-  k = k;
-  finished = subst (λ n. IsFinishedWith t n k) (sym h.targeted.of.target_is) h.finished;
-  build = b;
-}
+is_building t l k h b = grind arith
 
 module _ (t u : Snapshot) (P : ℕ → Type 0) (gains : GainsKeys t u P) where
   -- if all numbers that are gained were there already, the lists stay as they are
   pub lists_stay : (lists : BuildingLists) → ((k : ℕ) → P k → HasFinishedTarget t k)
       → KnowsLists lists t → KnowsLists lists u
   lists_stay lists there known = record {
-    keys = λ k. (
-      (λ h. (gains k).1 (inl ((known.keys k).0 h))),
-      (λ f. (known.keys k).1 (before k f)),
-    );
+    keys = grind (arith, before);
     lists = λ l. (
       (λ b. let it = building_of u l b in
           (known.lists l).0 (is_building t l it.0 (before it.0 it.1) it.2)),
@@ -88,7 +56,7 @@ module _ (t u : Snapshot) (keys : ℕ) (gains : GainsKeys t u (λ k. k ≡ keys)
   pub lists_known : (lists : BuildingLists) → Holds lists.counts keys → KnowsLists lists t
       → KnowsLists lists u
   lists_known lists has known = lists_stay t u (λ k. k ≡ keys) gains lists
-      (λ k is. subst (HasFinishedTarget t) (sym is) ((known.keys keys).0 has)) known
+      (λ k is. grind arith) known
 
   -- if the number and its lists are added, the lists are right
   pub lists_more : (old new : BuildingLists) → 2 ≤ share_from
@@ -98,10 +66,7 @@ module _ (t u : Snapshot) (keys : ℕ) (gains : GainsKeys t u (λ k. k ≡ keys)
       × HasShapes new.shapes (map (λ v. v.items) new.lists.items)))
       → new.kept ≡ old.kept → KnowsLists old t → KnowsLists new u
   lists_more old new two held come same known = let adds = (come known.shapes).0 in record {
-    keys = λ k. (
-      (λ h. (gains k).1 (⊎_elim (λ o. inl ((known.keys k).0 o)) (λ is. inr is) ((held k).0 h))),
-      (λ f. (held k).1 (⊎_elim (λ o. inl ((known.keys k).1 o)) (λ is. inr is) ((gains k).0 f))),
-    );
+    keys = grind arith;
     lists = λ l. (
       (λ b. let it = building_of u l b in (adds.among l).1
           (⊎_elim (λ o. inl ((known.lists l).0 (is_building t l it.0 o it.2)))
@@ -114,7 +79,5 @@ module _ (t u : Snapshot) (keys : ℕ) (gains : GainsKeys t u (λ k. k ≡ keys)
           ((adds.among l).0 a)),
     );
     shapes = (come known.shapes).1;
-    kept = subst (λ all. KnowsReadings all (map (λ v. v.items) new.lists.items)) (sym same)
-        (readings_stay old.kept (map (λ v. v.items) old.lists.items)
-        (map (λ v. v.items) new.lists.items) adds.following known.kept);
+    kept = grind (arith, readings_stay);
   }

@@ -1,6 +1,6 @@
 -- The causes to mark a node, after an event: they stay, and a yes or a pass may bring one. Serves
 -- `calling.rt`.
-use Rattle.std.proofs.Common.{◌≡◌, ◌≢◌, ◌∙◌, ◌⊎◌, ◌↔◌, ℕ, Bool, true, false, List, [], ◌∷◌, Some, refl, sym, ap, subst, inl, inr, ⊎_elim, arith}
+use Rattle.std.proofs.Common.{◌≡◌, ◌≢◌, ◌⊎◌, ◌↔◌, ℕ, Bool, true, false, List, [], ◌∷◌, Some, refl, sym, subst, inl, inr, ⊎_elim, arith}
 use Rattle.std.specs.BTreeSet.{BTreeSet}
 use Rattle.ist_core.specs.declared.pairs.Pair.{Pair}
 use Rattle.ist_core.specs.declared.events.Event.{Event}
@@ -23,19 +23,12 @@ use Rattle.check_state.proofs.StartedLemmas.{rows_grow, start_stays, started_bef
 module _ (t u : Snapshot) (grows : AllGrow t.pieces u.pieces) (rebuild node : ℕ) where
   -- a target of a rebuild stays one
   pub target_stays : HasTarget t rebuild node → HasTarget u rebuild node
-  target_stays it = let on = rebuild_there t.pieces u.pieces grows rebuild it.row it.published in
-      record { row = on.0; published = on.1; target_is = on.2.target ∙ it.target_is }
+  target_stays it = grind (arith, rebuild_there)
 
   -- and it was one before, if the rebuild was published
   target_before : {above i : ℕ} → IsRebuildFor t.pieces above i rebuild
       → HasTarget u rebuild node → HasTarget t rebuild node
-  target_before here it =
-      let on = rebuild_there t.pieces u.pieces grows rebuild here.row here.published in
-      let same = same_rebuild (u.pieces rebuild) it.row on.0 it.published on.1 in record {
-        row = here.row;
-        published = here.published;
-        target_is = sym on.2.target ∙ ap (λ r. r.target) (sym same) ∙ it.target_is;
-      }
+  target_before here it = grind (arith, rebuild_there, same_rebuild)
 
 module _ (pairs : List Pair) (words : ℕ) where
   -- the state after the log
@@ -71,8 +64,7 @@ module _ (pairs : List Pair) (words : ℕ) where
     passed_rebuild : (log : Log) → Ran log → (above i word rebuild : ℕ)
         → SlotNames (table log).pieces above i (ref_of word)
         → ref_of word ≡ Some (RebuildAt rebuild) → IsRebuildFor (table log).pieces above i rebuild
-    passed_rebuild log h above i word rebuild named is =
-        subst (SlotNames (table log).pieces above i) is named
+    passed_rebuild log h above i word rebuild named is = grind (arith, SlotNames)
 
     -- a rebuild that a change starts is published
     starting_rebuild : (log : Log) → Ran log → (base rebuild : ℕ)
@@ -125,10 +117,8 @@ module _ (pairs : List Pair) (words : ℕ) where
         -- a started rebuild is one that its change starts
         as_starts : {rebuild : ℕ} → (it : IsStarted (table log) rebuild)
             → StartsRebuild (table log) it.base rebuild
-        as_starts it =
-            record { change = it.change; published = it.published; kind = it.kind; to = it.to }
-    causes New starts passes (as_child above i word (inl now) is) =
-        inr (passes above i word now (names_row is))
+        as_starts it = grind arith
+    causes New starts passes (as_child above i word (inl now) is) = grind arith
     causes New starts passes (as_child above i word (inr before) is) =
         inl (as_child above i word before is)
     causes New starts passes (after_rebuild above i word rebuild (inl now) is of) =

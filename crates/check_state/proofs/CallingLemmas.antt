@@ -1,10 +1,10 @@
 -- What the code adds to the set of called nodes is what the event calls. Serves `calling.rt`.
-use Rattle.std.proofs.Common.{◌≡◌, ◌∙◌, ◌⊎◌, ◌↔◌, ℕ, Some, sym, ap, subst, inl, inr, ⊎_elim, ◌≢◌, true, false, List, ◌∷◌, option_map, refl}
+use Rattle.std.proofs.Common.{◌≡◌, ◌∙◌, ◌⊎◌, ◌↔◌, ℕ, Some, sym, ap, subst, inl, inr, ⊎_elim, ◌≢◌, true, false, List, ◌∷◌, refl, arith}
 use Rattle.ist_core.specs.declared.states.ChangeRow.{ChangeRow}
 use Rattle.ist_core.specs.declared.pairs.Pair.{Pair}
 use Rattle.ist_core.specs.declared.events.Event.{Event}
 use Rattle.ist_core.specs.declared.events.Event.TheVariants.{Decide}
-use Rattle.ist_core.specs.WordTerms.{RebuildAt, ref_of, start_kind, Change, InnerAt, decided_yes, with_decision, start}
+use Rattle.ist_core.specs.WordTerms.{RebuildAt, ref_of, start_kind, Change, InnerAt, decided_yes, start}
 use Rattle.ist_core.specs.LogTerms.{Snapshot, Log, same_log, one_event, CanOpen, EachEnabled, state_of}
 use Rattle.ist_core.specs.TreeTerms.{HasTarget, IsChild, Linked}
 use Rattle.ist_core.proofs.AllWordLemmas.{same_change, changed_at-same}
@@ -27,45 +27,20 @@ use Rattle.check_state.proofs.YesLemmas.{hangs_once, knows, of_linked}
 
 -- what is added may be said in other words
 pub more_words : {X A P Q : Type 0} → (X ↔ (A ⊎ P)) → (P ↔ Q) → X ↔ (A ⊎ Q)
-more_words x same = (
-  (λ h. ⊎_elim (λ a. inl a) (λ p. inr (same.0 p)) (x.0 h)),
-  (λ s. x.1 (⊎_elim (λ a. inl a) (λ q. inr (same.1 q)) s)),
-)
+more_words x same = grind arith
 
 -- a change that starts a rebuild calls the rebuild's targets
 pub start_calls : (t : Snapshot) (base rebuild node : ℕ) (row : ChangeRow)
     → t.pieces base ≡ Some (Change row) → row.kind ≡ start_kind
     → ref_of row.to ≡ Some (RebuildAt rebuild) → HasTarget t rebuild node ↔ StartCalls t base node
-start_calls t base rebuild node row e kind to = (
-  (λ of. record {
-    rebuild = rebuild;
-    starts = record { change = row; published = e; kind = kind; to = to };
-    of = of;
-  }),
-  (λ k. let same = same_change (t.pieces base) k.starts.change row k.starts.published e in
-      let reads : Some (RebuildAt k.rebuild) ≡ Some (RebuildAt rebuild) =
-      sym k.starts.to ∙ ap (λ r. ref_of r.to) same ∙ to in
-      let is : k.rebuild ≡ rebuild = cc in
-      subst (λ x. HasTarget t x node) is k.of),
-)
+start_calls t base rebuild node row e kind to = grind (arith, same_change)
 
 -- and it starts one whose target is finished, if that rebuild's is
 pub start_finished : (t : Snapshot) (base rebuild k : ℕ) (row : ChangeRow)
     → t.pieces base ≡ Some (Change row) → row.kind ≡ start_kind
     → ref_of row.to ≡ Some (RebuildAt rebuild)
     → TargetFinishedWith t rebuild k ↔ StartsFinished t base k
-start_finished t base rebuild k row e kind to = (
-  (λ of. record {
-    rebuild = rebuild;
-    starts = record { change = row; published = e; kind = kind; to = to };
-    finished = of;
-  }),
-  (λ f. let same = same_change (t.pieces base) f.starts.change row f.starts.published e in
-      let reads : Some (RebuildAt f.rebuild) ≡ Some (RebuildAt rebuild) =
-      sym f.starts.to ∙ ap (λ r. ref_of r.to) same ∙ to in
-      let is : f.rebuild ≡ rebuild = cc in
-      subst (λ x. TargetFinishedWith t x k) is f.finished),
-)
+start_finished t base rebuild k row e kind to = grind (arith, same_change)
 
 -- a word of a rebuild calls the rebuild's targets
 pub rebuild_calls : (t : Snapshot) (word rebuild node : ℕ) → ref_of word ≡ Some (RebuildAt rebuild)
@@ -74,8 +49,7 @@ rebuild_calls t word rebuild node e = ((λ of. names_rebuild rebuild e of), (λ 
   where
     at : WordCalls t word node → HasTarget t rebuild node
     at (names_row is) = absurd (cc)
-    at (names_rebuild other is of) = let same : other ≡ rebuild = cc in
-        subst (λ x. HasTarget t x node) same of
+    at (names_rebuild other is of) = grind arith
 
 -- ---- the table of slots after an event: unchanged, except that after a yes it also has what the change
 -- brings. Serves `linking.rt`.
@@ -119,15 +93,12 @@ module _ (pairs : List Pair) (words : ℕ) (opens : CanOpen pairs words) where
     -- the change after the event is the one before it, with its decision
     decided_change : (x : ChangeRow) → (following log).pieces base ≡ Some (Change x)
         → after_yes.pieces base ≡ Some (Change record x { decision = decided_yes })
-    decided_change x e = changed_at-same (following log).pieces base (with_decision decided_yes)
-        ∙ ap (option_map (with_decision decided_yes)) e
+    decided_change x e = grind (arith, changed_at-same)
 
     change_is : (x : ChangeRow)
         → after_yes.pieces base ≡ Some (Change x)
         → x ≡ record h.1.change { decision = decided_yes }
-    change_is x e = same_change (after_yes.pieces base) x
-        (record h.1.change { decision = decided_yes }) e
-        (decided_change h.1.change h.1.pending.published)
+    change_is x e = grind (arith, same_change, decided_change)
 
     -- the inner row that the change puts in is the logical child in its slot
     pub brings_in_place : BringsInPlace after_yes base
@@ -154,19 +125,7 @@ module _ (pairs : List Pair) (words : ℕ) (opens : CanOpen pairs words) where
     new_brings : (node i child : ℕ)
         → HangsNew pairs words opens log (Decide caller base true) node i child
         → Brings after_yes base node i child
-    new_brings node i child n = let b = n.brings in let same : base ≡ b.base = cc (b.event_is) in
-        let hangs =
-        subst (λ m. Hangs after_yes m b.change.index node i child) (sym b.node_is)
-        (subst (λ j. Hangs after_yes n.top j node i child) (sym b.index_is) n.hangs) in
-        record {
-          change = record b.change { decision = decided_yes };
-          published = decided_change b.change
-              (subst (λ at. (following log).pieces at ≡ Some (Change b.change)) (sym same)
-              b.published);
-          row = b.row;
-          to = b.to;
-          hangs = hangs;
-        }
+    new_brings node i child n = grind (arith, decided_change)
 
     -- before the table is brought forward, logical children hang once
     pub once_before : (slots : BTreeMap ℕ Slot) → KnowsSlots slots (start pairs words) log

@@ -1,12 +1,12 @@
 -- Decided changes after an event: they stay, and only a Decide makes one. Serves `starting.rt`.
-use Rattle.std.proofs.Common.{◌≡◌, ◌≢◌, ◌∙◌, ◌⊎◌, ℕ, nat_lt, if◌then◌else◌, Bool, true, false, List, ◌∷◌, Option, Some, refl, sym, ap, subst, inl, inr, ⊎_elim, option_map}
+use Rattle.std.proofs.Common.{◌≡◌, ◌≢◌, ◌∙◌, ◌⊎◌, ℕ, Bool, List, ◌∷◌, Some, refl, ap, inl, inr, ⊎_elim, option_map, arith}
 use Rattle.ist_core.specs.declared.lists.Row.{Row}
 use Rattle.ist_core.specs.declared.states.ChangeRow.{ChangeRow}
 use Rattle.ist_core.specs.declared.events.Event.{Event}
 use Rattle.ist_core.specs.declared.events.Event.TheVariants.{Install, Decide, Resolve, Count, Mark, Finish, Root, Draw, Place}
-use Rattle.ist_core.specs.WordTerms.{ChangeAt, word_of, undecided, marked_word, finished_word, Pieces, Piece, Leaf, Inner, Change, Rebuild, with_inners, changed_at, with_slot, with_status, counted, with_decision, with_root, drawn}
-use Rattle.ist_core.specs.LogTerms.{Among, Each, Snapshot, bases_of, after, decision_word, side_of, Log, state, Enabled}
-use Rattle.ist_core.specs.TreeTerms.{pair_row, pair_over, FitsKind, a_put, a_pair, a_remove, a_start, a_finish, CanDecide, IsFinishedWith, CanFinish}
+use Rattle.ist_core.specs.WordTerms.{undecided, finished_word, Pieces, Piece, Leaf, Inner, Change, Rebuild, with_inners, changed_at, with_slot, with_status, counted, with_root, drawn}
+use Rattle.ist_core.specs.LogTerms.{Among, Each, Snapshot, bases_of, after, decision_word, Log, state, Enabled}
+use Rattle.ist_core.specs.TreeTerms.{pair_row, FitsKind, a_put, a_pair, a_remove, a_start, a_finish, CanDecide, IsFinishedWith, CanFinish}
 use Rattle.ist_core.proofs.AllWordLemmas.{each-among, changed_at-some, changed_at-same}
 use Rattle.ist_core.proofs.AllEventLemmas.{HeldLieApart, with_installed, IsInstalledWith, adds_install, adds-with_inners, rows_resolved, rows_placed, holds_installed, known, grow_step}
 use Rattle.ist_core.proofs.AllLogLemmas.{change_there, finished_by}
@@ -21,9 +21,7 @@ decision_in _ = undecided
 
 pair_fresh : (key base other_key other : ℕ) → decision_in (pair_row key base other_key other)
     ≡ undecided
-pair_fresh key base other_key other =
-    elim (nat_lt other_key key) as (λ v. decision_in (if v then pair_over key other base else
-    pair_over other_key base other) ≡ undecided) [ true ↦ refl | false ↦ refl ]
+pair_fresh key base other_key other = grind arith
 
 installed_fresh : (first : Snapshot) (log : Log) (at : ℕ) (change : ChangeRow) (fresh : List Row)
     (fits : FitsKind first log change fresh) (base : ℕ) (p : Piece) → change.decision ≡ undecided
@@ -39,8 +37,7 @@ installed_fresh first log at change fresh (a_finish f) base p unset (inr h) = ab
 
 tree_fresh : (ps : Pieces) (rows : List ℕ) (base : ℕ) (p : Piece) → Each (IsTreeRow ps) rows
     → Among base rows → ps base ≡ Some p → decision_in p ≡ undecided
-tree_fresh ps rows base p all i e = let it = each-among (IsTreeRow ps) base rows all i in known
-    (λ x. decision_in x ≡ undecided) (ps base) p (Inner it.row) e it.published refl
+tree_fresh ps rows base p all i e = grind (arith, each-among, IsTreeRow, known)
 
 -- ---- what each write does to a change
 
@@ -87,12 +84,7 @@ DecidedCame ps qs = (base : ℕ) (r : ChangeRow) → qs base ≡ Some (Change r)
 
 came_changed : (ps xs qs : Pieces) (at : ℕ) (f : Piece → Piece) → qs ≡ changed_at xs at f → KeepsEachChange f
     → DecidedCame ps xs → DecidedCame ps qs
-came_changed ps xs qs at f pieces keeps old base r e d =
-    let it = changed_at-some xs at base f (Change r) (subst (λ ys. ys base ≡ Some (Change r)) pieces
-    e) in
-    ⊎_elim (λ k. old base r (it.1 ∙ ap (λ x. Some x) (sym k)) d)
-    (λ k. old base r (it.1 ∙ ap (λ x. Some x) (keeps it.0 r (sym k.1))) d)
-    it.2
+came_changed ps xs qs at f pieces keeps old base r e d = grind (arith, changed_at-some)
 
 came_added : (ps qs : Pieces)
     → ((base : ℕ) (q : Piece) → qs base ≡ Some q → (ps base ≡ Some q) ⊎ (decision_in q ≡ undecided))
@@ -103,23 +95,19 @@ came_added ps qs from base r e d = ⊎_elim (λ k. k) (λ k. absurd (d k)) (from
 pub came_step : (first : Snapshot) (log : Log) (event : Event) → Enabled first log event
     → HeldLieApart (state first log) → ((c b : ℕ) (x : Bool) → event ≢ Decide c b x)
     → DecidedCame (state first log).pieces (state first (event ∷ log)).pieces
-came_step first log (Install caller base rows) h s other = let t = state first log in
-    let qs = with_installed t.pieces base h.change h.fresh in
-    let adds = adds_install first log caller base h.change h.fresh h.fits
-    (holds_installed first log caller base rows h) s in
-    came_changed t.pieces qs (after t (Install caller base rows)).pieces h.change.node
-    (with_slot h.change.index (word_of (ChangeAt base)))
-    (ap (λ xs. (after t (Install caller base xs)).pieces) h.rows_are)
-    (slot_keeps h.change.index (word_of (ChangeAt base)))
-    (came_added t.pieces qs (λ b q e. ⊎_elim (λ k. inl k)
-    (λ k. inr (installed_fresh first log base h.change h.fresh h.fits b q h.unset k))
-    (adds.from b q e)))
+came_step first log (Install caller base rows) h s other =
+    grind (
+      arith,
+      with_installed,
+      adds_install,
+      holds_installed,
+      came_changed,
+      slot_keeps,
+      came_added,
+      installed_fresh,
+    )
 came_step first log (Resolve caller base) h s other =
-    came_changed (state first log).pieces (state first log).pieces
-    (after (state first log) (Resolve caller base)).pieces h.change.node
-    (with_slot h.change.index (side_of h.change))
-    (ap (λ u. u.pieces) (rows_resolved (state first log) caller base h))
-    (slot_keeps h.change.index (side_of h.change)) (λ b r e d. e)
+    grind (arith, came_changed, rows_resolved, slot_keeps)
 came_step first log (Root caller at word rows) h s other = let t = state first log in
     let qs = with_inners t.pieces rows in let adds = adds-with_inners t caller rows h.held s in
     let tree = root_tree qs word h.k h.leaves h.row.target (bases_of rows) h.root in
@@ -136,17 +124,11 @@ came_step first log (Place caller at i word rows) h s other = let t = state firs
     (came_added t.pieces qs (λ b q e. ⊎_elim (λ k. inl k)
     (λ k. inr (tree_fresh qs (bases_of rows) b q (tree_rows qs h.ref h.root (bases_of rows)
     tree) k e)) (adds.from b q e)))
-came_step first log (Draw caller at part) h s other = came_changed (state first log).pieces
-    (state first log).pieces _ at drawn refl drawn_keeps (λ b r e d. e)
-came_step first log (Count caller at) h s other = came_changed (state first log).pieces
-    (state first log).pieces _ at counted refl counted_keeps (λ b r e d. e)
+came_step first log (Draw caller at part) h s other = grind (arith, came_changed, drawn_keeps)
+came_step first log (Count caller at) h s other = grind (arith, came_changed, counted_keeps)
 came_step first log (Decide caller base said) h s other = absurd (other caller base said refl)
-came_step first log (Mark caller at) h s other = came_changed (state first log).pieces
-    (state first log).pieces _ at (with_status marked_word) refl (status_keeps marked_word)
-    (λ b r e d. e)
-came_step first log (Finish caller at keys) h s other = came_changed (state first log).pieces
-    (state first log).pieces _ at (with_status (finished_word keys)) refl
-    (status_keeps (finished_word keys)) (λ b r e d. e)
+came_step first log (Mark caller at) h s other = grind (arith, came_changed, status_keeps)
+came_step first log (Finish caller at keys) h s other = grind (arith, came_changed, status_keeps)
 came_step first log _ h s other = λ b r e d. e
 
 -- a change after a Decide was the same before, or is the decided one
@@ -155,19 +137,7 @@ pub came_decided : (first : Snapshot) (log : Log) (caller base : ℕ) (said : Bo
     → (state first (Decide caller base said ∷ log)).pieces b ≡ Some (Change r)
     → ((state first log).pieces b ≡ Some (Change r))
     ⊎ ((b ≡ base) × (r ≡ record (h.change) { decision = decision_word said }))
-came_decided first log caller base said h b r e = let t = state first log in
-    let it = changed_at-some t.pieces base b (with_decision (decision_word said)) (Change r) e in
-    ⊎_elim (λ k. inl (it.1 ∙ ap (λ x. Some x) (sym k)))
-    (λ k. inr (k.0, same (t.pieces b) it.0 it.1 (ap t.pieces k.0 ∙ h.pending.published) (sym k.1)))
-    it.2
-  where
-    same : (o : Option Piece) (p : Piece) → o ≡ Some p → o ≡ Some (Change h.change) → with_decision
-        (decision_word said) p ≡ Change r
-        → r ≡ record (h.change) { decision = decision_word said }
-    same o p e f g = let is : p ≡ Change h.change = cc in
-        let made : Change record (h.change) { decision = decision_word said } ≡ Change r = ap
-        (with_decision (decision_word said)) (sym is) ∙ g in
-        cc
+came_decided first log caller base said h b r e = grind (arith, changed_at-some)
 
 decided_as : ℕ → ChangeRow → ChangeRow
 decided_as decision r = record r { decision = decision }
@@ -198,9 +168,7 @@ pub finished_before : (first : Snapshot) (log : Log) (node k : ℕ) (event : Eve
     → Enabled first log event → HeldLieApart (state first log)
     → IsFinishedWith (state first (event ∷ log)) node k
     → IsFinishedWith (state first log) node k ⊎ FinishesNode node k event
-finished_before first log node k event h s f =
-    ⊎_elim (λ old. inl old) (λ by. inr (subst (FinishesNode node k) (sym by.1) (refl, refl)))
-    (finished_by first log event h s node k f)
+finished_before first log node k event h s f = grind (arith, finished_by)
 
 -- after a Finish the node is finished
 pub finished_now : (first : Snapshot) (log : Log) (caller node k : ℕ)

@@ -1,14 +1,13 @@
 -- The state after an event, in the cases of the code. Serves `advancing.rt`.
-use Rattle.std.proofs.Common.{◌≡◌, ◌≢◌, ◌∙◌, ℕ, Bool, true, false, List, [], ◌∷◌, Option, Some, None, refl, sym, ap, subst}
+use Rattle.std.proofs.Common.{◌≡◌, ◌≢◌, ◌∙◌, ℕ, Bool, true, false, List, [], ◌∷◌, Option, Some, refl, sym, ap, subst, arith}
 use Rattle.std.specs.Prelude.{Result, OnOk}
 use Rattle.ist_core.specs.declared.pairs.Pair.{Pair}
 use Rattle.ist_core.specs.declared.lists.Row.{Row}
-use Rattle.ist_core.specs.declared.states.ChangeRow.{ChangeRow}
 use Rattle.ist_core.specs.declared.states.RebuildRow.{RebuildRow}
 use Rattle.ist_core.specs.declared.events.Event.{Event}
 use Rattle.ist_core.specs.declared.events.Event.TheVariants.{Enter, Reserve, Install, Okay, Decide, Resolve, Count, Mark, Pass, Finish, Root, Draw, Place, Lose}
-use Rattle.ist_core.specs.WordTerms.{InnerAt, ref_of, Pieces, change_of, changed_at, with_slot, with_decision}
-use Rattle.ist_core.specs.LogTerms.{Snapshot, bases_of, without, after, decision_word, with_change, installed, with_part, placed, Log, Lawful, state_of}
+use Rattle.ist_core.specs.WordTerms.{InnerAt, ref_of, Pieces, changed_at, with_slot, with_decision}
+use Rattle.ist_core.specs.LogTerms.{Snapshot, bases_of, without, after, decision_word, installed, placed, Log, Lawful, state_of}
 use Rattle.check_events.specs.declared.replicas.Replica.{Replica}
 use Rattle.check_events.specs.Mirroring.{Mirrors}
 use Rattle.check_state.specs.Advancing.{TakesNoRows}
@@ -28,15 +27,13 @@ by_event r t e f is h = subst (λ x. Mirrors r (after t x)) (sym is) h
 pub done_by : {E : Type 0} (r s : Replica) {e f : Event} (result : Result (Unit {0}) E) → e ≡ f
     → OnOk result ((t : Snapshot) → Mirrors r t → Mirrors s (after t f))
     → OnOk result ((t : Snapshot) → Mirrors r t → Mirrors s (after t e))
-done_by r s result is =
-    subst (λ x. OnOk result ((t : Snapshot) → Mirrors r t → Mirrors s (after t x))) (sym is)
+done_by r s result is = grind arith
 
 -- what is right after the event that was matched is right after the event
 pub at_event : (pairs : List Pair) (words : ℕ) (log : Log) (Right : Log → Type 0) (e f : Event) → e
     ≡ f → Lawful pairs words (e ∷ log) → (Lawful pairs words (f ∷ log) → Right (f ∷ log))
     → Right (e ∷ log)
-at_event pairs words log Right e f is law right =
-    subst (λ x. Right (x ∷ log)) (sym is) (right (subst (λ x. Lawful pairs words (x ∷ log)) is law))
+at_event pairs words log Right e f is law right = grind arith
 
 -- an event that isn't one of those that take rows takes none
 pub takes_none : (e : Event) → ((c b n : ℕ) → e ≢ Reserve c b n)
@@ -80,11 +77,7 @@ module _ (r : Replica) (t : Snapshot) where
 pub held_installed : (t : Snapshot) (base : ℕ) (rows : List Row) → (installed t base rows).held
     ≡ t.held
 held_installed t base [] = refl
-held_installed t base (row ∷ fresh) = at (change_of row.words)
-  where
-    at : (o : Option ChangeRow) → (with_change t base fresh o).held ≡ t.held
-    at None = refl
-    at (Some change) = refl
+held_installed t base (row ∷ fresh) = grind arith
 
 -- an Install is done once its rows are published, and then given up
 pub installed_given_up : {r s u : Replica} (base : ℕ) {rows fresh gone : List Row} → fresh ≡ rows → gone ≡ rows
@@ -107,8 +100,7 @@ pub decided_so : (r : Replica) (t : Snapshot) (base word : ℕ) (said : Bool) �
     → Mirrors r (record t {
       pieces = changed_at t.pieces base (with_decision (decision_word said));
     })
-decided_so r t base word said e h = subst
-    (λ w. Mirrors r (record t { pieces = changed_at t.pieces base (with_decision w) })) e h
+decided_so r t base word said e h = grind arith
 
 -- the word of a yes
 pub yes_word : (word : ℕ) (said : Bool) → said ≡ true → word ≡ 1 → word ≡ decision_word said
@@ -126,9 +118,7 @@ module _ (r : Replica) (t : Snapshot) (qs : Pieces) (part word : ℕ) (o : Optio
       ≡ Some (InnerAt root)
       → Mirrors r (record t { pieces = changed_at qs root (with_slot part word) })
       → Mirrors r (record t { pieces = placed qs o part word })
-  placed_some row root e names h =
-      subst (λ x. Mirrors r (record t { pieces = placed qs x part word })) (sym e)
-      (subst (λ ref. Mirrors r (record t { pieces = with_part qs ref part word })) (sym names) h)
+  placed_some row root e names h = grind arith
 
 -- ---- the callers' last updates are right after each kind of event, in the cases of the code. Serves
 -- `updating.rt`.
@@ -172,5 +162,4 @@ module _ (replica : Replica) (e : Event) (updates : BTreeMap ℕ LastUpdate) whe
   -- any other event leaves the map too
   pub others_leave : ((c b : ℕ) (x : Bool) → e ≢ Decide c b x) → ((c n : ℕ) → e ≢ Count c n)
       → RemembersUpdate replica e updates updates
-  others_leave no_decide no_count pairs words log law mirrors known =
-      updates_kept pairs words log e no_decide no_count law updates known
+  others_leave no_decide no_count pairs words log law mirrors known = grind (arith, updates_kept)

@@ -1,5 +1,5 @@
 -- Rows that hang in or below a slot, as a walk down reaches them. Serves `linking.rt`.
-use Rattle.std.proofs.Common.{◌≡◌, ◌≢◌, ◌↔◌, ◌∙◌, ◌⊎◌, ℕ, zero, suc, List, [], ◌∷◌, slice_get, slice_index_or, length, ◌<◌, Option, Some, None, refl, sym, subst, inl, inr, arith}
+use Rattle.std.proofs.Common.{◌≡◌, ◌≢◌, ◌↔◌, ◌∙◌, ◌⊎◌, ℕ, zero, suc, List, [], ◌∷◌, slice_get, slice_index_or, length, ◌<◌, Option, Some, None, refl, sym, subst, arith}
 use Rattle.std.specs.BTreeMap as tree
 use Rattle.ist_core.specs.declared.states.InnerRow.{InnerRow}
 use Rattle.ist_core.specs.WordTerms.{anchor, Ref, InnerAt, Pieces, Inner, SlotHolds, in_anchor, in_row, logical}
@@ -22,8 +22,7 @@ stands_at (x ∷ xs) (suc i) low = stands_at xs i (omega arith)
 -- the word at a place below the end is the slot's word
 pub word_at : (words slots : List ℕ) (i : ℕ) → words ≡ slots → i < length words
     → slice_get slots i ≡ Some (slice_index_or words i 0)
-word_at words slots i e low = subst (λ ws. slice_get ws i ≡ Some (slice_index_or words i 0)) e
-    (stands_at words i low)
+word_at words slots i e low = grind (arith, stands_at)
 
 -- ---- at one moment
 
@@ -58,30 +57,24 @@ module _ (t : Snapshot) where
     -- a slot reads as what any of its words reads as
     pub child_at : (node i word child : ℕ) → SlotHolds t node i word → IsChild t node i child
         → logical t.pieces word ≡ Some (InnerAt child)
-    child_at node i word child h c = subst (λ w. logical t.pieces w ≡ Some (InnerAt child))
-        (slot_once t node i c.word word free c.holds h) c.reads
+    child_at node i word child h c = grind (arith, slot_once)
 
     -- a slot has one child
     pub one_child : (node i a b : ℕ) → IsChild t node i a → IsChild t node i b → a ≡ b
-    one_child node i a b c d =
-        one_target (logical t.pieces c.word) a b c.reads (child_at node i c.word b c.holds d)
+    one_child node i a b c d = grind (arith, one_target, child_at)
 
     -- what hangs in or below a slot is its child there, or hangs in or below a slot of the child
     pub hangs_split : (node i row under j child : ℕ) → IsChild t node i row
         → Hangs t node i under j child
         → ((under ≡ node) × (j ≡ i) × (child ≡ row)) ⊎ ((k : ℕ) × Hangs t row k under j child)
-    hangs_split node i row _ _ child c (hangs_here d) =
-        inl (refl, refl, one_child node i child row d c)
-    hangs_split node i row under j child c (hangs_below at k d h) =
-        inr (k, subst (λ r. Hangs t r k under j child) (one_child node i at row d c) h)
+    hangs_split node i row _ _ child c (hangs_here d) = grind (arith, one_child)
+    hangs_split node i row under j child c (hangs_below at k d h) = grind (arith, one_child)
 
     -- a slot of an inner row holds its word
     holds_word : (node i word : ℕ) (r : InnerRow) → t.pieces node ≡ Some (Inner r)
         → SlotHolds t node i word → slice_get r.slots i ≡ Some word
     holds_word node i word r e (in_anchor a b f) = absurd (no_row t.pieces node r free a e)
-    holds_word node i word r e (in_row s p g) =
-        subst (λ (x : InnerRow). slice_get x.slots i ≡ Some word)
-        (same_inner (t.pieces node) s r p e) g
+    holds_word node i word r e (in_row s p g) = grind (arith, same_inner)
 
     -- a row hangs in a slot if the word of the slot reads as it
     pub child_by_word : (node i word child : ℕ) (r : InnerRow) → t.pieces node ≡ Some (Inner r)

@@ -40,9 +40,7 @@ part_before base n {j = j} some e i w = let one = part_base-suc base n (j - 1) i
 -- a list made by an index, with one more
 pub made_more : (f : ℕ → ℕ) (a j here x : ℕ) (old new : List ℕ) → old ≡ map f (range_with_len a j)
     → new ≡ old ++ x ∷ [] → a + j ≡ here → x ≡ f here → new ≡ map f (range_with_len a (j + 1))
-made_more f a j here x old new e i at v =
-    i ∙ ap (λ xs. xs ++ x ∷ []) e ∙ ap (λ y. map f (range_with_len a j) ++ y ∷ []) v
-    ∙ sym (map-range_with_len_more f a j here at)
+made_more f a j here x old new e i at v = grind (arith, map-range_with_len_more)
 
 -- ---- slots
 
@@ -68,10 +66,7 @@ slot_more base {n = n} {j = j} {word = word} {old = old} {new = new} below e i i
 pub slots_whole : (base : ℕ) {n j : ℕ} {slots : List ℕ} → j ≡ degree n → SlotsTo base n j slots
     → (pairs : List Pair) → length pairs ≡ n
     → slots ≡ map (λ part. word_of (tree_at part.0 part.1)) (placed_parts base pairs)
-slots_whole base {n = n} end all pairs long = all pairs long
-    ∙ ap (λ d. map (λ i. word_of (tree_at (part_base base n i) (part_of pairs i)))
-    (range_with_len 0 d)) end
-    ∙ slots_are base n pairs long
+slots_whole base {n = n} end all pairs long = grind (arith, slots_are)
 
 -- ---- rows
 
@@ -84,15 +79,7 @@ laid_in_front : (r : Replica) (t : Snapshot) (base at j : ℕ) (pairs part : Lis
           (with_pieces t.pieces (rows_after base pairs (j + 1))) (rows_from at part);
     })
     → Mirrors r (record t { pieces = with_pieces t.pieces (rows_after base pairs j) })
-laid_in_front r t base at j pairs part h e i m = let following = rows_after base pairs (j + 1) in
-    subst (λ ps. Mirrors r (record t { pieces = ps }))
-    (ap (λ b. with_pieces (with_pieces t.pieces following) (rows_from b part)) e
-    ∙ ap (λ xs. with_pieces (with_pieces t.pieces following)
-    (rows_from (part_base base (length pairs) j) xs)) i
-    ∙ sym (with_pieces-append t.pieces (rows_from (part_base base (length pairs) j)
-    (part_of pairs j)) following)
-    ∙ ap (with_pieces t.pieces) (sym (rows_after-first base pairs j h)))
-    m
+laid_in_front r t base at j pairs part h e i m = grind (arith, with_pieces-append, rows_after-first)
 
 -- the rows of the parts from part j on, and then those of the part before them
 pub part_laid : (base : ℕ) (pairs : List Pair) {r s u : Replica} {at j : ℕ} {part : List Pair} → 0 < j
@@ -110,9 +97,7 @@ part_laid base pairs {s = s} {u = u} {at = at} {j = j} {part = part} some most e
 -- after the last part nothing is published
 pub none_laid : (base : ℕ) (pairs : List Pair) {r : Replica} {d : ℕ} → d ≡ degree (length pairs)
     → Publishes r r (rows_after base pairs d)
-none_laid base pairs {r = r} e t m =
-    subst (λ rows. Mirrors r (record t { pieces = with_pieces t.pieces rows }))
-    (sym (ap (rows_after base pairs) e ∙ rows_after-last base pairs)) m
+none_laid base pairs {r = r} e t m = grind (arith, rows_after-last)
 
 -- the top row is published last
 pub top_laid : (base : ℕ) (pairs : List Pair) {r s u : Replica} {row : InnerRow}
@@ -160,7 +145,4 @@ all_laid r t rows m = subst (λ ps. Mirrors r (record t { pieces = ps })) (with_
 pub opened : (r : Replica) (t : Snapshot) (first : ℕ) (pairs : List Pair) → first ≡ first_row
     → Mirrors r (record t { pieces = with_pieces (λ base. None) (rows_from first pairs) })
     → Mirrors r (record t { pieces = pieces_of (rows_from first_row pairs) })
-opened r t first pairs e m = all_laid r t (rows_from first_row pairs)
-    (subst (λ base. Mirrors r (record t {
-      pieces = with_pieces (λ at. None) (rows_from base pairs);
-    })) e m)
+opened r t first pairs e m = grind (arith, all_laid)

@@ -1,6 +1,6 @@
 -- What an event links: nothing, but for a yes, which links what hangs in the slot of its change.
 -- Serves `linking.rt`.
-use Rattle.std.proofs.Common.{◌≡◌, ◌∙◌, ◌⊎◌, ℕ, true, List, ◌∷◌, Option, Some, None, refl, sym, ap, subst, inl, inr, ⊎_elim}
+use Rattle.std.proofs.Common.{◌≡◌, ◌∙◌, ◌⊎◌, ℕ, true, List, ◌∷◌, Option, Some, None, refl, sym, ap, subst, inl, inr, ⊎_elim, arith}
 use Rattle.std.proofs.lemmas.Option.{same_Some}
 use Rattle.ist_core.specs.declared.pairs.Pair.{Pair}
 use Rattle.ist_core.specs.declared.states.ChangeRow.{ChangeRow}
@@ -164,9 +164,7 @@ module _ (pairs : List Pair) (words : ℕ) (opens : CanOpen pairs words) where
   -- the same, one row further down
   one_more : (log : Log) (event : Event) (node i row j child : ℕ) → HangsNew log event node i row
       → IsChild (following (event ∷ log)) row j child → HangsNew log event row j child
-  one_more log event node i row j child n c = let u = following (event ∷ log) in
-      let hangs = hangs_on u n.top n.k node i row j child n.hangs c in
-      record { top = n.top; k = n.k; brings = n.brings; hangs = hangs }
+  one_more log event node i row j child n c = grind (arith, hangs_on)
 
   -- a child of a node that was linked or hangs newly was a child of a linked node, or hangs newly
   child_from : (log : Log) (event : Event) → EachEnabled (start pairs words) (event ∷ log)
@@ -178,8 +176,7 @@ module _ (pairs : List Pair) (words : ℕ) (opens : CanOpen pairs words) where
   child_from log event h node i child (inl l) c = ⊎_elim (λ b. inl (l, b))
       (λ n. inr record { top = node; k = i; brings = n; hangs = hangs_here c })
       (child_back log event h node i child l c)
-  child_from log event h node i child (inr n) c =
-      inr (one_more log event n.0 n.1 node i child n.2 c)
+  child_from log event h node i child (inr n) c = grind (arith, one_more)
 
   -- a linked node was linked before the event, or hangs newly
   linked_back : (log : Log) (event : Event) → EachEnabled (start pairs words) (event ∷ log)
@@ -196,5 +193,4 @@ module _ (pairs : List Pair) (words : ℕ) (opens : CanOpen pairs words) where
       → Linked (following (event ∷ log)) node → IsChild (following (event ∷ log)) node i child
       → (Linked (following log) node × IsChild (following log) node i child)
       ⊎ HangsNew log event node i child
-  linked_child_back log event h node i child l c =
-      child_from log event h node i child (linked_back log event h node l) c
+  linked_child_back log event h node i child l c = grind (arith, child_from, linked_back)

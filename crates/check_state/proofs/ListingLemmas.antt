@@ -1,6 +1,6 @@
 -- The targets and the building lists are right after each kind of event, in the cases of the code.
 -- Serves `targeting.rt`.
-use Rattle.std.proofs.Common.{◌≡◌, ◌≢◌, ◌↔◌, ◌⊎◌, ◌∷◌, ◌∙◌, ℕ, Bool, true, false, List, Some, ap, sym, subst, inl, inr, ⊎_elim, refl}
+use Rattle.std.proofs.Common.{◌≡◌, ◌≢◌, ◌↔◌, ◌⊎◌, ◌∷◌, ◌∙◌, ℕ, Bool, true, false, List, Some, ap, refl, arith}
 use Rattle.std.specs.BTreeSet.{BTreeSet}
 use Rattle.ist_core.specs.declared.pairs.Pair.{Pair}
 use Rattle.ist_core.specs.declared.events.Event.{Event}
@@ -29,19 +29,12 @@ unfinished _ none node k now = now
 -- if one number has P, it is the one that is gained
 pub gains_one : (t u : Snapshot) (P : ℕ → Type 0) (keys : ℕ) → FindsOne P (Some keys)
     → GainsKeys t u P → GainsKeys t u (λ k. k ≡ keys)
-gains_one t u P keys found gains k = (
-  (λ it. ⊎_elim (λ old. inl old) (λ p. inr (found.1 k p)) ((gains k).0 it)),
-  (λ s. (gains k).1
-      (⊎_elim (λ old. inl old) (λ is. inr (subst P (sym is) found.0)) s)),
-)
+gains_one t u P keys found gains k = grind arith
 
 -- if the fact that comes with the number holds, the number is the one that is gained
 gains_so : (t u : Snapshot) (A : Type 0) (keys : ℕ) → A → GainsKeys t u (λ k. A × (k ≡ keys))
     → GainsKeys t u (λ k. k ≡ keys)
-gains_so t u A keys a gains k = (
-  (λ it. ⊎_elim (λ old. inl old) (λ p. inr p.1) ((gains k).0 it)),
-  (λ s. (gains k).1 (⊎_elim (λ old. inl old) (λ is. inr (a, is)) s)),
-)
+gains_so t u A keys a gains k = grind arith
 
 -- ---- targets
 
@@ -68,15 +61,12 @@ module _ (replica : Replica) (e : Event) (targets : BTreeSet ℕ) where
   pub refusal_targets_none : (by base : ℕ) (said : Bool) → e ≡ Decide by base said → said ≡ false
       → RemembersTarget replica e targets targets
   refusal_targets_none by base said is so pairs words log law mirrors known =
-      at_event pairs words log (λ l. KnowsTargets targets (state_of pairs words l)) e
-      (Decide by base false) (is ∙ ap (Decide by base) so) law
-      (λ lawful. targets_refused pairs words log by base lawful targets known)
+      grind (arith, at_event, targets_refused)
 
   -- an event other than a Decide adds no target
   pub others_target_none : ((c b : ℕ) (x : Bool) → e ≢ Decide c b x)
       → RemembersTarget replica e targets targets
-  others_target_none no_decide pairs words log law mirrors known =
-      targets_kept pairs words log e no_decide law targets known
+  others_target_none no_decide pairs words log law mirrors known = grind (arith, targets_kept)
 
 -- ---- building lists
 
@@ -108,8 +98,7 @@ module _ (replica : Replica) (e : Event) (targets : BTreeSet ℕ) (old new : Bui
   finish_lists by node keys is has adds pairs words log law mirrors of known =
       at_event pairs words log (λ l. KnowsLists new (state_of pairs words l)) e
       (Finish by node keys) is law
-      (λ lawful.
-      adds (state_of pairs words log) (state_of pairs words (Finish by node keys ∷ log))
+      (λ lawful. adds (state_of pairs words log) (state_of pairs words (Finish by node keys ∷ log))
       (gains_so _ _ _ keys ((of node).0 has)
       (keys_finished pairs words log by node keys lawful)) known)
 

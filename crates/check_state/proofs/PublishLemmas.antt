@@ -1,10 +1,10 @@
 -- Words read as rows, as the code takes them apart. Serves `publishing.rt`.
-use Rattle.std.proofs.Common.{◌≡◌, ◌∙◌, ◌≤◌, ◌-◌, ℕ, min, List, [], ◌∷◌, length, take, drop, get_or, Option, Some, refl, sym, ap, subst, arith, ◌≢◌, ◌<◌, ◌⊎◌, ◌==◌, if◌then◌else◌, true, false, inl, inr, Bool}
+use Rattle.std.proofs.Common.{◌≡◌, ◌∙◌, ◌≤◌, ◌-◌, ℕ, min, List, [], ◌∷◌, length, take, drop, get_or, Option, Some, refl, sym, ap, arith, ◌≢◌, ◌<◌, ◌==◌, if◌then◌else◌}
 use Rattle.std.proofs.lemmas.List.{take_min}
 use Rattle.ist_core.specs.declared.lists.Row.{Row}
 use Rattle.ist_core.specs.declared.states.ChangeRow.{ChangeRow}
 use Rattle.ist_core.specs.WordTerms.{Piece, Leaf, Inner, Rebuild, leaf_of, inner_of, rebuild_of, with_row, with_inners, ChangeAt, word_of, start_kind, Change, change_of, anchor}
-use Rattle.ist_core.specs.LogTerms.{Snapshot, with_slot_at, with_fresh, with_change, installed}
+use Rattle.ist_core.specs.LogTerms.{Snapshot, with_slot_at, with_fresh, installed}
 use Rattle.check_events.specs.declared.replicas.Replica.{Replica}
 use Rattle.check_events.specs.Mirroring.{Mirrors}
 use Rattle.check_fairness.proofs.AnswerLemmas.{following, split_first}
@@ -15,8 +15,7 @@ use Rattle.std.proofs.lemmas.Bool.Decides.{eqb_tells}
 pub mirrors_row : (r : Replica) (t : Snapshot) (base : ℕ) (a b : Option Piece) → a ≡ b
     → Mirrors r (record t { pieces = with_row t.pieces base a })
     → Mirrors r (record t { pieces = with_row t.pieces base b })
-mirrors_row r t base a b e h = subst
-    (λ o. Mirrors r (record t { pieces = with_row t.pieces base o })) e h
+mirrors_row r t base a b e h = grind arith
 
 -- two words are a leaf's words
 pub two_words : (ws : List ℕ) → length ws ≡ 2
@@ -81,33 +80,19 @@ pub first_published : (r : Replica) (t : Snapshot) (rows : List Row) (row : Row)
       pieces = with_row (with_inners t.pieces (following rows)) row.base (inner_of row.words);
     })
     → Mirrors r (record t { pieces = with_inners t.pieces rows })
-first_published r t rows row n at h = subst
-    (λ rs. Mirrors r (record t { pieces = with_inners t.pieces rs }))
-    (sym (split_first rows row n at)) h
+first_published r t rows row n at h = grind (arith, split_first)
 
 -- ---- what an Install publishes, as the code takes its rows apart. Serves `installing.rt`.
 
 -- a test that holds chooses the first, and one that fails the second
 pub start_chosen : {A : Type 0} (kind : ℕ) (a b : A) → kind ≡ start_kind → a
     ≡ (if kind == start_kind then a else b)
-start_chosen kind a b e = at (eqb_tells kind start_kind)
-  where
-    at : (((kind == start_kind) ≡ true) × (kind ≡ start_kind)) ⊎ (((kind == start_kind) ≡ false)
-        × (kind ≢ start_kind))
-        → a ≡ (if kind == start_kind then a else b)
-    at (inl k) = ap (λ v. if v then a else b) (sym k.0)
-    at (inr k) = absurd (k.1 e)
+start_chosen kind a b e = grind (arith, eqb_tells)
 
 -- for another kind than a start, the second value is chosen
 pub other_chosen : {A : Type 0} (kind : ℕ) (a b : A) → kind ≢ start_kind → b
     ≡ (if kind == start_kind then a else b)
-other_chosen kind a b ne = at (eqb_tells kind start_kind)
-  where
-    at : (((kind == start_kind) ≡ true) × (kind ≡ start_kind)) ⊎ (((kind == start_kind) ≡ false)
-        × (kind ≢ start_kind))
-        → b ≡ (if kind == start_kind then a else b)
-    at (inl k) = absurd (ne k.1)
-    at (inr k) = ap (λ v. if v then a else b) (sym k.0)
+other_chosen kind a b ne = grind (arith, eqb_tells)
 
 -- one row, and two
 pub one_row : (rows : List Row) (row : Row) → 1 ≤ length rows → length rows < 2 → row ≡ get_or rows
@@ -132,12 +117,7 @@ module _ (r : Replica) (t : Snapshot) (change : ChangeRow) where
             (if kind == start_kind then rebuild_of row.words else leaf_of row.words);
       })
       → Mirrors r (record t { pieces = with_fresh t.pieces change rows })
-  one_fresh rows row kind is same h =
-      subst (λ rs. Mirrors r (record t { pieces = with_fresh t.pieces change rs })) (sym is)
-      (subst (λ k. Mirrors r (record t {
-        pieces = with_row t.pieces row.base
-            (if k == start_kind then rebuild_of row.words else leaf_of row.words);
-      })) (sym same) h)
+  one_fresh rows row kind is same h = grind arith
 
   -- with two
   pub two_fresh : (rows : List Row) (pair leaf : Row) → rows ≡ pair ∷ leaf ∷ []
@@ -146,8 +126,7 @@ module _ (r : Replica) (t : Snapshot) (change : ChangeRow) where
             pair.base (inner_of pair.words);
       })
       → Mirrors r (record t { pieces = with_fresh t.pieces change rows })
-  two_fresh rows pair leaf is h = subst
-      (λ rs. Mirrors r (record t { pieces = with_fresh t.pieces change rs })) (sym is) h
+  two_fresh rows pair leaf is h = grind arith
 
 -- the rows of an Install, published
 pub install_is : (r : Replica) (t : Snapshot) (base : ℕ) (rows : List Row) (row : Row)
@@ -157,9 +136,7 @@ pub install_is : (r : Replica) (t : Snapshot) (base : ℕ) (rows : List Row) (ro
       pieces = with_row (with_fresh t.pieces change (following rows)) base (Some (Change change));
     }) change.node change.index (word_of (ChangeAt base)))
     → Mirrors r (installed t base rows)
-install_is r t base rows row change n at is h =
-    subst (λ rs. Mirrors r (installed t base rs)) (sym (split_first rows row n at))
-    (subst (λ o. Mirrors r (with_change t base (following rows) o)) is h)
+install_is r t base rows row change n at is h = grind (arith, split_first, following)
 
 -- ---- what a replica says after a single write. Serves `writes.rt`.
 
@@ -170,39 +147,9 @@ anchored t node word = record t { anchor = if node == anchor then word else t.an
 -- writing the anchor's word keeps the replica right
 pub anchor_written : (r s : Replica) (t : Snapshot) (node word : ℕ) → Mirrors r t → node ≡ anchor
     → s ≡ record r { anchor = word } → Mirrors s (anchored t node word)
-anchor_written r s t node word h here is = subst (λ x. Mirrors x (anchored t node word)) (sym is)
-    record {
-      words = h.words;
-      next = h.next;
-      callers = h.callers;
-      anchor = subst (λ n. word ≡ (if n == anchor then word else t.anchor)) (sym here)
-          (let same : word ≡ word = cc in same);
-      leaves = h.leaves;
-      inners = h.inners;
-      changes = h.changes;
-      rebuilds = h.rebuilds;
-      held = h.held;
-    }
+anchor_written r s t node word h here is = grind arith
 
 -- a write at another node leaves the anchor's word, and the replica right
 pub anchor_kept : (r s : Replica) (t : Snapshot) (node word : ℕ) → Mirrors r t → node ≢ anchor
     → s ≡ r → Mirrors s (anchored t node word)
-anchor_kept r s t node word h away is = subst (λ x. Mirrors x (anchored t node word)) (sym is)
-    record {
-      words = h.words;
-      next = h.next;
-      callers = h.callers;
-      anchor = h.anchor ∙ at (node == anchor) (eqb_tells node anchor);
-      leaves = h.leaves;
-      inners = h.inners;
-      changes = h.changes;
-      rebuilds = h.rebuilds;
-      held = h.held;
-    }
-  where
-    at : (v : Bool) → (((node == anchor) ≡ true) × (node ≡ anchor)) ⊎ (((node == anchor) ≡ false)
-        × (node ≢ anchor))
-        → t.anchor ≡ (if node == anchor then word else t.anchor)
-    at v (inl k) = absurd (away k.1)
-    at v (inr k) = subst (λ b. t.anchor ≡ (if b then word else t.anchor)) (sym k.0)
-        (let same : t.anchor ≡ t.anchor = cc in same)
+anchor_kept r s t node word h away is = grind (arith, eqb_tells)

@@ -1,10 +1,10 @@
 -- The set of started rebuilds after an event: only a Decide adds one. Serves `starting.rt`.
-use Rattle.std.proofs.Common.{◌≡◌, ◌≢◌, ◌∙◌, ◌⊎◌, ◌↔◌, ℕ, Bool, true, false, List, ◌∷◌, option_map, refl, sym, ap, inl, inr, ⊎_elim, arith, ◌<◌, ◌^◌}
+use Rattle.std.proofs.Common.{◌≡◌, ◌≢◌, ◌∙◌, ◌⊎◌, ◌↔◌, ℕ, Bool, true, false, List, ◌∷◌, option_map, refl, ap, inl, inr, ⊎_elim, arith, ◌<◌, ◌^◌}
 use Rattle.std.specs.BTreeSet.{BTreeSet}
 use Rattle.ist_core.specs.declared.pairs.Pair.{Pair}
 use Rattle.ist_core.specs.declared.events.Event.{Event}
 use Rattle.ist_core.specs.declared.events.Event.TheVariants.{Decide}
-use Rattle.ist_core.specs.WordTerms.{ref_of, decided_yes, with_decision, start, decided_no}
+use Rattle.ist_core.specs.WordTerms.{decided_yes, with_decision, start, decided_no}
 use Rattle.ist_core.specs.LogTerms.{decision_word, Log, Lawful, EachEnabled, state_of}
 use Rattle.ist_core.specs.TreeTerms.{IsStarted, AllGrow}
 use Rattle.ist_core.proofs.AllWordLemmas.{changed_at-same}
@@ -44,15 +44,7 @@ module _ (pairs : List Pair) (words : ℕ) (log : Log) where
       → Lawful pairs words (event ∷ log) → (rebuild : ℕ)
       → IsStarted (state_of pairs words (event ∷ log)) rebuild
       → IsStarted (state_of pairs words log) rebuild
-  started_before event other law rebuild it = record {
-    base = it.base;
-    change = it.change;
-    published = came_step (start pairs words) log event law.enabled.1 (is_sound law.enabled.0)
-        other it.base it.change it.published (λ e. let yes = it.decision in omega arith);
-    kind = it.kind;
-    decision = it.decision;
-    to = it.to;
-  }
+  started_before event other law rebuild it = grind (arith, came_step, is_sound)
 
   -- if each started rebuild was started before, the table stays right
   starts_stay : (event : Event) → Lawful pairs words (event ∷ log) → (started : BTreeSet ℕ)
@@ -60,10 +52,7 @@ module _ (pairs : List Pair) (words : ℕ) (log : Log) where
       → IsStarted (state_of pairs words log) rebuild)
       → KnowsStarts started (state_of pairs words log) → KnowsStarts started
       (state_of pairs words (event ∷ log))
-  starts_stay event law started before known rebuild = (
-    (λ h. start_stays event law rebuild ((known rebuild).0 h)),
-    (λ it. (known rebuild).1 (before rebuild it)),
-  )
+  starts_stay event law started before known rebuild = grind (arith, start_stays, known)
 
   -- after an event other than a Decide the set of started rebuilds stays right
   pub starts_kept : (event : Event) → ((c b : ℕ) (x : Bool) → event ≢ Decide c b x) → Lawful pairs
@@ -79,35 +68,14 @@ module _ (pairs : List Pair) (words : ℕ) (log : Log) where
       → IsStarted (state_of pairs words (Decide caller base said ∷ log)) rebuild
       → IsStarted (state_of pairs words log) rebuild ⊎ ((decision_word said ≡ decided_yes)
       × StartsRebuild (state_of pairs words log) base rebuild)
-  started_newly caller base said law rebuild it = let h = law.enabled.1 in ⊎_elim
-      (λ old. inl record {
-        base = it.base;
-        change = it.change;
-        published = old;
-        kind = it.kind;
-        decision = it.decision;
-        to = it.to;
-      })
-      (λ now. let same = now.1 in
-      inr (
-        ap (λ r. r.decision) (sym same) ∙ it.decision,
-        record {
-          change = h.change;
-          published = h.pending.published;
-          kind = ap (λ r. r.kind) (sym same) ∙ it.kind;
-          to = ap (λ r. ref_of r.to) (sym same) ∙ it.to;
-        },
-      ))
-      (came_decided (start pairs words) log caller base said h it.base it.change it.published)
+  started_newly caller base said law rebuild it = grind (arith, came_decided)
 
   -- after a no the set of started rebuilds stays right
   pub starts_refused : (caller base : ℕ)
       → (law : Lawful pairs words (Decide caller base false ∷ log)) → (started : BTreeSet ℕ)
       → KnowsStarts started (state_of pairs words log) → KnowsStarts started
       (state_of pairs words (Decide caller base false ∷ log))
-  starts_refused caller base law started known = starts_stay (Decide caller base false) law started
-      (λ rebuild it. ⊎_elim (λ old. old) (λ now. let no = now.0 in absurd (omega arith))
-      (started_newly caller base false law rebuild it)) known
+  starts_refused caller base law started known = grind (arith, starts_stay, started_newly, known)
 
   -- a rebuild that the change starts is started after its yes
   pub start_begun : (caller base rebuild : ℕ) → StartsRebuild (state_of pairs words log) base
@@ -160,10 +128,8 @@ module _ (pairs : List Pair) (words : ℕ) (log : Log) where
       → HasRefusal (state_of pairs words log) caller node)
       → KnowsRefusals refused (state_of pairs words log) → KnowsRefusals refused
       (state_of pairs words (event ∷ log))
-  refusals_stay event law refused before known caller node fits fits_too = (
-    (λ h. refusal_stays event law caller node ((known caller node fits fits_too).0 h)),
-    (λ it. (known caller node fits fits_too).1 (before caller node it)),
-  )
+  refusals_stay event law refused before known caller node fits fits_too =
+      grind (arith, refusal_stays, known)
 
   -- after an event other than a Decide the set of refusals stays right
   pub refusals_kept : (event : Event) → ((c b : ℕ) (x : Bool) → event ≢ Decide c b x) → Lawful pairs
@@ -189,35 +155,14 @@ module _ (pairs : List Pair) (words : ℕ) (log : Log) where
       → HasRefusal (state_of pairs words (Decide by base said ∷ log)) caller node
       → HasRefusal (state_of pairs words log) caller node ⊎ ((decision_word said ≡ decided_no)
       × Refuses (state_of pairs words log) base caller node)
-  newly by base said law caller node it = let h = law.enabled.1 in ⊎_elim
-      (λ old. inl record {
-        base = it.base;
-        change = it.change;
-        published = old;
-        owned = it.owned;
-        on = it.on;
-        refused = it.refused;
-      })
-      (λ now. let same = now.1 in
-      inr (
-        ap (λ r. r.decision) (sym same) ∙ it.refused,
-        record {
-          change = h.change;
-          published = h.pending.published;
-          owned = ap (λ r. r.owner) (sym same) ∙ it.owned;
-          on = ap (λ r. r.node) (sym same) ∙ it.on;
-        },
-      ))
-      (came_decided (start pairs words) log by base said h it.base it.change it.published)
+  newly by base said law caller node it = grind (arith, came_decided)
 
   -- after a yes the set of refusals stays right
   pub refusals_accepted : (by base : ℕ) → (law : Lawful pairs words (Decide by base true ∷ log))
       → (refused : BTreeSet ℕ)
       → KnowsRefusals refused (state_of pairs words log) → KnowsRefusals refused
       (state_of pairs words (Decide by base true ∷ log))
-  refusals_accepted by base law refused known = refusals_stay (Decide by base true) law refused
-      (λ caller node it. ⊎_elim (λ old. old) (λ now. let yes = now.0 in absurd (omega arith))
-      (newly by base true law caller node it)) known
+  refusals_accepted by base law refused known = grind (arith, refusals_stay, newly, known)
 
   -- with the refusal of the change the set is right after its no
   pub refusals_more : (by base : ℕ) → (law : Lawful pairs words (Decide by base false ∷ log))

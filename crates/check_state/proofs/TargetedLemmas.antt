@@ -1,6 +1,6 @@
 -- The targets of started rebuilds, and the numbers of keys with which they are finished, after an
 -- event. Serves `targeting.rt`.
-use Rattle.std.proofs.Common.{◌≡◌, ◌≢◌, ◌↔◌, ◌⊎◌, ◌∷◌, ℕ, Bool, true, false, List, sym, subst, inl, inr, ⊎_elim, arith}
+use Rattle.std.proofs.Common.{◌≡◌, ◌≢◌, ◌↔◌, ◌⊎◌, ◌∷◌, ℕ, Bool, true, false, List, sym, subst, inl, ⊎_elim, arith}
 use Rattle.std.specs.BTreeSet.{BTreeSet}
 use Rattle.ist_core.specs.declared.pairs.Pair.{Pair}
 use Rattle.ist_core.specs.declared.events.Event.{Event}
@@ -60,8 +60,7 @@ module _ (pairs : List Pair) (words : ℕ) where
     -- a row that is finished was so, or is so by the event
     row_before : (node k : ℕ) → IsFinishedWith (table (event ∷ log)) node k
         → IsFinishedWith (table log) node k ⊎ FinishesNode node k event
-    row_before node k f = finished_before (start pairs words) log node k event law.enabled.1
-        (is_sound pairs words log law.enabled.0) f
+    row_before node k f = grind (arith, finished_before, is_sound)
 
     -- if each started rebuild was started before, the targets stay
     targets_stay : ((rebuild : ℕ) → IsStarted (table (event ∷ log)) rebuild
@@ -111,16 +110,13 @@ module _ (pairs : List Pair) (words : ℕ) where
     unstarted : (caller base : ℕ) → (law : Lawful pairs words (Decide caller base false ∷ log))
         → (rebuild : ℕ) → IsStarted (table (Decide caller base false ∷ log)) rebuild
         → IsStarted (table log) rebuild
-    unstarted caller base law rebuild it =
-        ⊎_elim (λ old. old) (λ now. let no = now.0 in absurd (omega arith))
-        (started_newly pairs words log caller base false law rebuild it)
+    unstarted caller base law rebuild it = grind (arith, started_newly)
 
     -- after a no the set of targets stays right
     pub targets_refused : (caller base : ℕ) → Lawful pairs words (Decide caller base false ∷ log)
         → (targets : BTreeSet ℕ) → KnowsTargets targets (table log)
         → KnowsTargets targets (table (Decide caller base false ∷ log))
-    targets_refused caller base law targets known =
-        targets_stay log (Decide caller base false) law (unstarted caller base law) targets known
+    targets_refused caller base law targets known = grind (arith, unstarted)
 
     -- a no gains no number of keys
     pub keys_refused : (caller base : ℕ) → Lawful pairs words (Decide caller base false ∷ log)
@@ -138,14 +134,7 @@ module _ (pairs : List Pair) (words : ℕ) where
       targeted_newly : (node rebuild : ℕ) → HasTarget (table following) rebuild node
           → IsStarted (table following) rebuild
           → IsTargeted (table log) node ⊎ StartCalls (table log) base node
-      targeted_newly node rebuild of begun = ⊎_elim
-          (λ old. inl (targeted_before log (Decide caller base true) law node rebuild of old))
-          (λ now. inr record {
-            rebuild = rebuild;
-            starts = now.1;
-            of = started_of pairs words log (Decide caller base true) law node base rebuild now.1 of;
-          })
-          (started_newly pairs words log caller base true law rebuild begun)
+      targeted_newly node rebuild of begun = grind (arith, started_of, started_newly)
 
       -- the target of what the change starts is one after its yes
       targeted_now : (node : ℕ) → StartCalls (table log) base node → IsTargeted (table following) node
@@ -160,28 +149,12 @@ module _ (pairs : List Pair) (words : ℕ) where
       pub targets_more : (old new : BTreeSet ℕ)
           → ((node : ℕ) → Holds new node ↔ (Holds old node ⊎ StartCalls (table log) base node))
           → KnowsTargets old (table log) → KnowsTargets new (table following)
-      targets_more old new more known node = (
-        (λ h. ⊎_elim
-            (λ k. targeted_stays log (Decide caller base true) law node ((known node).0 k))
-            (targeted_now node) ((more node).0 h)),
-        (λ it. (more node).1
-            (⊎_elim (λ k. inl ((known node).1 k)) (λ k. inr k)
-            (targeted_newly node it.rebuild it.of it.started))),
-      )
+      targets_more old new more known node = grind (arith, targeted_now, targeted_newly)
 
       -- a finished target was one before, or is the target of the rebuild that the change starts
       keys_newly : (k : ℕ) → HasFinishedTarget (table following) k
           → HasFinishedTarget (table log) k ⊎ StartsFinished (table log) base k
-      keys_newly k it =
-          let row = ⊎_elim (λ old. old) (λ now. absurd now)
-          (row_before log (Decide caller base true) law it.node k it.finished) in
-          ⊎_elim (λ old. inl record { node = it.node; targeted = old; finished = row })
-          (λ now. inr record {
-            rebuild = now.rebuild;
-            starts = now.starts;
-            finished = record { target = it.node; of = now.of; finished = row };
-          })
-          (targeted_newly it.node it.targeted.rebuild it.targeted.of it.targeted.started)
+      keys_newly k it = grind (arith, targeted_newly)
 
       -- a yes gains the numbers of keys of what the change starts
       pub keys_started : GainsKeys (table log) (table following) (StartsFinished (table log) base)
@@ -210,14 +183,7 @@ module _ (pairs : List Pair) (words : ℕ) where
       -- a finished target was one before, or is the row that is finished now
       keys_done : (k : ℕ) → HasFinishedTarget (table done) k
           → HasFinishedTarget (table log) k ⊎ (IsTargeted (table log) node × (k ≡ keys))
-      keys_done k it =
-          let begun = started_before pairs words log (Finish caller node keys)
-          (λ c b x e. cc) law it.targeted.rebuild it.targeted.started in
-          let old = targeted_before log (Finish caller node keys) law it.node it.targeted.rebuild
-          it.targeted.of begun in
-          ⊎_elim (λ f. inl record { node = it.node; targeted = old; finished = f })
-          (λ now. inr (subst (IsTargeted (table log)) (sym now.0) old, sym now.1))
-          (row_before log (Finish caller node keys) law it.node k it.finished)
+      keys_done k it = grind (arith, started_before)
 
       -- a Finish gains its number of keys, if it finishes a target
       pub keys_finished : GainsKeys (table log) (table done)

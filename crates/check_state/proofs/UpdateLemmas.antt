@@ -1,5 +1,5 @@
 -- The last put or remove of a caller that was decided yes, after an event. Serves `updating.rt`.
-use Rattle.std.proofs.Common.{◌≡◌, ◌≢◌, ◌↔◌, ℕ, Bool, true, false, List, [], ◌∷◌, ◌++◌, Option, refl, sym, ap, subst, inl, inr, ⊎_elim}
+use Rattle.std.proofs.Common.{◌≡◌, ◌≢◌, ◌↔◌, ℕ, Bool, true, false, List, [], ◌∷◌, ◌++◌, Option, refl, sym, ap, subst, inl, inr, ⊎_elim, arith}
 use Rattle.std.specs.Ordering.{nat_cmp}
 use Rattle.std.specs.BTreeMap as tree
 use Rattle.std.specs.BTreeMap.{BTreeMap}
@@ -33,8 +33,7 @@ module _ (pairs : List Pair) (words : ℕ) where
   -- a change that is decided now is published
   decided_now : (log : Log) (event : Event) → Ran (event ∷ log) → (base : ℕ) (said : Bool)
       → Decides base said event → ChangeHere (table log).pieces base
-  decided_now log (Decide caller b s) h base said same =
-      subst (ChangeHere (table log).pieces) same.0 (h.1.change, h.1.pending.published)
+  decided_now log (Decide caller b s) h base said same = grind (arith, ChangeHere)
   decided_now log event h base said none = absurd none
 
   -- a change that was decided is published
@@ -73,8 +72,7 @@ module _ (pairs : List Pair) (words : ℕ) where
               → ¬ (Happened (SaysYes (table (event ∷ log)) caller) later)
               → ¬ (Happened (Counts caller node) later)
               → IsUncounted (table log) log caller node base × ¬ (Counts caller node event)
-          at [] is last uncounted = let same : event ≡ Decide it.by base true = cc in
-              absurd (none (subst (SaysYes (table (event ∷ log)) caller) (sym same) it.update))
+          at [] is last uncounted = grind arith
           at (first ∷ later) is last uncounted = let same : event ≡ first = cc in
               let rest : log ≡ later ++ Decide it.by base true ∷ it.earlier = cc in
               let said = Decides base true in

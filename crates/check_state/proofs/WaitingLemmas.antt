@@ -1,6 +1,6 @@
 -- Rows that wait to be remembered: what was remembered so far, with what hangs by those, is what hangs by the first.
 -- Serves `linking.rt`.
-use Rattle.std.proofs.Common.{◌≡◌, ◌↔◌, ◌∙◌, ◌<◌, ◌+◌, ◌-◌, ◌⊎◌, ℕ, take, List, [], ◌∷◌, ◌++◌, length, slice_get, Some, None, refl, sym, ap, subst, inl, inr, ⊎_elim, arith}
+use Rattle.std.proofs.Common.{◌≡◌, ◌↔◌, ◌<◌, ◌+◌, ◌-◌, ◌⊎◌, ℕ, take, List, [], ◌∷◌, ◌++◌, length, slice_get, Some, None, refl, sym, subst, inl, inr, ⊎_elim, arith}
 use Rattle.std.proofs.lemmas.List.{append-nil}
 use Rattle.std.specs.Ordering.{nat_cmp}
 use Rattle.std.specs.BTreeMap as tree
@@ -51,8 +51,7 @@ module _ (t : Snapshot) where
 
       below : {under j x : ℕ} (l : Link) → l ≡ link → Hangs t l.node l.index under j x
           → Hangs t node i under j x
-      below {under = under} {j = j} {x = x} l e h =
-          subst (λ y. Hangs t y.node y.index under j x) e h
+      below {under = under} {j = j} {x = x} l e h = grind arith
 
   -- with nothing waiting all is remembered
   pub noted_all : (old now : BTreeMap ℕ Slot) (node i : ℕ) (waiting : List Link) → waiting ≡ []
@@ -136,46 +135,13 @@ module _ (t : Snapshot) where
       → ((l : Link) → Among l mid ↔ (Among l old ⊎ HangsBefore node k l))
       → PutsLink t node k word mid new
       → (l : Link) → Among l new ↔ (Among l old ⊎ HangsBefore node (k + 1) l)
-  puts_one node k word row old mid new free e g before puts l = (
-    (λ a. ⊎_elim
-        (λ m. ⊎_elim (λ o. inl o)
-        (λ h. let low = h.1 in inr (h.0, omega arith, h.2)) ((before l).0 m))
-        (λ p. let at = p.1 in
-        inr (
-          p.0,
-          omega arith,
-          subst (λ i. IsChild t node i l.child) (sym p.1)
-              ((child_by_word t free node k word l.child row e g).1 p.2),
-        ))
-        ((puts l).0 a)),
-    (λ h. ⊎_elim (λ o. (puts l).1 (inl ((before l).1 (inl o))))
-        (λ b. ⊎_elim
-        (λ low. (puts l).1 (inl ((before l).1 (inr (b.0, low, b.2)))))
-        (λ at. (puts l).1 (inr (
-          b.0,
-          at,
-          (child_by_word t free node k word l.child row e g).0
-              (subst (λ i. IsChild t node i l.child) at b.2),
-        )))
-        (split l.index b.1)) h),
-  )
-    where
-      split : (i : ℕ) → i < k + 1 → (i < k) ⊎ (i ≡ k)
-      split i h = grind arith
+  puts_one node k word row old mid new free e g before puts l = grind (arith, child_by_word)
 
   -- before the end of the slots is anywhere
   pub puts_all : (node : ℕ) (row : InnerRow) (old new : List Link) (n : ℕ) → n ≡ length row.slots
       → t.pieces anchor ≡ None → t.pieces node ≡ Some (Inner row)
       → ((l : Link) → Among l new ↔ (Among l old ⊎ HangsBefore node n l)) → PutsLinks t node old new
-  puts_all node row old new n end free e all l = (
-    (λ a. ⊎_elim (λ o. inl o) (λ h. inr (h.0, h.2)) ((all l).0 a)),
-    (λ h. ⊎_elim (λ o. (all l).1 (inl o))
-        (λ c. (all l).1 (inr (c.0, within l c.1, c.1))) h),
-  )
-    where
-      within : (l : Link) → IsChild t node l.index l.child → l.index < n
-      within l c = let w = child_within t free node l.index l.child row e c in
-          let less = get_below row.slots l.index w.0 w.1 in omega arith
+  puts_all node row old new n end free e all l = grind (arith, child_within, get_below)
 
   -- one more row waits
   pub puts_link : (node i word child : ℕ) (old new : List Link)
@@ -195,11 +161,7 @@ module _ (t : Snapshot) where
 
       at : (l : Link) → l ≡ link
           → (l.node ≡ node) × (l.index ≡ i) × (logical t.pieces word ≡ Some (InnerAt l.child))
-      at l e = (
-        ap (λ x. x.node) e,
-        ap (λ x. x.index) e,
-        reads ∙ ap (λ x. Some (InnerAt x)) (sym (ap (λ x. x.child) e)),
-      )
+      at l e = grind arith
 
       same : (l : Link) → l.node ≡ node → l.index ≡ i → l.child ≡ child → l ≡ link
       same l a b c = λ k. record { node = a k; index = b k; child = c k }
@@ -208,11 +170,9 @@ module _ (t : Snapshot) where
   pub puts_no_link : (node i word : ℕ) (old : List Link)
       → ((child : ℕ) → ¬ (logical t.pieces word ≡ Some (InnerAt child)))
       → PutsLink t node i word old old
-  puts_no_link node i word old none l =
-      ((λ a. inl a), (λ h. ⊎_elim (λ o. o) (λ p. absurd (none l.child p.2)) h))
+  puts_no_link node i word old none l = grind arith
 
 -- if no row waits, none is next
 pub nothing_waits : (waiting rest : List Link) (n : ℕ) → waiting ≡ rest ++ [] → rest ≡ take (n - 1) waiting
     → n ≡ 0 → waiting ≡ []
-nothing_waits waiting rest n is taken none = let first : n - 1 ≡ 0 = omega arith in
-    is ∙ append-nil rest ∙ taken ∙ ap (λ k. take k waiting) first
+nothing_waits waiting rest n is taken none = grind (arith, append-nil)

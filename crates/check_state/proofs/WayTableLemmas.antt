@@ -1,6 +1,6 @@
 -- The ways that a table has stay right after a longer log; and which keys lead to one child of a
 -- node. Serves `ways.rt`.
-use Rattle.std.proofs.Common.{◌≡◌, ◌↔◌, ◌≢◌, ◌∙◌, ◌⊎◌, ◌≤◌, ◌<◌, ◌+◌, ◌-◌, ◌^◌, ℕ, List, ◌∷◌, length, get_or, Some, None, sym, ap, subst, inl, inr, ⊎_elim, arith, true, false, eqb, Option}
+use Rattle.std.proofs.Common.{◌≡◌, ◌↔◌, ◌≢◌, ◌∙◌, ◌⊎◌, ◌≤◌, ◌<◌, ◌+◌, ◌-◌, ◌^◌, ℕ, List, ◌∷◌, length, get_or, Some, sym, ap, subst, inl, inr, ⊎_elim, arith, true, false, eqb, Option}
 use Rattle.std.proofs.lemmas.Grind.{common_steps}
 use Rattle.std.specs.Ordering.{nat_cmp}
 use Rattle.std.specs.BTreeMap.{BTreeMap}
@@ -8,7 +8,7 @@ use Rattle.std.specs.List.Sorted.{IsStrictlyIncreasing}
 use Rattle.ist_core.specs.declared.events.Event.{Event}
 use Rattle.ist_core.specs.declared.states.ChangeRow.{ChangeRow}
 use Rattle.ist_core.specs.declared.pairs.Pair.{Pair}
-use Rattle.ist_core.specs.WordTerms.{child_count, Change, Inner, start}
+use Rattle.ist_core.specs.WordTerms.{child_count, Change, start}
 use Rattle.ist_core.specs.LogTerms.{Snapshot, Log, Lawful}
 use Rattle.ist_core.specs.TreeTerms.{Linked, Leads, WasLinked, WasLedTo, IsUpdate, IsUpdateOf}
 use Rattle.ist_core.proofs.AllPlaceLemmas.{child_count_tells}
@@ -61,10 +61,7 @@ same_or_not a b = grind arith
 -- an empty table has no way
 pub no_ways : (first : Snapshot) (log : Log) (empty : BTreeMap ℕ RowWay) → tree.IsEmpty empty
     → KnowsWays empty first log
-no_ways first log empty none node way e = absurd (cc (empty_map empty none node))
-  where
-    empty_map : (m : BTreeMap ℕ RowWay) → tree.IsEmpty m → (n : ℕ) → tree.get nat_cmp m n ≡ None
-    empty_map m h n = grind (arith, common_steps)
+no_ways first log empty none node way e = grind (arith, common_steps)
 
 -- one more way in the table
 pub way_added : (first : Snapshot) (log : Log) (old new : BTreeMap ℕ RowWay) (row : ℕ) (way : RowWay)
@@ -149,16 +146,7 @@ entry updates caller = tree.get nat_cmp updates caller
 -- a set with one more number holds it, and what it held
 pub inserted_more : (old new : BTreeSet ℕ) (k : ℕ) → set.Updates nat_cmp old new k true → (x : ℕ)
     → Holds new x ↔ (Holds old x ⊎ (x ≡ k))
-inserted_more old new k u x = at (eqb_tells x k)
-  where
-    at : SameOrNot x k → Holds new x ↔ (Holds old x ⊎ (x ≡ k))
-    at (inl e) = ((λ _. inr e.1), (λ _. subst (λ y. Holds new y) (sym e.1) u.1))
-    at (inr f) =
-        let same : set.contains nat_cmp new x ≡ set.contains nat_cmp old x =
-        grind (arith, common_steps, u.0 x, f.1) in (
-          (λ h. inl (sym same ∙ h)),
-          (λ h. ⊎_elim (λ o. same ∙ o) (λ e. absurd (f.1 e)) h),
-        )
+inserted_more old new k u x = grind (arith, eqb_tells, common_steps)
 
 -- ---- a yes
 
@@ -171,8 +159,7 @@ module _ (t : Snapshot) (change : ℕ) (row : ChangeRow) (e : t.pieces change �
   where
     -- a published change is an update of its owner only
     owner_is : (caller : ℕ) → IsUpdateOf t caller change → caller ≡ row.owner
-    owner_is caller it =
-        sym it.owned ∙ ap (λ r. r.owner) (same_change (t.pieces change) it.change row it.published e)
+    owner_is caller it = grind (arith, same_change)
 
     -- if a new entry is put under the owner of a put or remove, the entries are as a yes makes them
     pub renewed : (old new : BTreeMap ℕ LastUpdate) (last : LastUpdate) → IsUpdate row.kind
@@ -199,16 +186,7 @@ module _ (caller node : ℕ) where
   entry_counted : (other : ℕ) (last next : LastUpdate) → caller ≡ other → next.change ≡ last.change
       → ((x : ℕ) → Holds next.counted x ↔ (Holds last.counted x ⊎ (x ≡ node)))
       → CountsIn caller node other (Some last) (Some next)
-  entry_counted other last next same change more at base = (
-    (λ l. (
-      (sym change ∙ l.0, λ a. l.1 ((more at).1 (inl a))),
-      (λ both. l.1 ((more at).1 (inr (sym both.1)))),
-    )),
-    (λ k. (
-      change ∙ k.0.0,
-      λ a. ⊎_elim k.0.1 (λ e. k.1 (same, sym e)) ((more at).0 a),
-    )),
-  )
+  entry_counted other last next same change more at base = grind arith
 
   -- an entry of another stays
   entry_kept : (other : ℕ) → caller ≢ other → (o : Option LastUpdate) → CountsIn caller node other o
@@ -224,12 +202,7 @@ module _ (caller node : ℕ) where
   counted_in old new last next had change more u other = at (eqb_tells other caller)
     where
       at : SameOrNot other caller → CountsIn caller node other (entry old other) (entry new other)
-      at (inl k) = let before : entry old other ≡ Some last = ap (entry old) k.1 ∙ had in
-          let now : entry new other ≡ Some next =
-          ap (entry new) k.1 ∙ updated_here old new caller next u in
-          subst (λ o. CountsIn caller node other o (entry new other)) (sym before)
-          (subst (λ o. CountsIn caller node other (Some last) o) (sym now)
-          (entry_counted other last next (sym k.1) change more))
+      at (inl k) = grind (arith, updated_here, entry_counted)
       at (inr k) = let stays = updated_other old new caller next u other k.1 in
           subst (λ o. CountsIn caller node other (entry old other) o) (sym stays)
           (entry_kept other (λ e. k.1 (sym e)) (entry old other))
@@ -239,7 +212,4 @@ module _ (caller node : ℕ) where
 module _ (pairs : List Pair) (words : ℕ) (log : Log) (lawful : Lawful pairs words log) where
   -- an inner row keeps its keys
   pub keys_stay : KeysStay (start pairs words) log
-  keys_stay node r ever =
-      let it = ever_from (start pairs words) (λ t. t.pieces node ≡ Some (Inner r)) log ever in
-      let grown = inner_there _ _ (grow_between pairs words it.0 log lawful.enabled it.1) node r
-      it.2 in (grown.0, grown.1, grown.2.keys)
+  keys_stay node r ever = grind (arith, ever_from, inner_there, grow_between)

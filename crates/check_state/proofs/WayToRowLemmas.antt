@@ -46,9 +46,7 @@ module _ (first : Snapshot) (log : Log) (slots : BTreeMap ℕ Slot) (k : KnowsSl
   -- a row may jump to the node in whose slot it hangs
   pub jumps_to_node : (node index row : ℕ) → WasLinked first log node → HasSlot slots node index row
       → (node ≡ anchor) ⊎ WasOnChain first log row node
-  jumps_to_node node index row linked e = ⊎_elim (λ a. inl a)
-      (λ far. inr (on_longer_chain node index row node e (on_own_chain node far linked)))
-      (same_or_not node anchor)
+  jumps_to_node node index row linked e = grind (arith, on_longer_chain, on_own_chain, same_or_not)
 
   -- a row may jump to where the jump of the node's jump leads
   pub jumps_twice : (node index row by at : ℕ) → HasSlot slots node index row
@@ -88,8 +86,7 @@ module _ (first : Snapshot) (log : Log) (slots : BTreeMap ℕ Slot) (k : KnowsSl
               )
 
   no_anchor : (node index row : ℕ) → HasSlot slots node index row → row ≢ anchor
-  no_anchor node index row e = let r = k.rises row record { node = node; index = index } e in
-      let low = r.0 in let high = r.1 in omega arith
+  no_anchor node index row e = grind arith
 
   -- the way to a row in the anchor's slot
   pub top_is : KeysStay first log → (index row : ℕ) (way : RowWay) → index ≡ 0
@@ -130,9 +127,7 @@ module _ (first : Snapshot) (log : Log) (slots : BTreeMap ℕ Slot) (k : KnowsSl
     where
       child_at : (key : ℕ) → IsChildFor (state first log) node key index → index ≡ child_count r.keys key
       child_at key (of_anchor a b) = absurd (far a)
-      child_at key (of_row q p i) =
-          let same : q ≡ r = same_inner ((state first log).pieces node) q r p published in
-          i ∙ ap (λ x. child_count x.keys key) same
+      child_at key (of_row q p i) = grind (arith, same_inner)
 
 -- after a lawful log the keys of an inner row are strictly increasing
 pub row_rises : (pairs : List Pair) (words : ℕ) (log : Log) → Lawful pairs words log → (node : ℕ)
@@ -147,11 +142,7 @@ pub narrowed : (low high from to lower upper : ℕ) (P : ℕ → Type 0) → low
     → upper ≡ min high to → ((key : ℕ) → key < 2 ^ 64 → P key ↔ ((from ≤ key) × (key ≤ to)))
     → (key : ℕ) → key < 2 ^ 64
     → (P key × (low ≤ key) × (key ≤ high)) ↔ ((lower ≤ key) × (key ≤ upper))
-narrowed low high from to lower upper P l u span key word = (
-  (λ h. let s = (span key word).0 h.0 in let a = h.1 in let b = h.2 in let c = s.0 in let d = s.1 in
-      (omega arith, omega arith)),
-  (λ h. let a = h.0 in let b = h.1 in ((span key word).1 (omega arith, omega arith), omega arith, omega arith)),
-)
+narrowed low high from to lower upper P l u span key word = grind arith
 
 -- ---- slots of rows that are added to a table one after another: together they are the slots of the
 -- rows that hang. Serves `linking.rt`.
@@ -162,8 +153,7 @@ module _ (t : Snapshot) where
   -- nothing is added
   pub adds_none : (slots : BTreeMap ℕ Slot) (P : ℕ → ℕ → ℕ → Type 0)
       → ((n i child : ℕ) → ¬ (P n i child)) → AddsSlots slots slots P
-  adds_none slots P none n i child =
-      ((λ h. inl h), (λ h. ⊎_elim (λ e. e) (λ p. absurd (none n i child p)) h))
+  adds_none slots P none n i child = grind arith
 
   -- each logical child that is added hangs in one slot still
   pub once_on : (old new : BTreeMap ℕ Slot) (P : ℕ → ℕ → ℕ → Type 0) → HangsOnce old t
@@ -182,8 +172,7 @@ module _ (t : Snapshot) where
     where
       at : (n i : ℕ) (slot : Slot) → slot.node ≡ n → slot.index ≡ i
           → slot ≡ record { node = n; index = i }
-      at n i slot a b = let P : ℕ → ℕ → Type 0 = λ x y. slot ≡ record { node = x; index = y } in
-          subst (P n) b (subst (λ x. P x slot.index) a refl)
+      at n i slot a b = grind arith
 
   -- ---- a row in its slot
 
@@ -228,14 +217,10 @@ module _ (t : Snapshot) where
             is_told o =
                 ap (λ s. Some s) (sym (once.told node i child (record { node = n; index = j }) c
                 (ap (tree.get nat_cmp old) (sym k.1) ∙ o)))
-        at (inr k) =
-            let same = updated_other old mid child (record { node = node; index = i }) u x k.1 in
-            ((λ e. inl (sym same ∙ e)), (λ h. ⊎_elim (λ o. same ∙ o) (λ p. absurd (k.1 p.2)) h))
+        at (inr k) = grind (arith, updated_other)
 
     is_child : (n j x : ℕ) → IsIt n j x → IsChild t n j x
-    is_child n j x p =
-        subst (λ m. IsChild t m j x) (sym p.0) (subst (λ k. IsChild t node k x) (sym p.1)
-        (subst (λ y. IsChild t node i y) (sym p.2) c))
+    is_child n j x p = grind arith
 
     -- each logical child hangs in one slot still
     pub once_more : HangsOnce mid t

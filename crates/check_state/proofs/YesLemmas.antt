@@ -1,5 +1,5 @@
 -- What says yes for a caller, read in an earlier and in a later state. Serves `updating.rt`.
-use Rattle.std.proofs.Common.{◌≡◌, ◌∙◌, ◌↔◌, ℕ, true, false, [], ◌∷◌, ◌++◌, Some, refl, sym, ap, subst, inl, inr, ◌≤◌, List, None, ⊎_elim, arith}
+use Rattle.std.proofs.Common.{◌≡◌, ◌↔◌, ℕ, true, false, [], ◌∷◌, ◌++◌, Some, refl, sym, ap, subst, inl, inr, ◌≤◌, List, None, ⊎_elim, arith}
 use Rattle.ist_core.specs.declared.states.ChangeRow.{ChangeRow}
 use Rattle.ist_core.specs.declared.events.Event.{Event}
 use Rattle.ist_core.specs.declared.events.Event.TheVariants.{Decide}
@@ -7,7 +7,7 @@ use Rattle.ist_core.specs.declared.pairs.Pair.{Pair}
 use Rattle.ist_core.specs.WordTerms.{Pieces, Change, anchor, start}
 use Rattle.ist_core.specs.LogTerms.{Snapshot, Log, Happened, GoesOn, same_log, CanOpen, EachEnabled, state_of}
 use Rattle.laws_links.proofs.DecisionLemmas.{Decides}
-use Rattle.ist_core.specs.TreeTerms.{AllGrow, IsUpdate, IsUpdateOf, SaysYes, IsChild, Linked, at_anchor, below}
+use Rattle.ist_core.specs.TreeTerms.{AllGrow, IsUpdateOf, SaysYes, IsChild, Linked, at_anchor, below}
 use Rattle.ist_core.proofs.AllLogLemmas.{change_there, enabled_before, goes_on_more, ever_from}
 use Rattle.ist_core.proofs.AllWordLemmas.{same_change}
 use Rattle.check_events.specs.Remembering.{IsUncounted, WasChild, SlotsRise, KnowsSlots}
@@ -37,23 +37,11 @@ ChangeHere ps base = (r : ChangeRow) × (ps base ≡ Some (Change r))
 module _ (t u : Snapshot) (grows : AllGrow t.pieces u.pieces) (caller base : ℕ) where
   -- an update stays one
   pub update_stays : IsUpdateOf t caller base → IsUpdateOf u caller base
-  update_stays it = let on = change_there t.pieces u.pieces grows base it.change it.published in
-      record {
-        change = on.0;
-        published = on.1;
-        owned = ap (λ r. r.owner) on.2.others ∙ it.owned;
-        update = subst IsUpdate (ap (λ r. r.kind) (sym on.2.others)) it.update;
-      }
+  update_stays it = grind (arith, change_there)
 
   -- and it was one before, if the change was published
   pub update_before : ChangeHere t.pieces base → IsUpdateOf u caller base → IsUpdateOf t caller base
-  update_before here it = let on = change_there t.pieces u.pieces grows base here.0 here.1 in
-      let same = same_change (u.pieces base) it.change on.0 it.published on.1 in record {
-        change = here.0;
-        published = here.1;
-        owned = sym (ap (λ r. r.owner) on.2.others) ∙ ap (λ r. r.owner) (sym same) ∙ it.owned;
-        update = subst IsUpdate (ap (λ r. r.kind) same ∙ ap (λ r. r.kind) on.2.others) it.update;
-      }
+  update_before here it = grind (arith, change_there, same_change)
 
 -- ---- a yes
 
@@ -77,8 +65,7 @@ pub yes_kept : (t u : Snapshot) (caller : ℕ) (log : Log)
     → IsUpdateOf t caller base → IsUpdateOf u caller base)
     → Happened (SaysYes t caller) log → Happened (SaysYes u caller) log
 yes_kept t u caller [] same none = absurd none
-yes_kept t u caller (event ∷ log) same (inl now) = let it = yes_decides t caller event now in
-    inl (decides_yes u caller event it.0 it.1 (same it.0 (inl it.1) it.2))
+yes_kept t u caller (event ∷ log) same (inl now) = grind (arith, yes_decides, decides_yes)
 yes_kept t u caller (event ∷ log) same (inr before) =
     inr (yes_kept t u caller log (λ base d. same base (inr d)) before)
 
@@ -104,8 +91,7 @@ last_is u log by change caller node base update = (
         → Decide by change true ∷ log ≡ later ++ Decide c base true ∷ earlier
         → ¬ (Happened (SaysYes u caller) later) → change ≡ base
     at c earlier [] is last = cc
-    at c earlier (first ∷ later) is last = let same : Decide by change true ≡ first = cc in
-        absurd (last (inl (subst (SaysYes u caller) same update)))
+    at c earlier (first ∷ later) is last = grind arith
 
 -- ---- what a table of slots says of a lawful log, and what follows from its entries. Serves
 -- `linking.rt`.
@@ -162,8 +148,7 @@ module _ (pairs : List Pair) (words : ℕ) (opens : CanOpen pairs words) where
 
       at : (n i : ℕ) (slot : Slot) → slot.node ≡ n → slot.index ≡ i
           → slot ≡ record { node = n; index = i }
-      at n i slot a b = let P : ℕ → ℕ → Type 0 = λ x y. slot ≡ record { node = x; index = y } in
-          subst (P n) b (subst (λ x. P x slot.index) a refl)
+      at n i slot a b = grind arith
 
   -- a linked node lies no lower than the anchor
   linked_high : (log : Log) → EachEnabled (start pairs words) log → (node : ℕ)
@@ -192,10 +177,7 @@ module _ (pairs : List Pair) (words : ℕ) (opens : CanOpen pairs words) where
       → ((node i child : ℕ)
       → HasSlot slots node i child ↔ WasChild (start pairs words) log node i child)
       → KnowsSlots slots (start pairs words) log
-  knows log h slots entries = record {
-    entries = entries;
-    rises = rises log h slots (λ child slot e. (entries slot.node slot.index child).0 e);
-  }
+  knows log h slots entries = grind (arith, rises)
 
   -- ---- a new table
 

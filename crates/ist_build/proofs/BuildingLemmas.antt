@@ -4,7 +4,7 @@ use Rattle.std.proofs.lemmas.Bool.Decides.{nat_tests}
 use Rattle.std.proofs.lemmas.List.{length-map}
 use Rattle.std.specs.List.{flat_map}
 use Rattle.ist_core.specs.declared.ports.Full.{Full}
-use Rattle.ist_core.specs.WordTerms.{degree, part_len, part_start, first_keys, Leaf, InnerAt, IsGoodBase, ref_of, word_of, inner_words, shape}
+use Rattle.ist_core.specs.WordTerms.{degree, part_len, part_start, first_keys, InnerAt, IsGoodBase, ref_of, word_of, inner_words, shape}
 use Rattle.ist_core.specs.TreeTerms.{PlacedLeaf}
 use Rattle.ist_core.specs.LogTerms.{HoldsRow}
 use Rattle.ist_core.proofs.AllPlaceLemmas.{placed, claimed_within}
@@ -43,8 +43,7 @@ one_good v s leaves have one = at leaves have.0 have.1 one
     at : (bases : List ℕ) (placed : List PlacedLeaf) → ArePlaced (now v) bases placed
         → length bases ≡ 1 → IsGoodBase (slice_index_or bases 0 0)
     at bases [] a e = absurd (let all = ap length a.bases_are in omega arith)
-    at bases (leaf ∷ more) a e = subst (λ xs. IsGoodBase (slice_index_or xs 0 0)) a.bases_are
-        (good_base v s leaf.base (Leaf leaf.row) a.published.0 (omega arith))
+    at bases (leaf ∷ more) a e = grind (arith, good_base)
 
 -- a build over at most one leaf takes no row
 pub small_taken : (who : Caller) (leaves : List ℕ) → length leaves < 2
@@ -184,16 +183,7 @@ module _ (old who : Caller) (leaves : List ℕ) (base d j : ℕ) (m : IsMidway o
 
       by_length : Facts who base placed (length placed)
           → IsLaid who.token.view who.number (now old.token.view).next word placed
-      by_length f =
-          laid_top who.token.view m.built.sound who.number (now old.token.view).next base word placed
-          f.two m.high f.held f.opened
-          (f.keys ∙ ap (λ ps. first_keys (λ (leaf : PlacedLeaf). leaf.row.key) (drop 1 ps))
-          (parts_all placed))
-          (subst (AreLaid who.token.view who.number (base + inner_words (degree (length placed)))
-          base
-          (words_at who.token.view.own (base + 3 + degree (length placed)) (degree (length placed))))
-          (parts_all placed) f.laid)
-          (least_degree-le (length placed)) good
+      by_length f = grind (arith, laid_top, placed, parts_all, least_degree-le, good)
 
   -- and all its rows are taken
   pub all_taken : HasTaken old (shape (length leaves)) who

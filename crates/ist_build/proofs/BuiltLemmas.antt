@@ -1,5 +1,5 @@
 -- What a caller does while it builds. Serves `building` and `parts`.
-use Rattle.std.proofs.Common.{◌≡◌, ℕ, ◌+◌, ◌<◌, ◌≤◌, List, refl, sym, ap, ◌∙◌, subst, le_refl, arith, inl, inr, [], ◌∷◌, Some}
+use Rattle.std.proofs.Common.{◌≡◌, ℕ, ◌+◌, ◌<◌, ◌≤◌, List, refl, sym, ap, ◌∙◌, subst, le_refl, arith, inl, inr, ◌∷◌, Some}
 use Rattle.ist_core.specs.declared.events.Event.{Event}
 use Rattle.ist_core.specs.declared.pairs.Pair.{Pair}
 use Rattle.ist_core.specs.declared.events.Who.{Who}
@@ -127,8 +127,7 @@ module _ (pairs : List Pair) (words : ℕ) where
     where
       by_event : (e : Event) → IsReservation e → Among h (state_of pairs words log).held
           → Among h (state_of pairs words (e ∷ log)).held
-      by_event (Reserve caller base size) own j = among_left h (state_of pairs words log).held
-          (record { caller = caller; base = base; size = size } ∷ []) j
+      by_event (Reserve caller base size) own j = grind (arith, among_left)
       by_event _ own j = absurd own
 
 -- the state after the log, by the first view's table

@@ -1,5 +1,5 @@
 -- A root whose slots are all set is filled. Serves `filling`.
-use Rattle.std.proofs.Common.{◌≡◌, ◌≢◌, ℕ, ◌+◌, ◌/◌, ◌^◌, ◌<◌, ◌≤◌, slice_get, Some, None, refl, sym, ap, ◌∙◌, subst, arith, zero, suc, List, [], ◌∷◌, map, take, drop, Option}
+use Rattle.std.proofs.Common.{◌≡◌, ◌≢◌, ℕ, ◌+◌, ◌/◌, ◌^◌, ◌<◌, ◌≤◌, Some, None, refl, sym, ap, ◌∙◌, subst, arith, zero, suc, List, [], ◌∷◌, map, take, drop, Option}
 use Rattle.ist_core.specs.declared.ports.Full.{Full}
 use Rattle.ist_core.specs.WordTerms.{degree, Rebuild, InnerAt, ref_of, unset_word, rebuild_root_offset, share_from, SlotHolds, in_anchor, in_row, Ref, LeafAt}
 use Rattle.ist_core.specs.TreeTerms.{AllGrow, HasTarget, IsFinishedWith, PlacedLeaf, HasLeaves}
@@ -47,13 +47,8 @@ few_filled v s rebuild k told h few = let f = form_of v s rebuild k told h in re
   where
     by : (base i word : ℕ) → IsWholeRow (now v) base → SlotHolds (now v) base i word → word ≢
         unset_word
-    by base i word it (in_anchor a b e) =
-        absurd (clash it (ap (now v).pieces a ∙ anchor_free v.start v.words v.log s.lawful.enabled))
-      where
-        clash : (x : IsWholeRow (now v) base) → (now v).pieces base ≡ None → ⊥
-        clash x e = let p = x.published in cc
-    by base i word it (in_row r e got) = λ is. let row_is : it.row ≡ r = cc (it.published) in
-        it.set i (ap (λ x. slice_get x.slots i) row_is ∙ got ∙ ap (λ x. Some x) is)
+    by base i word it (in_anchor a b e) = grind (arith, anchor_free)
+    by base i word it (in_row r e got) = grind arith
 
 -- over many keys it is filled if each slot is set
 pub many_filled : (v : View) → IsSound v → (rebuild target root k : ℕ)
@@ -71,8 +66,7 @@ many_filled v s rebuild target root k sh all = record {
 }
   where
     by : (i word : ℕ) → SlotHolds (now v) root i word → word ≢ unset_word
-    by i word (in_anchor a b e) =
-        absurd (cc (ap (now v).pieces a ∙ anchor_free v.start v.words v.log s.lawful.enabled, sh.node.published))
+    by i word (in_anchor a b e) = grind (arith, anchor_free)
     by i word (in_row r e got) = λ is. let row_is : sh.node.row ≡ r = cc (sh.node.published) in
         let d = has_degree v.start v.words v.log s.lawful.enabled root r e in let many = d.slots in
         let degree_is : r.degree ≡ degree k = ap (λ x. x.degree) (sym row_is) ∙ sh.node.degree_is in

@@ -139,11 +139,7 @@ module _ (who : Caller) (c : IsCaller who) (s : IsSound who.token.view) (w : Vie
       s_w = b.sound
 
       lies_below : (low : ℕ) (h : HeldRow) → h.base < low → is_from low h ≡ false
-      lies_below low h less = at (nat_lt h.base low) refl
-        where
-          at : (x : Bool) → nat_lt h.base low ≡ x → is_from low h ≡ false
-          at true e = ap not e
-          at false e = absurd (let over : low ≤ h.base = grind (arith, nat_tests) in omega arith)
+      lies_below low h less = grind (arith, nat_tests)
 
       lies_from : (low : ℕ) (h : HeldRow) → low ≤ h.base → is_from low h ≡ true
       lies_from low h over = at (nat_lt h.base low) refl

@@ -137,8 +137,7 @@ words_stored own place (x ∷ xs) h = ap₂ (λ y ys. y ∷ ys) (first (h 0 (ome
     ∙ ap (λ p. Some (own_at own p)) (let q : place + suc k ≡ place + 1 + k = omega arith in q)))
   where
     first : Some x ≡ Some (own_at own (place + 0)) → own_at own place ≡ x
-    first e = ap (own_at own) (let q : place ≡ place + 0 = omega arith in q)
-        ∙ (let same : own_at own (place + 0) ≡ x = cc in same)
+    first e = grind arith
 
 -- the rows that a caller stored, by what it holds there
 pub stored_rows : (w : View) (number : ℕ) → IsSound w → (rows : List Row) (fresh : List HeldRow)
@@ -163,10 +162,7 @@ stored_rows w number s (row ∷ rows) (h ∷ fresh) e stored held all = ap₂ (�
         (sym base_is))
 
     here : row_stored w h ≡ row
-    here =
-        ap₂ {C = Row} (λ b n. record { base = b; words = words_at w.own b n }) (sym base_is) size_is
-        ∙ ap {B = Row} (λ ws. record { base = row.base; words = ws })
-        (words_stored w.own row.base row.words stored.0)
+    here = grind (arith, base_is, size_is, words_stored)
 
 -- any event
 abbrev pub AnyEvent : Event → Type 0

@@ -89,11 +89,7 @@ keys_set own c base d j key word less t leaves placed a degree_is some stays bef
 
     first_part : (leaf : PlacedLeaf) × (others : List PlacedLeaf)
         × (share_of (length leaves) j placed ≡ leaf ∷ others)
-    first_part =
-        let many = sym (length-map placed (λ (leaf : PlacedLeaf). leaf.base)) ∙ ap length a.bases_are in
-        let len = length-share_of (length leaves) j placed many
-        (let q : j < degree (length leaves) = omega (arith, degree_is) in q) in let one = some in
-        some_first (share_of (length leaves) j placed) (omega arith)
+    first_part = grind (arith, length-map, length-share_of, some_first)
 
     at : (i : ℕ) → i ≡ j → words_at (setting c base d j key word).own (base + 4) (i + 1 - 1)
         ≡ first_keys (λ (leaf : PlacedLeaf). leaf.row.key)

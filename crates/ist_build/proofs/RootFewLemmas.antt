@@ -164,8 +164,7 @@ module _ (old : Caller) (token : TokenFace) (r : IsFreeToBuild old)
               → Some x ≡ Some Unset → ⊥
           by _ _ of_none h = cc
           by _ _ (of_one same there) h = cc
-      at_root (root_top base row more e top unset one) f =
-          absurd (let n = ap length one in omega arith)
+      at_root (root_top base row more e top unset one) f = grind arith
 
   -- if it was made, the rebuild has this word as its root
   few_hit : (last : TokenFace) → Logged token.view (rooting_few token.view place word) last.view

@@ -45,8 +45,7 @@ rows_of_topped old mid c s number spares b word rows owns sizes topped =
     first_high : (xs : List Row) (base : ℕ) (rest : List ℕ) → bases_of xs ≡ base ∷ rest
         → Each (λ row. (now old.token.view).next ≤ row.base) xs → (now old.token.view).next ≤ base
     first_high [] base rest e high = absurd (let n = ap length e in omega arith)
-    first_high (row ∷ xs) base rest e high =
-        let same : row.base ≡ base = cc in subst (λ x. (now old.token.view).next ≤ x) same high.0
+    first_high (row ∷ xs) base rest e high = grind arith
 
 module _ (old new : Caller) (c : IsCaller old) (s : IsSound old.token.view)
     (number : new.number ≡ old.number) (spares : spares_of new ≡ spares_of old)
@@ -76,8 +75,7 @@ module _ (old new : Caller) (c : IsCaller old) (s : IsSound old.token.view)
           → Each (λ row. (now old.token.view).next ≤ row.base) rows
           → (now old.token.view).next ≤ base
       first_high [] base rest e high = absurd (let n = ap length e in omega arith)
-      first_high (row ∷ rows) base rest e high =
-          let same : row.base ≡ base = cc in subst (λ x. (now old.token.view).next ≤ x) same high.0
+      first_high (row ∷ rows) base rest e high = grind arith
 
   mine_new : number_of new.token.view.who ≡ new.number
   mine_new = ap number_of (ap (λ x. x.who) b.same ∙ c.mine) ∙ sym number

@@ -221,8 +221,7 @@ root_topped ps word k leaves target bases two (root_whole ref few e ideal) =
         → IsIdeal ps x ls above bs → ref_of word ≡ Some x → IsTopped word bs
     by _ _ _ _ more of_none f = absurd (omega arith)
     by _ _ _ _ more (of_one same there) f = absurd (omega arith)
-    by _ _ _ _ more (of_more {base = base} {rows = rows} r top under) f =
-        record { base = base; ref_is = f; rest = rows; bases_are = refl }
+    by _ _ _ _ more (of_more {base = base} {rows = rows} r top under) f = grind arith
 root_topped ps word k leaves target bases two (root_top base row all e top unset one) = grind arith
 
 -- the word of a row is its base and the tag

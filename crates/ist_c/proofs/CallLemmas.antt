@@ -1,11 +1,11 @@
 -- What a pass behind a handle found, and what its updates did.
-use Rattle.std.proofs.Common.{◌≡◌, ℕ, Option, Result, Ok, Err, IfOk, IfErr, sym, subst, ◌≢◌, List, length}
+use Rattle.std.proofs.Common.{◌≡◌, ℕ, Option, Result, Ok, Err, IfOk, IfErr, sym, subst, ◌≢◌, List, length, arith}
 use Rattle.std.specs.Arc.{arc_value}
 use Rattle.ist_core.specs.declared.commands.Command.TheVariants.{Get}
 use Rattle.ist_core.specs.declared.ports.Full.{Full}
 use Rattle.ist_core.specs.declared.pairs.Pair.{Pair}
 use Rattle.ist_updates.specs.Asking.{command_for}
-use Rattle.ist_tree.specs.CallTerms.{HasSeenMore, AddsCall, IsRefused, HasUpdated, IsTurnedAway, HasAnswered, HasStartedNone}
+use Rattle.ist_tree.specs.CallTerms.{HasSeenMore, AddsCall, HasUpdated, IsTurnedAway, HasAnswered, HasStartedNone}
 use Rattle.ist_tree.specs.declared.freezing.Frozen.{Frozen}
 use Rattle.ist_handles.specs.declared.results.CallResult.{CallResult}
 use Rattle.ist_handles.specs.declared.results.Shortage.{Shortage}
@@ -60,15 +60,7 @@ pub not_called : (p q : TreePass) (key : ℕ) (value : Option ℕ) (result : Res
     (numbers : Full) (short : Shortage) → result ≡ Err numbers → arc_value q.tree ≡ arc_value p.tree
     → HasSeenMore p.pass q.pass → IfErr result (IsTurnedAway p.pass q.pass key value)
     → full_of short ≡ numbers → HasNotCalled p q key value (full_of short)
-not_called p q key value result numbers short err tree seen away says =
-    let it = subst (λ (r : Result (Option ℕ) Full). IfErr r (IsTurnedAway p.pass q.pass key value)) err
-    away in
-    record {
-      same_tree = tree;
-      seen = seen;
-      calls = it.calls;
-      cause = subst (λ (f : Full). IsRefused p.pass q.pass key value f) (sym says) it.cause;
-    }
+not_called p q key value result numbers short err tree seen away says = grind arith
 
 -- an update by a handle of a pass that returns Err leaves the pass's calls, and reports its numbers
 pub was_refused : (held : Held) (p q : TreePass) (key : ℕ) (value : Option ℕ)
@@ -162,8 +154,7 @@ shot_not p q words status numbers before short tree seen calls cause unstarted i
 pub took_shot : (held after : Held) (p : TreePass) (words status : ℕ) (before short : Shortage)
     → held ≡ of.Pass p → TakesShot (of.Pass p) after words status before short
     → TakesShot held after words status before short
-took_shot held after p words status before short is takes =
-    subst (λ (h : Held). TakesShot h after words status before short) (sym is) takes
+took_shot held after p words status before short is takes = grind arith
 
 -- a handle of something else is as before
 pub took_none : (held other : Held) (words : ℕ) (short : Shortage) → other ≡ held → IsNoPass other

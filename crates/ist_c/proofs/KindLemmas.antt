@@ -1,5 +1,5 @@
 -- A handle is as it was. Serves `ist_give_back` and `ist_meet`.
-use Rattle.std.proofs.Common.{◌≡◌, ◌≢◌, ℕ, Bool, true, false, Option, Some, None, IsSome, refl, sym, ◌∙◌}
+use Rattle.std.proofs.Common.{◌≡◌, ◌≢◌, ℕ, Bool, true, false, Option, Some, None, IsSome, refl, sym, ◌∙◌, arith}
 use Rattle.ist_handles.specs.declared.handles.Handle.{Handle}
 use Rattle.ist_handles.specs.declared.held.Held.{Held}
 use Rattle.ist_handles.specs.declared.trees.NumberedTree.{NumberedTree}
@@ -12,8 +12,7 @@ not_full false isnt = refl
 -- an empty one stays so
 pub still_empty : (before after : Handle) → (before.full ≡ true → ⊥) → after.full ≡ false
     → IsAsBefore before after
-still_empty before after isnt empty =
-    (empty ∙ sym (not_full before.full isnt), λ full. absurd (isnt full))
+still_empty before after isnt empty = grind (arith, not_full)
 
 -- what was taken out is put back
 pub put_back : (held : Held) (before after : Handle) → before.full ≡ true → held ≡ before.opaque.value

@@ -1,5 +1,5 @@
 -- What an owner behind a handle made and took back.
-use Rattle.std.proofs.Common.{◌≡◌, ◌≢◌, true, false, refl, sym, subst, ◌∙◌, ℕ, length, Result, Ok, Err, IfOk, IfErr, inr, ◌<◌, List}
+use Rattle.std.proofs.Common.{◌≡◌, ◌≢◌, true, false, refl, sym, subst, ◌∙◌, ℕ, length, Result, Ok, Err, IfOk, IfErr, inr, ◌<◌, List, arith}
 use Rattle.std.specs.Arc.{arc_value}
 use Rattle.ist_handles.specs.declared.handles.Handle.{Handle}
 use Rattle.ist_handles.specs.declared.held.Held.{Held}
@@ -76,9 +76,7 @@ pub took_other : (held given : Held) (owner : TreeOwner) (pass : TreePass) (befo
     → (arc_value pass.tree).number ≢ (arc_value owner.tree).number
     → before.full ≡ true → given ≡ before.opaque.value → after.full ≡ true
     → after.opaque.value ≡ given → TakesBack held (of.Owner owner) before after misuse
-took_other held given owner pass before after is its other =
-    took_not held given owner before after is (λ p same. let one : pass ≡ p = cc in
-    subst (λ (x : TreePass). (arc_value x.tree).number ≢ (arc_value owner.tree).number) one other)
+took_other held given owner pass before after is its other = grind (arith, took_not)
 
 -- ---- what a pass behind a handle noted and learnt.
 
@@ -135,9 +133,7 @@ pub met_other : (held told : Held) (pass : TreePass) (note : TreeNote) (before a
     → (arc_value note.tree).number ≢ (arc_value pass.tree).number
     → before.full ≡ true → told ≡ before.opaque.value → after.full ≡ true
     → after.opaque.value ≡ told → Meets held (of.Pass pass) before after misuse
-met_other held told pass note before after is its other =
-    met_not held told pass before after is (λ n same. let one : note ≡ n = cc in
-    subst (λ (x : TreeNote). (arc_value x.tree).number ≢ (arc_value pass.tree).number) one other)
+met_other held told pass note before after is its other = grind (arith, met_not)
 
 -- ---- what closing and reopening left in an owner's handle.
 
@@ -194,11 +190,7 @@ pub reopened_owner : (held after : Held) (owner : TreeOwner) (result : Result Cl
     → IfOk result (λ c. length c.closed ≡ owner.maker.tree.words) → Closed owner result
     → OpensInHandle closed words number after status → Reopens number held after words status
 reopened_owner held after owner result closed words number status is ok size closes opens =
-    let R : Type 0 = Result ClosedTree TreeOwner in
-    subst (λ (h : Held). Reopens number h after words status) (sym is)
-    (owner_opened owner closed words number after status
-    (subst (λ (r : R). IfOk r (λ c. length c.closed ≡ owner.maker.tree.words)) ok size)
-    (subst (Closed owner) ok closes) opens)
+    grind (arith, owner_opened)
 
 -- a handle of an owner still holds it if a pass or a note is out
 pub reopened_busy : (held : Held) (owner kept : TreeOwner) (result : Result ClosedTree TreeOwner)
@@ -220,9 +212,7 @@ closed_opened closed words number _ _ (opens_none fault within is) =
 pub reopened_closed : (held after : Held) (closed : ClosedTree) (words number status : ℕ)
     → held ≡ of.Closed closed → OpensInHandle closed words number after status
     → Reopens number held after words status
-reopened_closed held after closed words number status is opens =
-    subst (λ (h : Held). Reopens number h after words status) (sym is)
-    (closed_opened closed words number after status opens)
+reopened_closed held after closed words number status is opens = grind (arith, closed_opened)
 
 -- reopening a handle of something else leaves it as it is
 pub reopened_other : (held other : Held) (words number : ℕ) → other ≡ held → IsNoOwner other

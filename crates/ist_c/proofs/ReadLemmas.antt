@@ -1,5 +1,5 @@
 -- What reads by a pass behind a handle found, and what they wrote.
-use Rattle.std.proofs.Common.{◌≡◌, ℕ, Bool, List, length, Option, sym, subst, ◌-◌, ◌≤◌, [], ◌∷◌, take, drop, refl, ap, ◌∙◌, arith}
+use Rattle.std.proofs.Common.{◌≡◌, ℕ, Bool, List, length, Option, sym, subst, ◌-◌, ◌≤◌, [], ◌∷◌, take, drop, refl, arith}
 use Rattle.std.specs.Arc.{arc_value}
 use Rattle.ist_core.specs.declared.pairs.Pair.{Pair}
 use Rattle.ist_live.specs.Reading.{HasOnlyRead}
@@ -70,15 +70,12 @@ nothing_written (e ∷ room) = refl
 -- past the last pair nothing is written
 pub none_written : (pairs : List Pair) (room : List Pair) (from : ℕ) → length pairs ≤ from
     → room ≡ written (drop from pairs) room
-none_written pairs room from past =
-    nothing_written room ∙ ap (λ ps. written ps room) (sym (drop_all from pairs past))
+none_written pairs room from past = grind (arith, nothing_written, drop_all)
 
 -- a slice from a number on has all pairs up to the end
 pub rest_written : (given pairs : List Pair) (room : List Pair) (from : ℕ) → given ≡ pairs
     → written (take (length given - from) (drop from given)) room ≡ written (drop from pairs) room
-rest_written given pairs room from same =
-    let all = take_all (length given - from) (drop from given) (omega (arith, length-drop from given)) in
-    ap (λ ps. written ps room) (all ∙ ap (λ ps. drop from ps) same)
+rest_written given pairs room from same = grind (arith, take_all, length-drop)
 
 -- ---- by a handle
 

@@ -1,5 +1,5 @@
 -- The finite map of a tree's entries finds what the tree finds. Serves `stating.rt`.
-use Rattle.std.proofs.Common.{◌≡◌, ◌∙◌, ℕ, cond, List, [], ◌∷◌, Some, refl, sym, ap, subst, Result, Ok, Err, IfOk, map}
+use Rattle.std.proofs.Common.{◌≡◌, ◌∙◌, ℕ, cond, List, [], ◌∷◌, Some, refl, ap, Result, Ok, Err, IfOk, map, arith}
 use Rattle.std.proofs.lemmas.Map.Keys.{IsStrictlyIncreasing-from_sorted}
 use Rattle.std.specs.List.Sorted.{IsStrictlyIncreasing}
 use Rattle.std.specs.Ordering.{nat_cmp}
@@ -23,6 +23,5 @@ module _ {X : Type 0} where
   pub rising : {V E : Type 0} (r : Result V E) (items : V → List (ℕ × X)) (t : BTreeMap ℕ X)
       → tree.IsOrdered nat_cmp t → IfOk r (λ v. items v ≡ t.entries)
       → IfOk r (λ v. IsStrictlyIncreasing (map (λ e. e.0) (items v)))
-  rising (Ok v) items t ordered is = subst (λ es. IsStrictlyIncreasing (map (λ e. e.0) es)) (sym is)
-      (IsStrictlyIncreasing-from_sorted _ ordered)
+  rising (Ok v) items t ordered is = grind (arith, IsStrictlyIncreasing-from_sorted)
   rising (Err e) items t ordered is = tt

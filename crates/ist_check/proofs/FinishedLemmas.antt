@@ -1,5 +1,5 @@
 -- Rebuilds by what their targets are finished with. Serves `single.rt`.
-use Rattle.std.proofs.Common.{◌≡◌, ◌↔◌, ◌≤◌, ◌<◌, ◌⊎◌, ℕ, IsTrue, true, false, leb, Some, sym, subst, inl, inr, arith, map, ◌∙◌, List, [], ◌∷◌, ◌++◌, None, ap}
+use Rattle.std.proofs.Common.{◌≡◌, ◌↔◌, ◌≤◌, ◌<◌, ◌⊎◌, ℕ, IsTrue, true, false, leb, Some, sym, subst, inl, inr, arith, map, ◌∙◌, List, [], ◌∷◌, ◌++◌}
 use Rattle.std.proofs.lemmas.Bool.Decides.{leb_tells}
 use Rattle.std.specs.Ordering.{nat_cmp}
 use Rattle.ist_core.specs.declared.states.RebuildRow.{RebuildRow}
@@ -9,20 +9,18 @@ use Rattle.ist_core.specs.WordTerms.{Rebuild, share_from, share_from_is, Change,
 use Rattle.ist_core.specs.LogTerms.{Snapshot, Among}
 use Rattle.ist_core.specs.TreeTerms.{IsFinishedWith, PlacedLeaf, IsCalled, as_target, as_child, after_rebuild, IsStarted}
 use Rattle.ist_core.proofs.AllWordLemmas.{same_rebuild}
-use Rattle.check_fairness.specs.Answers.{FindsOne, FindsGreatest}
+use Rattle.check_fairness.specs.Answers.{FindsOne}
 use Rattle.check_events.specs.declared.replicas.Replica.{Replica}
 use Rattle.check_events.specs.Mirroring.{Mirrors}
 use Rattle.check_events.proofs.DecisionLemmas.{rebuild_stands}
 use Rattle.ist_check.specs.Published.{HasRebuild, IsFinishedSo}
-use Rattle.std.specs.BTreeMap.{BTreeMap, is_at}
-use Rattle.std.specs.Cmp.Lexicographic.{slice_cmp}
-use Rattle.std.specs.Map.{lookup}
+use Rattle.std.specs.BTreeMap.{BTreeMap}
 use Rattle.std.specs.BTreeSet.{BTreeSet}
 use Rattle.std.specs.Global.{Vec}
 use Rattle.check_events.specs.declared.pasts.BuildTable.{BuildTable}
 use Rattle.check_events.specs.declared.pasts.LastUpdate.{LastUpdate}
 use Rattle.check_fairness.specs.declared.lists.BuildingLists.{BuildingLists}
-use Rattle.check_events.specs.Remembering.{LacksCount, KnowsOkays, KnowsCalls, KnowsDraws, KnowsPasses, KnowsUpdates, KnowsRefusals, KnowsStarts, KnowsBuilds, KnowsLeaves, CameAfter, last_with, seen_builds}
+use Rattle.check_events.specs.Remembering.{LacksCount, KnowsOkays, KnowsCalls, KnowsDraws, KnowsPasses, KnowsUpdates, KnowsRefusals, KnowsStarts, KnowsBuilds, KnowsLeaves}
 use Rattle.check_fairness.specs.Targets.{IsTargeted, KnowsTargets}
 use Rattle.check_fairness.specs.Knowing.{KnowsLists, HasNone}
 use Rattle.check_fairness.proofs.AnswerLemmas.{finds_none}
@@ -50,8 +48,7 @@ module _ (s : Replica) (t : Snapshot) (base : ℕ) (row : RebuildRow) (mirrors :
 
   -- with what a rebuild's target is finished, this one's is
   finished : (it : HasRebuild t base (λ r. IsFinishedSo t r P)) → IsFinishedWith t row.target it.says.0
-  finished it = subst (λ r. IsFinishedWith t r.target it.says.0)
-      (same_rebuild (t.pieces base) it.row row it.published stands) it.says.1
+  finished it = grind (arith, same_rebuild, stands)
 
   -- if its target isn't finished, no number of keys is asked about
   pub unfinished : ((k : ℕ) → ¬ (IsFinishedWith t row.target k))
@@ -61,10 +58,7 @@ module _ (s : Replica) (t : Snapshot) (base : ℕ) (row : RebuildRow) (mirrors :
   -- if its target is finished with this number of keys, what remains is what is asked of the number
   pub finished_so : (keys : ℕ) → FindsOne (λ k. IsFinishedWith t row.target k) (Some keys)
       → P keys ↔ HasRebuild t base (λ r. IsFinishedSo t r P)
-  finished_so keys one = (
-    (λ p. record { row = row; published = stands; says = (keys, one.0, p) }),
-    (λ it. subst P (one.1 it.says.0 (finished it)) it.says.2),
-  )
+  finished_so keys one = grind (arith, stands, finished)
 
 -- ---- the tables of a new table: nothing happened yet. Serves `remembering.rt`.
 
@@ -74,34 +68,16 @@ no_okays set empty change = (λ h. holds_none set change empty h, λ h. absurd h
 
 -- the empty map has the draws of the empty log
 pub no_draws : (m : BTreeMap ℕ ℕ) → m.entries ≡ [] → KnowsDraws m []
-no_draws m empty caller rebuild _ _ = subst (FindsGreatest (λ part. ⊥)) (sym (finds_none m _ empty))
-    (λ x h. h)
+no_draws m empty caller rebuild _ _ = grind (arith, finds_none)
 
 -- the empty map has the passes of the empty log
 pub no_passes : (m : BTreeMap ℕ ℕ) → m.entries ≡ [] → KnowsPasses m []
-no_passes m empty node i word _ _ = (
-  λ h. absurd (cc (sym (finds_none m _ empty) ∙ h)),
-  λ h. absurd h,
-)
+no_passes m empty node i word _ _ = grind (arith, finds_none)
 
 -- the empty table has the builds of the empty log
 pub no_builds : (builds : BuildTable) → builds.last.entries ≡ [] → builds.since.entries ≡ []
     → KnowsBuilds builds []
-no_builds builds none empty = record {
-  beaten = λ caller sizes. ((λ h. absurd (subst (λ o. CameAfter o (seen caller)) (found sizes) h)), (λ h. absurd h));
-  came = λ sizes at e. absurd (cc (sym (found sizes) ∙ e));
-  seen = λ caller. subst (λ o. seen_builds o ≤ builds.count)
-      (sym (finds_none builds.since caller empty)) few;
-}
-  where
-    seen : ℕ → ℕ
-    seen caller = seen_builds (tree.get nat_cmp builds.since caller)
-
-    found : (sizes : List ℕ) → last_with builds sizes ≡ None
-    found sizes = ap (lookup (is_at (λ v. slice_cmp nat_cmp sizes v.items))) none
-
-    few : 0 ≤ builds.count
-    few = omega arith
+no_builds builds none empty = grind (arith, finds_none)
 
 module _ (pairs : List Pair) (words : ℕ) where
   unstarted : (rebuild : ℕ) → ¬ (IsStarted (start pairs words) rebuild)

@@ -14,7 +14,7 @@ use Rattle.laws_links.proofs.FormedLemmas.{rooted_is_finished}
 use Rattle.laws_links.proofs.LinkLemmas.{linked_or_finished}
 use Rattle.laws_links.proofs.ContentLemmas.{linked_set}
 use Rattle.ist_check.specs.declared.conditions.Condition.{Condition}
-use Rattle.ist_check.specs.declared.conditions.Condition.TheVariants.{Finished, InSlot, Known, Marked, NoChange, NotPast, PartIs, Published, Rooted, Set, Shared}
+use Rattle.ist_check.specs.declared.conditions.Condition.TheVariants.{Finished, InSlot, Known, Marked, NoChange, Published, Set}
 use Rattle.ist_check.specs.Conditions.{says_of, pass_says, draw_says}
 use Rattle.ist_check.specs.Failing.{TellsCondition}
 use Rattle.ist_check.specs.Verdicts.{IsCovered, IsFirstUnlawful, FailsAt}
@@ -52,10 +52,6 @@ differ test a b here there e = false≢true (sym there ∙ ap test (sym e) ∙ h
 abbrev is_set : Condition → Bool
 is_set Set = true
 is_set _ = false
-
-abbrev is_finished : Condition → Bool
-is_finished Finished = true
-is_finished _ = false
 
 -- if it isn't the one, it is the other
 other : {A B : Type 0} → A ⊎ B → ¬ A → B
@@ -107,25 +103,7 @@ module _ (pairs : List Pair) (words : ℕ) (log : Log) (law : Lawful pairs words
   -- if a rebuild has a root, its target is finished
   draw_finished : (caller rebuild part : ℕ)
       → ¬ (TellsCondition (draw_says t log caller rebuild part) (Some Finished))
-  draw_finished caller rebuild part t0 =
-      let t1 = other t0 (λ here. differ is_finished Finished Known refl refl here.0) in
-      let t2 = other t1.1 (λ here. differ is_finished Finished Published refl refl here.0) in
-      let t3 = other t2.1 (λ here. differ is_finished Finished Rooted refl refl here.0) in
-      let rooted = t3.0 in
-      let done = rooted_is_finished pairs words log law.enabled rebuild rooted.row rooted.published
-      rooted.says in
-      ⊎_elim
-      (λ here. here.1 record {
-        row = rooted.row;
-        published = rooted.published;
-        says = (done.0, done.1, tt);
-      })
-      (λ rest.
-      let t5 = other rest.1 (λ here. differ is_finished Finished Shared refl refl here.0) in
-      let t6 = other t5.1 (λ here. differ is_finished Finished PartIs refl refl here.0) in
-      let t7 = other t6.1 (λ here. differ is_finished Finished NotPast refl refl here.0) in
-      t7.1)
-      t3.1
+  draw_finished caller rebuild part t0 = grind (arith, differ, rooted_is_finished)
 
   -- so neither is the first that is false
   pub not_covered : (event : Event) (condition : Condition)
@@ -184,19 +162,7 @@ module _ (events : List Event) (at : ℕ) (event : Event) (below : at < length e
 -- what the other tables hold doesn't depend on the slots and the ways
 slots_apart : (past : Past) (slots : BTreeMap ℕ Slot) (ways : BTreeMap ℕ RowWay) (pairs : List Pair) (words : ℕ) (log : Log)
     → Remembers past pairs words log → Remembers (record past { slots = slots; ways = ways }) pairs words log
-slots_apart past slots ways pairs words log it = record {
-  okayed = it.okayed;
-  called = it.called;
-  drawn = it.drawn;
-  passed = it.passed;
-  updates = it.updates;
-  refused = it.refused;
-  started = it.started;
-  targets = it.targets;
-  lists = it.lists;
-  builds = it.builds;
-  leaves = it.leaves;
-}
+slots_apart past slots ways pairs words log it = grind arith
 
 module _ (replica : Replica) (past : Past) (pairs : List Pair) (words : ℕ) (log : Log)
     (event : Event)
@@ -240,13 +206,7 @@ pub first_known : {replica : Replica} {past : Past} {pairs : List Pair} {words :
     → (CanOpen pairs words → Mirrors replica (start pairs words) → KnowsWays past.ways (start pairs words) [])
     → (CanOpen pairs words → Mirrors replica (start pairs words) → Remembers past pairs words [])
     → Knows replica past pairs words []
-first_known opens mirrors slots ways exact = record {
-  lawful = record { opens = opens; enabled = tt };
-  mirrors = mirrors;
-  slots = slots opens mirrors;
-  ways = ways opens mirrors;
-  remembers = exact opens mirrors;
-}
+first_known opens mirrors slots ways exact = grind arith
 
 -- an option that is no `Some` is `None`
 pub is_none : {A : Type 0} (o : Option A) → ((x : A) → o ≢ Some x) → o ≡ None

@@ -1,5 +1,5 @@
 -- The numbers after an event that may come fit into words. Serves `checking.rt`.
-use Rattle.std.proofs.Common.{◌≡◌, ◌∙◌, ◌+◌, ◌<◌, ◌^◌, ℕ, List, [], ◌∷◌, Some, length, refl, sym, ap, subst, inl, inr, arith, option_map}
+use Rattle.std.proofs.Common.{◌≡◌, ◌∙◌, ◌+◌, ◌<◌, ◌^◌, ℕ, List, [], ◌∷◌, Some, refl, sym, ap, subst, inl, inr, arith, option_map}
 use Rattle.std.specs.Ordering.{nat_cmp}
 use Rattle.std.specs.BTreeMap as tree
 use Rattle.ist_core.specs.declared.pairs.Pair.{Pair}
@@ -9,9 +9,8 @@ use Rattle.ist_core.specs.declared.lists.HeldRow.{HeldRow}
 use Rattle.ist_core.specs.declared.lists.Row.{Row}
 use Rattle.ist_core.specs.declared.events.Event.{Event}
 use Rattle.ist_core.specs.declared.events.Event.TheVariants.{Enter, Reserve, Install, Count, Finish, Draw}
-use Rattle.ist_core.specs.LogTerms.{Among, Each, HoldsRow, Log, Lawful, state_of}
-use Rattle.ist_core.specs.WordTerms.{with_status, row_at, Change, finished_word, start}
-use Rattle.ist_core.specs.TreeTerms.{CanInstall}
+use Rattle.ist_core.specs.LogTerms.{Among, Each, Log, Lawful, state_of}
+use Rattle.ist_core.specs.WordTerms.{with_status, finished_word, start}
 use Rattle.ist_core.proofs.AllLogLemmas.{words_same, held_good, count_low}
 use Rattle.ist_core.proofs.AllWordLemmas.{changed_at-same}
 use Rattle.ist_core.proofs.AllEventLemmas.{sound, sound_start}
@@ -34,20 +33,12 @@ module _ (pairs : List Pair) (words : ℕ) (log : Log) (replica : Replica)
   -- the row of an installed change lies within the table
   install_low : (caller base : ℕ) (rows : List Row) → Lawful pairs words
       (Install caller base rows ∷ log) → base < 2 ^ 28
-  install_low caller base rows lawful =
-      let can : CanInstall (start pairs words) log caller base rows = lawful.enabled.1 in
-      let held : Each (λ row. HoldsRow (state_of pairs words log) caller row.base
-      (length row.words)) (row_at base (Change can.change) ∷ can.fresh) =
-      subst (Each (λ row. HoldsRow (state_of pairs words log) caller row.base (length row.words)))
-      can.rows_are can.held in
-      (held_good pairs words lawful.opens log caller base _ lawful.enabled.0 held.0).below_limit
+  install_low caller base rows lawful = grind (arith, held_good)
 
   -- what a caller reserves lies within the table
   reserve_low : (caller base size : ℕ) → Lawful pairs words (Reserve caller base size ∷ log)
       → base + size < 2 ^ 64
-  reserve_low caller base size lawful = let can = lawful.enabled.1 in
-      let same = words_same pairs words lawful.opens log in let within = lawful.opens.within in
-      let room = can.room in let is = can.base_is in omega arith
+  reserve_low caller base size lawful = grind (arith, words_same)
 
   -- and above all that is held
   reserve_above : (caller base size : ℕ) → Lawful pairs words (Reserve caller base size ∷ log)
@@ -60,8 +51,7 @@ module _ (pairs : List Pair) (words : ℕ) (log : Log) (replica : Replica)
 
   -- a caller's number is low
   enter_low : (caller : ℕ) → Lawful pairs words (Enter caller ∷ log) → replica.callers + 1 < 2 ^ 64
-  enter_low caller lawful = let can = lawful.enabled.1 in let low = can.below_limit in
-      let is = can.number in let same = mirrors.callers in omega arith
+  enter_low caller lawful = grind arith
 
   -- a finished row has no more keys than the table has places
   finish_low : (caller node keys : ℕ) → Lawful pairs words (Finish caller node keys ∷ log)
@@ -81,17 +71,11 @@ module _ (pairs : List Pair) (words : ℕ) (log : Log) (replica : Replica)
 
   count_room : (caller node : ℕ) → Lawful pairs words (Count caller node ∷ log)
       → (r : InnerRow) → tree.get nat_cmp replica.inners node ≡ Some r → r.count < 2 ^ 63
-  count_room caller node lawful r found =
-      let low = count_low pairs words lawful.opens log lawful.enabled.0 node r
-      (inner_stands replica (state_of pairs words log) node mirrors r found) in
-      omega arith
+  count_room caller node lawful r found = grind (arith, count_low, inner_stands)
 
   draw_room : (caller rebuild part : ℕ) → Lawful pairs words (Draw caller rebuild part ∷ log)
       → (r : RebuildRow) → tree.get nat_cmp replica.rebuilds rebuild ≡ Some r → r.draw < 2 ^ 63
-  draw_room caller rebuild part lawful r found =
-      let low = draw_low pairs words lawful.opens log lawful.enabled.0 rebuild r
-      (rebuild_stands replica (state_of pairs words log) rebuild mirrors r found) in
-      omega arith
+  draw_room caller rebuild part lawful r found = grind (arith, draw_low, rebuild_stands)
 
   -- the numbers after the event fit into words
   pub has_room : (event : Event) → Lawful pairs words (event ∷ log) → HasRoom replica event

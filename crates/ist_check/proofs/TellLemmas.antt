@@ -1,5 +1,5 @@
 -- What tests say of their conditions. Serves each file that goes through conditions.
-use Rattle.std.proofs.Common.{◌≡◌, ◌∙◌, ◌↔◌, IsTrue, Bool, List, [], ◌∷◌, Option, Some, None, sym, ap, subst, inl, inr, ⊎_elim}
+use Rattle.std.proofs.Common.{◌≡◌, ◌∙◌, ◌↔◌, IsTrue, Bool, List, [], ◌∷◌, Option, Some, None, inl, inr, ⊎_elim, arith}
 use Rattle.ist_check.specs.declared.conditions.Condition.{Condition}
 use Rattle.ist_check.specs.declared.tested.Tested.{Tested}
 use Rattle.ist_check.specs.Failing.{Stated, TellsCondition, TellsFirst, Tests}
@@ -8,11 +8,7 @@ use Rattle.ist_check.specs.Failing.{Stated, TellsCondition, TellsFirst, Tests}
 pub next : (x : Tested) {holds : Bool} {name : Condition} {says others : Type 0}
     → x ≡ record { holds = holds; name = name } → (IsTrue holds ↔ says) → others
     → (x.name ≡ name) × (IsTrue x.holds ↔ says) × others
-next x {says = says} is tests rest = (
-  ap (λ y. y.name) is,
-  subst (λ b. IsTrue b ↔ says) (sym (ap (λ y. y.holds) is)) tests,
-  rest,
-)
+next x {says = says} is tests rest = grind arith
 
 -- the first test that fails names the first condition that is false
 pub tells : (xs : List Tested) (ss : List Stated) (o : Option Condition) → Tests xs ss

@@ -56,13 +56,9 @@ drop_one x (y ∷ ys) i = at (λ j. drop_one x ys j) (y == x) (eqb_tells y x) i
     at : (Among x ys → length (drop_all x ys) + 1 ≤ length ys) → (v : Bool)
         → (((y == x) ≡ true) × (y ≡ x)) ⊎ (((y == x) ≡ false) × (y ≢ x)) → Among x (y ∷ ys)
         → length (drop_all x (y ∷ ys)) + 1 ≤ length (y ∷ ys)
-    at again v (inl k) j = let rest = drop_shorter x ys in
-        subst (λ b. length (if not b then y ∷ drop_all x ys else drop_all x ys) + 1 ≤ length
-        (y ∷ ys)) (sym k.0) (omega arith)
+    at again v (inl k) j = grind (arith, drop_shorter)
     at again v (inr k) (inl e) = absurd (k.1 (sym e))
-    at again v (inr k) (inr j) = let rest = again j in
-        subst (λ b. length (if not b then y ∷ drop_all x ys else drop_all x ys) + 1 ≤ length
-        (y ∷ ys)) (sym k.0) (omega arith)
+    at again v (inr k) (inr j) = grind arith
 
 -- another number stays
 drop_keeps : (x c : ℕ) (xs : List ℕ) → c ≢ x → Among c xs → Among c (drop_all x xs)
@@ -150,16 +146,8 @@ module _ (pairs : List Pair) (words : ℕ) (node : ℕ) where
           + length (if at == node then drop_all c (waiting (start pairs words) node log) else
           waiting (start pairs words) node log)
           ≤ length (decided_yes_in log)
-      here before less v (inl k) = let one = less k.1 in
-          subst (λ b. (if b then counts node log + 1 else counts node log)
-          + length (if b then drop_all c (waiting (start pairs words) node log) else waiting
-          (start pairs words) node log)
-          ≤ length (decided_yes_in log)) (sym k.0) (omega arith)
-      here before less v (inr k) =
-          subst (λ b. (if b then counts node log + 1 else counts node log)
-          + length (if b then drop_all c (waiting (start pairs words) node log) else waiting
-          (start pairs words) node log)
-          ≤ length (decided_yes_in log)) (sym k.0) before
+      here before less v (inl k) = grind arith
+      here before less v (inr k) = grind arith
   counts_few (Enter c ∷ log) h = counts_few log h.0
   counts_few (Reserve c base size ∷ log) h = counts_few log h.0
   counts_few (Install c change rows ∷ log) h = counts_few log h.0

@@ -90,18 +90,8 @@ module _ (pairs : List Pair) (words rebuild last : ℕ) where
           (if at == rebuild then (if nat_le last part then c ∷ past rebuild last log else past
           rebuild last log) else past rebuild last log)
           → (p : ℕ) × Happened (Draws caller rebuild p) (Draw c at part ∷ log) × (last ≤ p)
-      here again (inr k) l j =
-          let it = again (subst (λ b. Among caller
-          (if b then (if nat_le last part then c ∷ past rebuild last log else past rebuild last
-          log) else past rebuild last log)) k.0 j) in
-          (it.0, inr it.1, it.2)
-      here again (inl k) (inr l) j =
-          let it = again (subst (λ b. Among caller
-          (if b then c ∷ past rebuild last log else past rebuild last log)) l.0
-          (subst (λ b. Among caller (if b then
-          (if nat_le last part then c ∷ past rebuild last log else past rebuild last log) else
-          past rebuild last log)) k.0 j)) in
-          (it.0, inr it.1, it.2)
+      here again (inr k) l j = grind (arith, past)
+      here again (inl k) (inr l) j = grind (arith, past)
       here again (inl k) (inl l) j = ⊎_elim (λ e. (part, inl (sym e, k.1, refl), l.1))
           (λ m. let it = again m in (it.0, inr it.1, it.2))
           (subst (λ b. Among caller (if b then c ∷ past rebuild last log else past rebuild last
@@ -156,19 +146,9 @@ module _ (pairs : List Pair) (words rebuild last : ℕ) where
           ((nat_le last part ≡ false) × (part < last))
           → Both (if at == rebuild then (if nat_le last part then c ∷ past rebuild last log else
           past rebuild last log) else past rebuild last log)
-      here (inr k) l = subst (λ b. Both
-          (if b then (if nat_le last part then c ∷ past rebuild last log else past rebuild last log)
-          else past rebuild last log)) (sym k.0) once
-      here (inl k) (inr l) =
-          subst (λ b. Both (if b then (if nat_le last part then c ∷ past rebuild last log else past
-          rebuild last log) else past rebuild last log)) (sym k.0)
-          (subst (λ b. Both (if b then c ∷ past rebuild last log else past rebuild last log))
-          (sym l.0) once)
-      here (inl k) (inl l) =
-          subst (λ b. Both (if b then (if nat_le last part then c ∷ past rebuild last log else past
-          rebuild last log) else past rebuild last log)) (sym k.0)
-          (subst (λ b. Both (if b then c ∷ past rebuild last log else past rebuild last log)) (sym l.0)
-          ((can.known, once.0), (fresh k.1, once.1)))
+      here (inr k) l = grind (arith, Both, past)
+      here (inl k) (inr l) = grind (arith, Both, past)
+      here (inl k) (inl l) = grind (arith, Both, past, fresh)
 
   past_on : (log : Log) (event : Event) → Enabled (start pairs words) log event
       → past rebuild last (event ∷ log) ≡ past rebuild last log → PastOnce log

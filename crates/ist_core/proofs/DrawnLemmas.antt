@@ -40,12 +40,7 @@ module _ (rebuild last : ℕ) where
           ((nat_le last part ≡ false) × (part < last))
           → draw_in q ≤ last + length
           (if at == rebuild then (if nat_le last part then caller ∷ others else others) else others)
-      here (inr k) l = let it = changed_at-some ps at rebuild drawn q e in
-          let before = old it.0 it.1 in
-          subst (λ b. draw_in q ≤ last + length
-          (if b then (if nat_le last part then caller ∷ others else others) else others))
-          (sym k.0)
-          (⊎_elim (λ m. let same = ap draw_in m in omega arith) (λ m. absurd (k.1 (sym m.0))) it.2)
+      here (inr k) l = grind (arith, changed_at-some)
       here (inl k) l = let at_rebuild = subst (λ b. ps b ≡ Some (Rebuild r)) k.1 there in
           let before = old (Rebuild r) at_rebuild in
           let now = changed_at-same ps at drawn ∙ ap (option_map drawn) there in

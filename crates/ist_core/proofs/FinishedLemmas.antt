@@ -1,7 +1,7 @@
 -- Each slot of a finished row was passed, and what it reads as stays. Serves the order law and each
 -- law on finished rows.
 use Rattle.std.proofs.Common.{◌≡◌, ℕ, List, Some, refl, arith, ◌≢◌, zero, suc, ◌+◌, ◌⊎◌, [], ◌∷◌, length, slice_get, Option, sym, ap, ◌∙◌, subst, inl, inr, ⊎_elim}
-use Rattle.ist_core.specs.WordTerms.{finished_word, Piece, Leaf, Inner, Change, Rebuild, counted, with_root, drawn, rows_within, first_row, Ref, ref_of, marked_word, changed_at, with_status, start, rows_from}
+use Rattle.ist_core.specs.WordTerms.{finished_word, Piece, Leaf, Inner, Change, Rebuild, counted, with_root, drawn, rows_within, first_row, Ref, ref_of, changed_at, with_status, start, rows_from}
 use Rattle.ist_core.specs.LogTerms.{Snapshot, Each, Log, state, Happened, Passes, Enabled, EachEnabled, CanOpen, state_of}
 use Rattle.ist_core.specs.TreeTerms.{IsFinishedWith, CountsFor, no_key, one_key, of_child, of_target, ArePassed, past_end, one_passed, CanFinish, AllGrow}
 use Rattle.ist_core.specs.Types.{Pair, InnerRow, Event, Count, Mark, Finish, Root, Draw}
@@ -95,16 +95,12 @@ finished_by first log event h s node k f = at event h
     written : (at word : ℕ)
         → Has status_in 0 status_rare (changed_at t.pieces at (with_status word)) node
         (finished_word k) → IsFinishedWith t node k ⊎ ((at ≡ node) × (word ≡ finished_word k))
-    written at word has =
-        let it = changed_at-some t.pieces at node (with_status word) has.0 has.1 in
-        ⊎_elim (λ same. inl (has_finished t node k (it.0, it.1, sym (ap status_in same) ∙ has.2)))
-        (λ new. inr (sym new.0, word_is word it.0 (sym (ap status_in new.1) ∙ has.2))) it.2
+    written at word has = grind (arith, changed_at-some, has_finished, t, word_is)
 
     at : (event : Event) → Enabled first log event
         → Has status_in 0 status_rare (state first (event ∷ log)).pieces node (finished_word k)
         → FinishedBy t node k event
-    at (Mark caller n) h has = ⊎_elim (λ old. inl old)
-        (λ new. let e = new.1 in absurd (omega arith)) (written n marked_word has)
+    at (Mark caller n) h has = grind (arith, written)
     at (Finish caller n keys) h has = ⊎_elim (λ old. inl old)
         (λ new. let e = new.1 in let same : keys ≡ k = omega arith in
         inr (caller, ap (λ m. Finish caller m keys) new.0 ∙ ap (λ m. Finish caller node m) same))

@@ -1,7 +1,7 @@
 -- A slot that was passed reads as its word from then on. Serves `laws.frozen_slots_stay`.
 use Rattle.std.proofs.Common.{◌≡◌, ◌≢◌, ℕ, List, [], ◌∷◌, Option, Some, None, refl, sym, ap, ◌∙◌, inl, inr, arith}
 use Rattle.ist_core.specs.Types.{Pair, Event, Pass}
-use Rattle.ist_core.specs.WordTerms.{Ref, Empty, Unset, LeafAt, InnerAt, ChangeAt, RebuildAt, ref_of, word_of, unset_word, Pieces, start, SlotHolds, in_row, change_reads, past_change, past_rebuild, logical}
+use Rattle.ist_core.specs.WordTerms.{Ref, Empty, Unset, LeafAt, InnerAt, ChangeAt, RebuildAt, ref_of, unset_word, Pieces, start, SlotHolds, in_row, past_change, past_rebuild, logical}
 use Rattle.ist_core.specs.LogTerms.{Snapshot, Log, state, Happened, Passes, Enabled, EachEnabled, CanOpen, state_of}
 use Rattle.ist_core.specs.TreeTerms.{CanPass, KeepsWord, holds_it, holds_change, IsClosedOver}
 use Rattle.ist_core.proofs.PlaceLemmas.{anchor_free}
@@ -109,11 +109,4 @@ module _ (pairs : List Pair) (words : ℕ) (opens : CanOpen pairs words) where
           ap (logical ps) (slot_once (state_of pairs words log) node i w v
           (anchor_free pairs words log h) slot k) ∙ ap (past_rebuild ps)
           (past_no_change ps (ref_of v) plain.no_change)
-      at (holds_change x) = let ps = (state_of pairs words log).pieces in
-          let same = slot_once (state_of pairs words log) node i w (word_of (ChangeAt x.base))
-          (anchor_free pairs words log h) slot x.in_slot in
-          ap (logical ps) same
-          ∙ ap (λ o. past_rebuild ps (past_change ps o))
-          (change_read pairs words opens log h x.base x.change x.published)
-          ∙ ap (λ o. past_rebuild ps (change_reads o)) x.published
-          ∙ ap (λ y. past_rebuild ps (ref_of y)) (side_not_yes x.change x.not_yes ∙ x.from)
+      at (holds_change x) = grind (arith, slot_once, anchor_free, change_read, side_not_yes)

@@ -51,19 +51,9 @@ mentioned_here t node i child o (inr h) = at h.1 (o.rows h.0 h.1 h.2) h.3
     at : (p : Piece) → RowNames t.pieces h.0 p → Says h.0 p node i (InnerAt child)
         → InnerHere t.pieces child
     at (Leaf r) names says = absurd says
-    at (Inner r) names says = let it : SlotNames t.pieces h.0 i (Some (InnerAt child)) = subst
-        (λ ref. SlotNames t.pieces h.0 i ref) says.3 (names i says.1 says.2) in it.1
-    at (Change r) names says = ⊎_elim
-        (λ e. let it : SideNames t.pieces r.node r.index (Some (InnerAt child)) = subst
-        (λ ref. SideNames t.pieces r.node r.index ref) e names.0 in it.1)
-        (λ e. let it : SideNames t.pieces r.node r.index (Some (InnerAt child)) = subst
-        (λ ref. SideNames t.pieces r.node r.index ref) e names.1 in it.1)
-        says.2
-    at (Rebuild r) names says = ⊎_elim
-        (λ e. let same : r.target ≡ child = cc in subst (λ b. InnerHere t.pieces b) same names.1)
-        (λ e. let it : RootNames t.pieces r.target (Some (InnerAt child)) = subst
-        (λ ref. RootNames t.pieces r.target ref) e names.2 in it.1)
-        says.2
+    at (Inner r) names says = grind (arith, SlotNames)
+    at (Change r) names says = grind (arith, SideNames)
+    at (Rebuild r) names says = grind (arith, InnerHere, RootNames)
 
 -- ---- what an event names
 
@@ -185,8 +175,7 @@ one_home_from t u New home names new all word = record {
 }
   where
     came : (node i child : ℕ) → Mentions u node i (InnerAt child) → WasNamedOrIsNew InnerAt t New node i child
-    came node i child (inl h) = subst (λ n. WasNamedOrIsNew InnerAt t New n i child) (sym h.0)
-        (subst (λ j. WasNamedOrIsNew InnerAt t New anchor j child) (sym h.1) (word child h.2))
+    came node i child (inl h) = grind arith
     came node i child (inr h) = all h.0 h.1 h.2 node i child h.3
 
     both : (n i k j child : ℕ) → WasNamedOrIsNew InnerAt t New n i child → WasNamedOrIsNew InnerAt t New k j child →

@@ -1,7 +1,7 @@
 -- Each event keeps the conjunct `one_home`. Serves the one-parent law.
-use Rattle.std.proofs.Common.{◌≡◌, ◌≢◌, ℕ, ◌⊎◌, ◌==◌, if◌then◌else◌, true, false, List, Option, Some, None, refl, sym, subst, inl, inr, ◌-◌, ◌≤◌, [], ◌∷◌, ⊎_elim, arith}
+use Rattle.std.proofs.Common.{◌≡◌, ◌≢◌, ℕ, ◌⊎◌, List, Option, Some, None, refl, sym, subst, inl, inr, ◌-◌, ◌≤◌, [], ◌∷◌, ⊎_elim, arith}
 use Rattle.ist_core.specs.Types.{Row, Resolve, Root, Place, Pair, ChangeRow}
-use Rattle.ist_core.specs.WordTerms.{anchor, Ref, InnerAt, ChangeAt, ref_of, word_of, decided_yes, Pieces, Piece, Change, Rebuild, with_inners, changed_at, with_slot, with_root, first_row, words_of, size_of, row_at, inner_of, StandsAt, start}
+use Rattle.ist_core.specs.WordTerms.{anchor, Ref, InnerAt, ChangeAt, ref_of, word_of, Pieces, Piece, Change, Rebuild, with_inners, changed_at, with_slot, with_root, first_row, words_of, size_of, row_at, inner_of, StandsAt, start}
 use Rattle.ist_core.specs.LogTerms.{Among, Each, Snapshot, bases_of, after, side_of, resolved, Log, EachEnabled, state_of}
 use Rattle.ist_core.specs.TreeTerms.{CanResolve, CanRoot, CanPlace, FitsKind, a_put, a_pair, a_remove, a_start, a_finish, Apart, IsWithin, RowsStand}
 use Rattle.ist_core.proofs.OptionLemmas.{each-among, with_inners-some}
@@ -76,13 +76,7 @@ one_home_resolve t caller base h free names home = let change = h.change in
     either : (child : ℕ) → ref_of (side_of h.change) ≡ Some (InnerAt child)
         → (ref_of h.change.from ≡ Some (InnerAt child)) ⊎
         (ref_of h.change.to ≡ Some (InnerAt child))
-    either child = elim (h.change.decision == decided_yes) as
-        (λ v. ref_of (if v then h.change.to else h.change.from) ≡ Some (InnerAt child) →
-        (ref_of h.change.from ≡ Some (InnerAt child)) ⊎
-        (ref_of h.change.to ≡ Some (InnerAt child))) [
-          | true ↦ λ e. inr e
-          | false ↦ λ e. inl e
-        ]
+    either child = grind arith
 
 -- ---- rows of a tree
 

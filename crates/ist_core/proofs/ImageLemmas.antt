@@ -113,23 +113,12 @@ module _ (t u : Snapshot) (words : List ℕ) (image : IsImage t words)
     where
       here : (base : ℕ) (q : Piece) → u.pieces base ≡ Some q → u.pieces node ≡ Some (f p)
           → base ≡ node → StandsAt (slice_set words (node + j) word) base q
-      here base q e now k =
-          let same : f p ≡ q = same_value (u.pieces node) (f p) q now
-          (subst (λ b. u.pieces b ≡ Some q) k e) in
-          subst (λ b. StandsAt (slice_set words (node + j) word) b q) (sym k)
-          (stands_set words node j word p q below
-          (subst (λ x. words_of x ≡ slice_set (words_of p) j word) same is)
-          (stand node p there))
+      here base q e now k = grind (arith, same_value, stands_set)
 
       elsewhere : (base : ℕ) (q : Piece) → u.pieces base ≡ Some q → u.pieces node ≡ Some (f p)
           → base ≢ node → size_of (f p) ≡ length (words_of p)
           → StandsAt (slice_set words (node + j) word) base q
-      elsewhere base q e now k size =
-          let old : ps base ≡ Some q = sym (changed_at-other ps node base f k) ∙ subst
-          (λ qs. qs base ≡ Some q) pieces e in
-          let out = apart node base (f p) q now e (λ x. k (sym x)) in
-          stands_other words base (node + j) word q
-          (⊎_elim (λ l. inl (omega arith)) (λ l. inr (omega arith)) out) (stand base q old)
+      elsewhere base q e now k size = grind (arith, changed_at-other, stands_other)
 
   -- the anchor's slot is written
   pub image_anchor : (ps : Pieces) (word : ℕ)
@@ -189,11 +178,7 @@ module _ (t u : Snapshot) (words : List ℕ) (image : IsImage t words)
       (is ∙ not_there_word out) there pieces (omega arith) (words_of-with_slot r i word))
     where
       not_there : (k : ℕ) → node ≢ anchor → (if node == anchor then anchor_slot_place else k) ≡ k
-      not_there k out = at (node == anchor) refl
-        where
-          at : (v : Bool) → (node == anchor) ≡ v → (if v then anchor_slot_place else k) ≡ k
-          at true e = let same : node ≡ anchor = grind (arith, nat_tests) in absurd (out same)
-          at false e = refl
+      not_there k out = grind (arith, nat_tests)
 
       not_there_word : node ≢ anchor → (if node == anchor then word else t.anchor) ≡ t.anchor
       not_there_word out = at (node == anchor) refl
@@ -223,11 +208,7 @@ slot_found t words node i word image free shaped (in_row r p g) =
     get-words_of_slot r i ∙ g
   where
     not_there : (k : ℕ) → node ≢ anchor → (if node == anchor then anchor_slot_place else k) ≡ k
-    not_there k out = at (node == anchor) refl
-      where
-        at : (v : Bool) → (node == anchor) ≡ v → (if v then anchor_slot_place else k) ≡ k
-        at true e = let same : node ≡ anchor = grind (arith, nat_tests) in absurd (out same)
-        at false e = refl
+    not_there k out = grind (arith, nat_tests)
 
     number : length r.keys + 1 ≡ r.degree
         → slot_place node r.degree i ≡ node + (4 + length r.keys + i)

@@ -106,8 +106,7 @@ module _ (pairs : List Pair) (words : ℕ) (opens : CanOpen pairs words) where
       u = state_of pairs words (event ∷ log)
 
       g : AllGrow (state_of pairs words log).pieces (state_of pairs words (event ∷ log)).pieces
-      g = grow_step (start pairs words) log event h.1
-          (sound (start pairs words) log (sound_start pairs words) h.0)
+      g = grind (arith, grow_step, sound, sound_start)
 
       stands : (base : ℕ) (r : InnerRow) → IsFinishedNode t base → t.pieces base ≡ Some (Inner r)
           → StandsAlike t.pieces u.pieces (IsFinishedNode t) base r

@@ -115,8 +115,7 @@ module _ (pairs : List Pair) (words : ℕ) (opens : CanOpen pairs words) where
       at : ((p : Piece) → (state_of pairs words log).pieces base ≡ Some p → HasRisingKeys p)
           → Comes (start pairs words) log event base q → HasRisingKeys q
       at before (from_old p there g) = grows_rising p q g (before p there)
-      at before (from_born p born g) = grows_rising p q g
-          (born_rising log event base p h.0 h.1 born)
+      at before (from_born p born g) = grind (arith, grows_rising, born_rising)
 
   -- ---- the laws
 

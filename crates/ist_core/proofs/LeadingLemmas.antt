@@ -1,6 +1,6 @@
 -- By which slots a key leads to a node from the anchor, through what is named for slots: this only
 -- grows. Serves the order law.
-use Rattle.std.proofs.Common.{◌≡◌, ℕ, List, [], ◌∷◌, Some, None, refl, sym, ap, ◌∙◌, subst, inl, inr, ⊎_elim, zero, suc, ◌+◌, ◌≤◌, length, drop, slice_get, arith}
+use Rattle.std.proofs.Common.{◌≡◌, ℕ, List, [], ◌∷◌, Some, None, refl, sym, ap, ◌∙◌, subst, inl, inr, zero, suc, ◌+◌, ◌≤◌, length, drop, slice_get, arith}
 use Rattle.ist_core.specs.Types.{Pair, LeafRow, InnerRow, Event}
 use Rattle.ist_core.specs.WordTerms.{child_count, anchor, LeafAt, InnerAt, Piece, Leaf, Inner, Change, Rebuild, start, IsChildFor, of_anchor, of_row, part_lens, Ref, ref_of, parts, first_keys, Pieces, in_row}
 use Rattle.ist_core.specs.LogTerms.{Snapshot, Log, EachEnabled, CanOpen, state_of, Among, Each}
@@ -77,13 +77,9 @@ mentioned_leaf t node i leaf o (inr h) = at h.1 (o.rows h.0 h.1 h.2) h.3
     at : (p : Piece) → RowNames t.pieces h.0 p → Says h.0 p node i (LeafAt leaf)
         → LeafHere t.pieces leaf
     at (Leaf r) says_names says = absurd says
-    at (Inner r) says_names says = subst (λ ref. SlotNames t.pieces h.0 i ref) says.3
-        (says_names i says.1 says.2)
-    at (Change r) says_names says = ⊎_elim
-        (λ e. subst (λ ref. SideNames t.pieces r.node r.index ref) e says_names.0)
-        (λ e. subst (λ ref. SideNames t.pieces r.node r.index ref) e says_names.1) says.2
-    at (Rebuild r) says_names says = ⊎_elim (λ e. absurd (cc))
-        (λ e. subst (λ ref. RootNames t.pieces r.target ref) e says_names.2) says.2
+    at (Inner r) says_names says = grind (arith, SlotNames)
+    at (Change r) says_names says = grind (arith, SideNames)
+    at (Rebuild r) says_names says = grind (arith, RootNames)
 
 -- a way through logical slots is one through what is named for slots
 pub leads_led : (t : Snapshot) (key node : ℕ) → WordsName t → Leads t key node → LedTo t key node

@@ -1,7 +1,7 @@
 -- After each event but an Install leaves still lie where their keys lead. Serves the order law.
-use Rattle.std.proofs.Common.{◌≡◌, ℕ, zero, suc, ◌⊎◌, ◌==◌, if◌then◌else◌, true, false, List, length, replicate, slice_get, Some, None, refl, sym, ap, ◌∙◌, subst, inl, inr}
+use Rattle.std.proofs.Common.{◌≡◌, ℕ, zero, suc, ◌⊎◌, List, length, replicate, slice_get, Some, None, refl, sym, ap, ◌∙◌, subst, inl, inr, arith}
 use Rattle.ist_core.specs.Types.{LeafRow, InnerRow, Resolve}
-use Rattle.ist_core.specs.WordTerms.{degree, anchor, Ref, Unset, LeafAt, InnerAt, ChangeAt, ref_of, word_of, unset_word, decided_yes, Pieces, Piece, Leaf, Inner, Change, changed_at, with_slot}
+use Rattle.ist_core.specs.WordTerms.{degree, anchor, Ref, Unset, LeafAt, InnerAt, ChangeAt, ref_of, word_of, unset_word, Pieces, Piece, Leaf, Inner, Change, changed_at, with_slot}
 use Rattle.ist_core.specs.LogTerms.{Among, Each, Snapshot, after, side_of, resolved}
 use Rattle.ist_core.specs.TreeTerms.{PlacedLeaf, CanResolve, IsRoot, root_whole, root_top, AllGrow}
 use Rattle.ist_core.proofs.OptionLemmas.{each-among, same_value, same_inner}
@@ -32,8 +32,7 @@ lies_from t u grows on names lie all word = record
   where
     came : (node i leaf : ℕ) → Mentions u node i (LeafAt leaf) → WasNamedOrIsNew LeafAt t (LeafLies u) node i
         leaf
-    came node i leaf (inl h) = subst (λ n. WasNamedOrIsNew LeafAt t (LeafLies u) n i leaf) (sym h.0)
-        (subst (λ j. WasNamedOrIsNew LeafAt t (LeafLies u) anchor j leaf) (sym h.1) (word leaf h.2))
+    came node i leaf (inl h) = grind (arith, WasNamedOrIsNew, LeafLies)
     came node i leaf (inr h) = all h.0 h.1 h.2 node i leaf h.3
 
     from : (node i leaf : ℕ) → WasNamedOrIsNew LeafAt t (LeafLies u) node i leaf → LeafLies u node i leaf
@@ -84,12 +83,7 @@ lies_resolve t caller base h free names grows on lie = let change = h.change in
   where
     either : (leaf : ℕ) → ref_of (side_of h.change) ≡ Some (LeafAt leaf)
         → (ref_of h.change.from ≡ Some (LeafAt leaf)) ⊎ (ref_of h.change.to ≡ Some (LeafAt leaf))
-    either leaf = elim (h.change.decision == decided_yes) as
-        (λ v. ref_of (if v then h.change.to else h.change.from) ≡ Some (LeafAt leaf) →
-        (ref_of h.change.from ≡ Some (LeafAt leaf)) ⊎ (ref_of h.change.to ≡ Some (LeafAt leaf))) [
-          | true ↦ λ e. inr e
-          | false ↦ λ e. inl e
-        ]
+    either leaf = grind arith
 
 -- ---- rows of a tree
 

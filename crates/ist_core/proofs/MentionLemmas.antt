@@ -2,7 +2,7 @@
 -- `laws.parents_are_one`.
 use Rattle.std.proofs.Common.{◌≡◌, ◌≢◌, ℕ, ◌⊎◌, List, ◌∷◌, Option, Some, None, refl, sym, ap, ◌∙◌, subst, inl, inr, ⊎_elim, arith}
 use Rattle.ist_core.specs.Types.{Pair, ChangeRow, Event, Install, Resolve, Place}
-use Rattle.ist_core.specs.WordTerms.{Ref, Empty, Unset, LeafAt, InnerAt, ChangeAt, RebuildAt, ref_of, Piece, Leaf, Inner, Change, Rebuild, start, SlotHolds, in_anchor, in_row, change_reads, past_change, rebuild_reads, past_rebuild}
+use Rattle.ist_core.specs.WordTerms.{Ref, Empty, Unset, LeafAt, InnerAt, ChangeAt, RebuildAt, ref_of, Piece, Leaf, Inner, Change, Rebuild, start, SlotHolds, in_anchor, in_row, past_change, rebuild_reads, past_rebuild}
 use Rattle.ist_core.specs.LogTerms.{Snapshot, side_of, Log, GoesOn, same_log, one_event, EachEnabled, CanOpen, state_of}
 use Rattle.ist_core.specs.TreeTerms.{IsChild, AllGrow}
 use Rattle.ist_core.proofs.ReferenceLemmas.{ref_of-unset}
@@ -84,8 +84,7 @@ module _ (pairs : List Pair) (words : ℕ) (opens : CanOpen pairs words) where
   mentions_step log event h node i ref no_change set (inr m) = at m.1 m.2 m.3
     where
       grows : AllGrow (state_of pairs words log).pieces (state_of pairs words (event ∷ log)).pieces
-      grows = grow_step (start pairs words) log event h.1
-          (sound (start pairs words) log (sound_start pairs words) h.0)
+      grows = grind (arith, grow_step, sound, sound_start)
 
       at : (p : Piece) → (state_of pairs words log).pieces m.0 ≡ Some p → Says m.0 p node i ref
           → Mentions (state_of pairs words (event ∷ log)) node i ref
@@ -153,11 +152,7 @@ past_change_mentioned t node i word ref o slot e = at (ref_of word) refl
   where
     at : (x : Option Ref) → ref_of word ≡ x → SlotNames t.pieces node i x
         → past_change t.pieces x ≡ Some ref → Mentions t node i ref
-    at (Some (ChangeAt base)) is h f =
-        let side : ref_of (side_of h.row) ≡ Some ref = sym (ap change_reads h.published) ∙ f in
-        subst (λ n. Mentions t n i ref) h.node_is
-        (subst (λ j. Mentions t h.row.node j ref) h.index
-        (side_mentioned t base h.row ref h.published side))
+    at (Some (ChangeAt base)) is h f = grind (arith, Mentions, side_mentioned)
     at (Some Empty) is h f = slot_mentions t node i word ref slot (is ∙ f)
     at (Some Unset) is h f = slot_mentions t node i word ref slot (is ∙ f)
     at (Some (LeafAt base)) is h f = slot_mentions t node i word ref slot (is ∙ f)
@@ -195,8 +190,7 @@ child_mentioned t node i child o c = at (past_change t.pieces (ref_of c.word)) r
     at (Some Empty) is e = absurd (cc)
     at (Some Unset) is e = absurd (cc)
     at (Some (LeafAt base)) is e = absurd (cc)
-    at (Some (ChangeAt base)) is e = past_change_mentioned t node i c.word (InnerAt child) o c.holds
-        (is ∙ e)
+    at (Some (ChangeAt base)) is e = grind (arith, past_change_mentioned)
     at None is e = absurd (cc)
 
 -- an inner row is the child of one slot only, now and before

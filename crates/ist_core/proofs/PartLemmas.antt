@@ -89,22 +89,15 @@ part_len-le n j r h k l =
     many : (s : ℕ) → n < (s + 1) * (s + 1) → s ≤ r → degree n ≡ max 2 s → 2 ≤ s
         → part_len n j ≤ r + 2
     many s b c e a =
-        cases (n / degree n) (n % degree n) (part_len-long n j) (part_len-short n j) whole
-      where
-        whole : s * (n / degree n) + n % degree n ≡ n
-        whole = let same : degree n ≡ s = omega arith in
-            let product = ap (λ d. d * (n / degree n)) same in omega (arith, least_degree-le n)
-
-        cases : (q o : ℕ) → (j < o → part_len n j ≡ q + 1) → (o ≤ j → part_len n j ≡ q)
-            → s * q + o ≡ n → part_len n j ≤ r + 2
-        cases q o long short w = ⊎_elim
-            (λ (z : j < o).
-            let less = quotient_root_more n s q o (omega arith) w b (omega arith) in
-            omega (arith, long z))
-            (λ (z : o ≤ j).
-            let most = quotient_root n s q o (omega arith) w b in
-            omega (arith, short z))
-            (cases_lt j o)
+        grind (
+          arith,
+          part_len-long,
+          part_len-short,
+          least_degree-le,
+          quotient_root_more,
+          quotient_root,
+          cases_lt,
+        )
 
 -- ---- parts together
 

@@ -150,31 +150,13 @@ module _ (pairs : List Pair) (words : ℕ) where
       stood : (base : ℕ) (p : Piece) → (state_of pairs words (event ∷ log)).pieces base ≡ Some p
           → (q : Piece) × ((state_of pairs words log).pieces base ≡ Some q)
           → Claimed log base (size_of p)
-      stood base p e q = let there = m.stays base q.0 q.1 in
-          let same = same_value ((state_of pairs words (event ∷ log)).pieces base) p there.0 e
-          there.1 in
-          subst (λ z. Claimed log base z) (sym (ap size_of same ∙ there.2))
-          (k.published base q.0 q.1)
+      stood base p e q = grind (arith, same_value)
 
       -- a row that was held has the size that was held
       was_held : (base : ℕ) (p : Piece) → (state_of pairs words (event ∷ log)).pieces base ≡ Some p
           → (h : HeldRow) × Among h (state_of pairs words log).held × (h.base ≡ base)
           → Claimed log base (size_of p)
-      was_held base p e h =
-          let here : (state_of pairs words (event ∷ log)).pieces h.0.base ≡ Some p = subst
-          (λ b. (state_of pairs words (event ∷ log)).pieces b ≡ Some p) (sym h.2) e in
-          subst (λ b. Claimed log b (size_of p)) h.2
-          (⊎_elim
-          (λ w. ⊎_elim
-          (λ i. absurd (no_value ((state_of pairs words (event ∷ log)).pieces h.0.base) p
-          (v.unpublished h.0 i) here))
-          (λ there. subst (λ z. Claimed log h.0.base z)
-          (sym (ap size_of (same_value ((state_of pairs words (event ∷ log)).pieces h.0.base) p
-          there.0 here there.1) ∙ there.2)) (k.held h.0 h.1))
-          w)
-          (λ l. absurd (no_value ((state_of pairs words (event ∷ log)).pieces h.0.base) p
-          (lost_free log event h.0.base l (s.unpublished h.0 h.1)) here))
-          (m.fate h.0 h.1))
+      was_held base p e h = grind (arith, no_value, same_value, lost_free)
 
   placed_reserve : (log : Log) (c b z : ℕ) → IsPlaced log (state_of pairs words log)
       → IsPlaced (Reserve c b z ∷ log) (state_of pairs words (Reserve c b z ∷ log))

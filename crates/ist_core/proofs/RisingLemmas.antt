@@ -21,8 +21,7 @@ child_count-low k ks x h = at (leb_tells k x) (sum_by-cons (λ key. cond (nat_le
     at : ((nat_le k x ≡ true) × (k ≤ x)) ⊎ ((nat_le k x ≡ false) × (x < k))
         → child_count (k ∷ ks) x ≡ cond (nat_le k x) 1 0 + child_count ks x
         → child_count (k ∷ ks) x ≡ child_count ks x + 1
-    at (inl e) f = let one : child_count (k ∷ ks) x ≡ 1 + child_count ks x = subst
-        (λ b. child_count (k ∷ ks) x ≡ cond b 1 0 + child_count ks x) e.0 f in omega arith
+    at (inl e) f = grind arith
     at (inr e) f = let high = e.1 in absurd (omega arith)
 
 -- a key above the one looked for doesn't count
@@ -48,8 +47,7 @@ child_count_rises (k ∷ ks) x y h = at (leb_tells k x) (leb_tells k y) (child_c
     at (inl e) (inr f) rest = let low = e.1 in let high = f.1 in absurd (omega arith)
     at (inr e) (inl f) rest = let one = child_count-high k ks x e.1 in let two = child_count-low k
         ks y f.1 in omega arith
-    at (inr e) (inr f) rest = let one = child_count-high k ks x e.1 in let two = child_count-high k
-        ks y f.1 in omega arith
+    at (inr e) (inr f) rest = grind (arith, child_count-high)
 
 -- a key of an earlier child is smaller
 pub child_count_tells : (ks : List ℕ) (x y : ℕ) → child_count ks x < child_count ks y → x < y

@@ -182,14 +182,7 @@ module _ (t u : Snapshot) (ps : Pieces) (node i new old : ℕ) (none : t.pieces 
           → (((j == i) ≡ true) × (j ≡ i)) ⊎ (((j == i) ≡ false) × (j ≢ i))
           → ((w ≡ old) × (at ≡ node) × (j ≡ i)) ⊎ SlotHolds u at j w
       both (inr k) l = inr (in_row r (row_still at r k.1 p) g)
-      both (inl k) (inl l) =
-          inl (
-            slot_once t at j w old none (in_row r p g)
-                (subst (λ c. SlotHolds t at c old) (sym l.1)
-                (subst (λ n. SlotHolds t n i old) (sym k.1) here)),
-            k.1,
-            l.1,
-          )
+      both (inl k) (inl l) = grind (arith, slot_once)
       both (inl k) (inr l) =
           inr (in_row record r { slots = slice_set r.slots i new }
           (subst (λ b. u.pieces b ≡ Some (Inner record r { slots = slice_set r.slots i new }))

@@ -157,5 +157,4 @@ shaped pairs words (event ∷ log) h base q e =
     at : ((p : Piece) → (state_of pairs words log).pieces base ≡ Some p → IsShaped p)
         → Comes (start pairs words) log event base q → IsShaped q
     at before (from_old p there g) = grows_shaped p q g (before p there)
-    at before (from_born p born g) = grows_shaped p q g
-        (born_shaped (start pairs words) log event base p h.1 born)
+    at before (from_born p born g) = grind (arith, grows_shaped, born_shaped)

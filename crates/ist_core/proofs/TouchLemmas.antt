@@ -1,8 +1,8 @@
 -- Which word each event finds at its place. Serves the image law.
-use Rattle.std.proofs.Common.{◌≡◌, ◌≢◌, ℕ, ◌+◌, ◌==◌, if◌then◌else◌, Bool, true, false, List, slice_get, Some, None, refl, sym, ap, ◌∙◌, subst, arith, zero, suc, [], ◌∷◌, slice_set, Option, option_map}
+use Rattle.std.proofs.Common.{◌≡◌, ◌≢◌, ℕ, ◌+◌, List, slice_get, Some, None, refl, sym, ap, ◌∙◌, subst, arith, zero, suc, [], ◌∷◌, slice_set, Option}
 use Rattle.std.proofs.lemmas.Bool.Decides.{nat_tests}
 use Rattle.ist_core.specs.Types.{Pair, Event, Enter, Reserve, Install, Okay, Decide, Resolve, Count, Mark, Pass, Finish, Root, Draw, Place, Lose}
-use Rattle.ist_core.specs.WordTerms.{anchor, anchor_status_place, unset_word, open_word, Inner, Change, Rebuild, as_inner, as_change, as_rebuild, IsImage, start, SlotHolds, in_row, IsOpen, anchor_is, row_is, ChangeAt, word_of, marked_word, finished_word, Pieces, Piece, with_inners, changed_at, with_slot, with_status, with_decision}
+use Rattle.ist_core.specs.WordTerms.{anchor, unset_word, open_word, Inner, Change, Rebuild, as_inner, as_change, as_rebuild, IsImage, start, SlotHolds, in_row, IsOpen, anchor_is, row_is, ChangeAt, word_of, marked_word, finished_word, Pieces, Piece, with_inners, changed_at, with_slot, with_status, with_decision}
 use Rattle.ist_core.specs.LogTerms.{Snapshot, Log, Enabled, EachEnabled, CanOpen, state_of, after, decision_word}
 use Rattle.ist_core.specs.ImageLaws.{IsNoLose, Touches}
 use Rattle.ist_core.specs.TreeTerms.{touch_of, touch_of_okay, touch_of_resolve, touch_of_count, touch_of_draw, touch_of_place, touch_in_root, place_of_slot, place_of_status, Touch, touched, published_by, RowsStand}
@@ -27,12 +27,7 @@ status_found t words node image free (row_is r p e) =
     p 0 (omega arith) ∙ ap (λ x. Some x) e
   where
     place : node ≢ anchor → place_of_status node ≡ node + 0
-    place out = at (node == anchor) refl
-      where
-        at : (v : Bool) → (node == anchor) ≡ v
-            → (if v then anchor_status_place else node + 0) ≡ node + 0
-        at true e = let same : node ≡ anchor = grind (arith, nat_tests) in absurd (out same)
-        at false e = refl
+    place out = grind (arith, nat_tests)
 
 module _ (pairs : List Pair) (words : ℕ) (opens : CanOpen pairs words) (log : Log)
     (enabled : EachEnabled (start pairs words) log) (ws : List ℕ)
@@ -146,17 +141,7 @@ module _ (pairs : List Pair) (words : ℕ) (opens : CanOpen pairs words) where
       none : (o : Option Piece) → qs anchor ≡ o
           → (state_of pairs words (event ∷ log)).pieces anchor ≡ None → qs anchor ≡ None
       none None e free = e
-      none (Some p) e free = absurd (changed_there (anchor == at) refl)
-        where
-          changed_there : (v : Bool) → (anchor == at) ≡ v → ⊥
-          changed_there v is = clash v (sym
-              (ap (λ b. if b then option_map f (qs anchor) else qs anchor) is) ∙ sym
-              (ap (λ ps. ps anchor) pieces) ∙ free) e
-            where
-              clash : (b : Bool) → (if b then option_map f (qs anchor) else qs anchor) ≡ None
-                  → qs anchor ≡ Some p → ⊥
-              clash true x y = cc (sym (ap (option_map f) y) ∙ x)
-              clash false x y = cc (sym y ∙ x)
+      none (Some p) e free = grind arith
 
   -- a step that leaves what it finds changes no word
   image_loaded : (log : Log) (event : Event) → EachEnabled (start pairs words) (event ∷ log)

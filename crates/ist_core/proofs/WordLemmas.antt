@@ -77,8 +77,7 @@ words_bound_up_to (suc top) (suc (suc m)) h k = many (suc (suc m)) (omega arith)
   where
     many : (n : ℕ) → 2 ≤ n → ((j : ℕ) → ideal_words (part_len n j) + 7 ≤ 9 * part_len n j)
         → ideal_words n + 7 ≤ 9 * n
-    many n l parts = let below = sum_parts-le ideal_words n parts in
-        omega (arith, ideal_words_many n l, least_degree-le n)
+    many n l parts = grind (arith, sum_parts-le, ideal_words_many, least_degree-le)
 
 -- an ideal tree takes at least 7 words less than nine a key
 pub ideal_words-le : (n : ℕ) → 1 ≤ n → ideal_words n + 7 ≤ 9 * n
@@ -182,8 +181,7 @@ depth_step n keys levels shallow small = ⊎_elim few many (cases_lt n 2)
         deepest (max a (depth (part_len n j))) js h (omega arith)
 
     many : 2 ≤ n → depth n ≤ suc levels
-    many h = let all = deepest 0 (range_with_len 0 (degree n)) h (omega arith) in
-        omega (arith, depth_many n h)
+    many h = grind (arith, deepest, depth_many)
 
 -- a number whose next square is above the keys bounds the parts, and so a tree one level deeper
 deeper : (root keys levels : ℕ) → 2 ≤ root → root + 2 ≤ keys → IsShallow keys levels

@@ -1,5 +1,5 @@
 -- Each change is decided once, so few are decided yes. Serves `laws.counts_are_low`.
-use Rattle.std.proofs.Common.{◌≡◌, ◌≢◌, ℕ, zero, suc, ◌+◌, ◌<◌, ◌≤◌, ◌⊎◌, ◌==◌, if◌then◌else◌, Bool, true, false, not, List, [], ◌∷◌, length, Some, option_map, refl, sym, ap, ◌∙◌, subst, inl, inr, arith}
+use Rattle.std.proofs.Common.{◌≡◌, ◌≢◌, ℕ, zero, suc, ◌+◌, ◌<◌, ◌≤◌, ◌⊎◌, ◌==◌, if◌then◌else◌, Bool, true, false, not, List, [], ◌∷◌, length, Some, option_map, refl, sym, ap, ◌∙◌, inl, inr, arith}
 use Rattle.std.proofs.lemmas.Bool.Decides.{eqb_tells}
 use Rattle.ist_core.specs.Types.{Pair, InnerRow, ChangeRow, Event, Enter, Reserve, Install, Okay, Decide, Resolve, Count, Mark, Pass, Finish, Root, Draw, Place, Lose}
 use Rattle.ist_core.specs.WordTerms.{place_limit, undecided, decided_yes, Pieces, Inner, Change, with_decision, start, decided_yes_in}
@@ -23,11 +23,8 @@ drop_below x n (y ∷ ys) h is = at (drop_below x n ys h.1 is) (y == x) (eqb_tel
     at : Each (λ z. z < n) (drop_all x ys) → (v : Bool)
         → (((y == x) ≡ true) × (y ≡ x)) ⊎ (((y == x) ≡ false) × (y ≢ x))
         → Each (λ z. z < n) (if not (y == x) then y ∷ drop_all x ys else drop_all x ys)
-    at rest v (inl k) = subst (λ b. Each (λ z. z < n)
-        (if not b then y ∷ drop_all x ys else drop_all x ys)) (sym k.0) rest
-    at rest v (inr k) = let low = h.0 in
-        subst (λ b. Each (λ z. z < n) (if not b then y ∷ drop_all x ys else drop_all x ys))
-        (sym k.0) ((let ne : y ≢ n = λ e. k.1 (e ∙ sym is) in omega arith), rest)
+    at rest v (inl k) = grind (arith, drop_all)
+    at rest v (inr k) = grind (arith, drop_all)
 
 drop_distinct : (x : ℕ) (xs : List ℕ) → Distinct xs → Distinct (drop_all x xs)
 drop_distinct x [] h = tt
@@ -46,8 +43,7 @@ drop_absent x (y ∷ ys) none = at (drop_absent x ys (λ i. none (inr i))) (y ==
         → (((y == x) ≡ true) × (y ≡ x)) ⊎ (((y == x) ≡ false) × (y ≢ x))
         → (if not (y == x) then y ∷ drop_all x ys else drop_all x ys) ≡ y ∷ ys
     at rest v (inl k) = absurd (none (inl (sym k.1)))
-    at rest v (inr k) = ap (λ b. if not b then y ∷ drop_all x ys else drop_all x ys) k.0 ∙ ap
-        (λ zs. y ∷ zs) rest
+    at rest v (inr k) = grind (arith, drop_all)
 
 -- dropping one number shortens such a list by one at most
 drop_few : (x : ℕ) (xs : List ℕ) → Distinct xs → length xs ≤ length (drop_all x xs) + 1
@@ -57,12 +53,8 @@ drop_few x (y ∷ ys) h = at (drop_few x ys h.1) (y == x) (eqb_tells y x)
     at : length ys ≤ length (drop_all x ys) + 1 → (v : Bool)
         → (((y == x) ≡ true) × (y ≡ x)) ⊎ (((y == x) ≡ false) × (y ≢ x))
         → length (y ∷ ys) ≤ length (if not (y == x) then y ∷ drop_all x ys else drop_all x ys) + 1
-    at rest v (inl k) =
-        let same = ap length (drop_absent x ys (subst (λ z. ¬ (Among z ys)) k.1 h.0)) in
-        subst (λ b. length (y ∷ ys) ≤ length (if not b then y ∷ drop_all x ys else drop_all x ys) +
-        1) (sym k.0) (omega arith)
-    at rest v (inr k) = subst (λ b. length (y ∷ ys) ≤ length
-        (if not b then y ∷ drop_all x ys else drop_all x ys) + 1) (sym k.0) (omega arith)
+    at rest v (inl k) = grind (arith, drop_absent, drop_all)
+    at rest v (inr k) = grind (arith, drop_all)
 
 -- there are at most n distinct numbers below n
 pub distinct_below : (n : ℕ) (xs : List ℕ) → Distinct xs → Each (λ x. x < n) xs → length xs ≤ n

@@ -105,8 +105,7 @@ came_before pairs words number old _ h (one_more {log = log} event l other) base
         → ChangeComes (start pairs words) log base r ev
         → (x : ChangeRow) × ((state_of pairs words old).pieces base ≡ Some (Change x))
     at ev ne before (stood x there g) = before x there (sym (ap (λ y. y.owner) g.others) ∙ own)
-    at _ ne before (is_installed {caller = caller} k g) =
-        absurd (ne (ap Caller (sym k.owned ∙ sym (ap (λ y. y.owner) g.others) ∙ own)))
+    at _ ne before (is_installed {caller = caller} k g) = grind arith
 
 -- if all changes of a caller are resolved and none on the node was decided no, none is later
 unrefused_later : (pairs : List Pair) (words number node : ℕ) (old log : Log)

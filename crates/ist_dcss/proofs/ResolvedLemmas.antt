@@ -44,9 +44,7 @@ resolved_but_on pairs words log event number base enabled only all b r there own
         → (b ≡ base) ⊎ Happened (Resolves b) (event ∷ log)
     at (stood old was g) is = ⊎_elim (λ k. inl k) (λ h. inr (inr h))
         (all b old was (sym (grows_same_change g).1 ∙ owned))
-    at (is_installed {rows = rows} h g) is =
-        inl (only b rows (is ∙ ap (λ n. Install n b rows)
-        (sym h.owned ∙ sym (grows_same_change g).1 ∙ owned)))
+    at (is_installed {rows = rows} h g) is = grind (arith, grows_same_change)
 
 -- all others stay resolved while the caller only makes steps that serve the change
 resolved_but_later : (pairs : List Pair) (words : ℕ) (number base : ℕ) (old log : Log)

@@ -39,8 +39,7 @@ module _ (v : View) (s : IsSound v) (key : ℕ) where
       → ComesBy v.start v.words v.log key v.loads.since least node rows → node < child
       → IsNode (now v) child → IsRow v child
   row_met least last node child rows c up (is_inner r e) = record { row = r; published = e }
-  row_met least last node child rows c up (is_anchor e) =
-      let high = node_high least node rows c in absurd (omega arith)
+  row_met least last node child rows c up (is_anchor e) = grind (arith, node_high)
 
   -- and all rows that the search met are published
   pub rows_met : (last node : ℕ) (rows : List ℕ)
@@ -59,8 +58,7 @@ module _ (v : View) (s : IsSound v) (key : ℕ) where
 -- a published row costs the same in a later log
 row_cost_on : (v w : View) → GoesOnTo v w → (key row : ℕ) → IsRow v row
     → row_cost w key row ≡ row_cost v key row
-row_cost_on v w g key row r =
-    ap (λ keys. distance (guess_in keys key) (child_count keys key) + 12) (keys_on v w g row r)
+row_cost_on v w g key row r = grind (arith, keys_on)
 
 -- so do rows together
 pub cost_on : (v w : View) → GoesOnTo v w → (key : ℕ) (rows : List ℕ) → Each (IsRow v) rows
@@ -73,11 +71,7 @@ cost_on v w g key (row ∷ rows) h = sum_by-append (row_cost w key) (row ∷ [])
 -- one row more costs what it costs
 pub cost_more : (v : View) (key : ℕ) (rows : List ℕ) (row : ℕ)
     → cost_of v key (rows ++ row ∷ []) ≡ cost_of v key rows + row_cost v key row
-cost_more v key rows row = sum_by-append (row_cost v key) rows (row ∷ [])
-    ∙ ap (λ n. cost_of v key rows + n) (from_zero (row_cost v key row))
-  where
-    from_zero : (n : ℕ) → 0 + n ≡ n
-    from_zero n = omega arith
+cost_more v key rows row = grind (arith, sum_by-append)
 
 -- ---- a look
 
@@ -98,8 +92,7 @@ look_cost v u m n s g key node i r (of_row row e is) first more = let keys = key
 -- a look at a row above is counted too
 pub spent_on : (v w u : View) (node base loads more : ℕ) → HasSpent v w node loads → node < base
     → base < 2 ^ 28 → u.loaded ≡ w.loaded + more → more < 2 ^ 31 → HasSpent v u base (loads + more)
-spent_on v w u node base loads more h up low count less = let so_far = h.count in let few = h.few in
-    record { count = omega arith; few = omega arith; low = low }
+spent_on v w u node base loads more h up low count less = grind arith
 
 -- ---- the search
 

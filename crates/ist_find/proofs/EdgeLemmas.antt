@@ -1,5 +1,5 @@
 -- The ends of a span are keys of rows, and stay so. Serves `spans`.
-use Rattle.std.proofs.Common.{◌≡◌, ℕ, zero, suc, ◌+◌, ◌^◌, ◌<◌, ◌≤◌, ⊎_elim, List, [], ◌∷◌, length, get_or, sym, ◌∙◌, subst, inl, inr, arith, ◌≢◌, ◌-◌, ◌++◌, Option, ap, refl}
+use Rattle.std.proofs.Common.{◌≡◌, ℕ, zero, suc, ◌+◌, ◌^◌, ◌<◌, ◌≤◌, List, [], ◌∷◌, length, get_or, sym, ◌∙◌, subst, inl, inr, arith, ◌≢◌, ◌-◌, ◌++◌, Option, ap, refl}
 use Rattle.std.proofs.lemmas.Bool.{cases_lt}
 use Rattle.ist_core.specs.LogTerms.{Among, Snapshot}
 use Rattle.ist_rule.specs.RuleTerms.{now, GoesOnTo, IsSound, Turned, searching}
@@ -51,26 +51,14 @@ no_edges t last top = ((λ some. absurd (omega arith)), (λ more. absurd (omega 
 -- the keys of a row narrow the ends to edges
 row_edge : (v : View) (node key : ℕ) → IsRow v node → Among key (keys_at v node)
     → IsEdge (now v) key
-row_edge v node key r among = record {
-  base = node;
-  row = r.row;
-  published = r.published;
-  among = subst (Among key) (keys_are v node r) among;
-}
+row_edge v node key r among = grind (arith, keys_are)
 
 -- a range that is narrowed to keys of a row still ends at edges
 pub edges_row : (v : View) (node : ℕ) → IsRow v node → (first last low high : ℕ)
     → EndAtEdges (now v) first last → first ≤ low → high ≤ last
     → (first < low → Among low (keys_at v node))
     → (high < last → Among (high + 1) (keys_at v node)) → EndAtEdges (now v) low high
-edges_row v node r first last low high h from to left right = (
-  (λ some. ⊎_elim (λ (l : first < low). row_edge v node low r (left l))
-      (λ (l : low ≤ first). subst (IsEdge (now v)) (omega arith) (h.0 (omega arith)))
-      (cases_lt first low)),
-  (λ more. ⊎_elim (λ (l : high < last). row_edge v node (high + 1) r (right l))
-      (λ (l : last ≤ high). subst (IsEdge (now v)) (omega arith) (h.1 (omega arith)))
-      (cases_lt high last)),
-)
+edges_row v node r first last low high h from to left right = grind (arith, row_edge, cases_lt)
 
 -- ---- a search for a key, look after look, and what it ends with. Serves `finding`.
 
@@ -112,8 +100,7 @@ search_begins v b w t key i n ref l = let begun = ap (λ x. x.loaded) t.view in
 -- fewer words lie after it than after the node
 pub fewer_left : {w x : View} {node base : ℕ} → LiesAbove w node base → GoesOnTo w x
     → x.words - base < w.words - node
-fewer_left lies g = let up = lies.up in let inside = lies.inside in
-    let same = ap (λ v. v.words) g.same in omega arith
+fewer_left lies g = grind arith
 
 module _ (v w : View) (key node i loads : ℕ) (ref : Ref) (h : SearchIsAt v w key node i loads ref) where
   -- if it read an inner row, it has come there

@@ -1,10 +1,10 @@
 -- Looks at the keys of a row: one after the other, and by a gallop. Serves `keys`.
-use Rattle.std.proofs.Common.{◌≡◌, ◌∙◌, ℕ, suc, ◌+◌, ◌-◌, ◌*◌, ◌<◌, ◌≤◌, nat_le, nat_lt, cond, Bool, true, false, List, length, get_or, take, refl, sym, ap, arith}
+use Rattle.std.proofs.Common.{◌≡◌, ◌∙◌, ℕ, suc, ◌+◌, ◌-◌, ◌*◌, ◌<◌, ◌≤◌, nat_le, nat_lt, cond, true, false, List, length, get_or, take, refl, sym, ap, arith}
 use Rattle.std.proofs.lemmas.Bool.Decides.{nat_tests}
 use Rattle.std.proofs.lemmas.List.Sums.{count_by_more_yes, count_by_more_no}
 use Rattle.ist_core.specs.WordTerms.{child_count}
 use Rattle.ist_math.specs.declared.gallops.Gallop.{Gallop}
-use Rattle.ist_math.specs.Guess.{guess_of, guess_in, distance}
+use Rattle.ist_math.specs.Guess.{guess_of, guess_in}
 use Rattle.ist_math.specs.Gallops.{Gallops}
 use Rattle.ist_math.proofs.GallopLemmas.{guess_of-between, end-near, end-far}
 use Rattle.ist_math.proofs.ChildLemmas.{HasGalloped, galloped_on, galloped_to, looks_fit, child_is_first, child_is_last, child_most}
@@ -91,26 +91,7 @@ pub galloped_first : (keys : List ℕ) (x from : ℕ) (g : Gallop) → from < le
     → g.low ≡ cond (nat_lt x (get_or keys from 0)) 0 from
     → g.high ≡ cond (nat_lt x (get_or keys from 0)) from (length keys - 1) → Gallops g from 1
     → HasGalloped keys x from g 1
-galloped_first keys x from g less first last = by (nat_lt x (get_or keys from 0)) refl
-  where
-    by : (above : Bool) → nat_lt x (get_or keys from 0) ≡ above → g.low ≡ cond above 0 from
-        → g.high ≡ cond above from (length keys - 1) → Gallops g from 1
-        → HasGalloped keys x from g 1
-    by true test low high gallops = let over : x < get_or keys from 0 = grind (arith, nat_tests) in
-        let a = ap (λ n. get_or keys n 0) low in let b = ap (λ n. get_or keys n 0) high in record {
-          within = omega arith;
-          below = omega arith;
-          above = omega arith;
-          gallops = gallops;
-        }
-    by false test low high gallops =
-        let under : get_or keys from 0 ≤ x = grind (arith, nat_tests) in
-        let a = ap (λ n. get_or keys n 0) low in let b = ap (λ n. get_or keys n 0) high in record {
-          within = omega arith;
-          below = omega arith;
-          above = omega arith;
-          gallops = gallops;
-        }
+galloped_first keys x from g less first last = grind (arith, HasGalloped, nat_tests)
 
 -- and the load of that key was its first look
 pub run_begins : (v w : View) → IsSound v → (node from key : ℕ) (g : Gallop) (word : ℕ)
@@ -206,26 +187,13 @@ module _ {v u : View} (s : IsSound v) (g : GoesOnTo v u) (two : u.loaded ≡ v.l
       → (1 ≤ from) × (from < count) × (get_or (keys_at u node) 0 0 ≤ key)
       × (key < get_or (keys_at u node) (length (keys_at u node) - 1) 0)
   guess_between {first = first} {last = last} one other is many low high =
-      let same = keys_on v u g node r in
-      let between = guess_of-between first last count key many low high in
-      let first_on = ap (λ ks. get_or ks 0 0) same in
-      let last_on = ap (λ ks. get_or ks (length ks - 1) 0) same in
-      (omega arith, omega arith, omega arith, omega arith)
+      grind (arith, keys_on, guess_of-between)
 
   -- any other key has the one that was found from the guess
   pub child_between : {w : View} {from child loads : ℕ} → from ≡ guess_in (keys_at v node) key
       → FindsChild u w node key count from 0 child loads
       → FindsChild v w node key count (guess_in (keys_at v node) key) 2 child (loads + 2)
-  child_between {w = w} {child = child} is f = let away = ap (λ n. distance n child) is in
-      let near = f.few in let counted = f.counted in let fits = f.fits in record {
-        seen = goes_on_more v u w g f.seen;
-        counted = omega arith;
-        few = omega arith;
-        far = λ k less. let few = f.far k (omega arith) in omega arith;
-        fits = omega arith;
-        value = f.value ∙ ap (λ ks. child_count ks key) (keys_on v u g node r);
-        within = f.within;
-      }
+  child_between {w = w} {child = child} is f = grind (arith, goes_on_more, keys_on)
 
 -- in a row of few keys all of them may be loaded
 pub few_counted : (v w : View) (node key count child : ℕ) → GoesOnTo v w → w.loaded ≡ v.loaded + count

@@ -1,8 +1,8 @@
 -- A caller's loads in terms of one log, as the laws on searches need them. Serves `reading` and
 -- `finding`.
-use Rattle.std.proofs.Common.{◌≡◌, ℕ, ◌≤◌, List, length, refl, sym, ap, subst, le_refl, ◌≢◌, zero, suc, ◌+◌, ◌<◌, [], ◌∷◌, ◌++◌, slice_get, get_or, Some, ◌∙◌, arith, length-append}
+use Rattle.std.proofs.Common.{◌≡◌, ℕ, ◌≤◌, List, length, refl, sym, ap, subst, ◌≢◌, zero, suc, ◌+◌, ◌<◌, [], ◌∷◌, ◌++◌, slice_get, get_or, Some, ◌∙◌, arith, length-append}
 use Rattle.ist_core.specs.declared.pairs.Pair.{Pair}
-use Rattle.ist_core.specs.LogTerms.{Log, GoesOn, same_log, state_of, IsShown}
+use Rattle.ist_core.specs.LogTerms.{Log, GoesOn, state_of, IsShown}
 use Rattle.ist_rule.specs.RuleTerms.{GoesOnTo, Looked, IsSound, now}
 use Rattle.ist_rule.specs.declared.view.View.{View}
 use Rattle.ist_rule.specs.declared.view.TableName.{TableName}
@@ -27,8 +27,7 @@ use Rattle.ist_find.specs.Searches.{IsRow, keys_in, keys_at}
 -- what holds for the first view's table holds for the second's
 pub by_table : (v w : View) → GoesOnTo v w → (P : List Pair → ℕ → Type 0) → P v.start v.words
     → P w.start w.words
-by_table v w g P h = subst (λ p. P p w.words) (sym (ap (λ x. x.start) g.same))
-    (subst (P v.start) (sym (ap (λ x. x.words) g.same)) h)
+by_table v w g P h = grind arith
 
 -- its log goes on
 pub goes_log : (v w : View) → GoesOnTo v w → GoesOn v.log w.log
@@ -45,21 +44,13 @@ pub shown_load : (pairs : List Pair) (words : ℕ) (log : Log) (place word least
     → ((shown : ℕ) → IsShown (state_of pairs words log) place shown → word ≡ shown)
     → least ≤ length log
     → IsLoad pairs words log place least record { place = place; word = word; length = length log }
-shown_load pairs words log place word least stood low = record {
-  tells = λ x h. stood x
-      (subst (λ l. IsShown (state_of pairs words l) place x) (at_prefix log log same_log)
-      h);
-  place_is = refl;
-  since = low;
-  within = le_refl (length log);
-}
+shown_load pairs words log place word least stood low = grind (arith, at_prefix)
 
 -- what a load of the caller gave is a load of that log
 pub looked_load : (v : View) (place word : ℕ) (w : View) → Looked v place word w → (at : ℕ)
     → place ≡ at → (least : ℕ) → least ≤ length w.log
     → IsLoad w.start w.words w.log at least (loaded_in w at word)
-looked_load v place word w l at is least low = shown_load w.start w.words w.log at word least
-    (λ x s. l.stood x (subst (λ p. IsShown (state_of w.start w.words w.log) p x) (sym is) s)) low
+looked_load v place word w l at is least low = grind (arith, shown_load)
 
 -- a load stays one when the caller goes on
 pub load_later : (v w : View) → GoesOnTo v w → (at word least : ℕ)
@@ -80,8 +71,7 @@ row_on v w g node r =
 
 -- a published row isn't the anchor
 pub not_anchor : (v : View) → IsSound v → (base : ℕ) → IsRow v base → base ≢ anchor
-not_anchor v s base r e =
-    no_row (now v).pieces base r.row (anchor_free v.start v.words v.log s.lawful.enabled) e r.published
+not_anchor v s base r e = grind (arith, no_row, anchor_free)
 
 -- the keys of a node are its row's
 pub keys_are : (v : View) (node : ℕ) (r : IsRow v node) → keys_at v node ≡ r.row.keys

@@ -1,6 +1,6 @@
 -- Looks at slots and the nodes that a search reaches, by what a caller has loaded. Serves
 -- `finding`.
-use Rattle.std.proofs.Common.{◌≡◌, ◌≢◌, ℕ, ◌<◌, ◌≤◌, ◌⊎◌, List, [], ◌∷◌, ◌++◌, length, Some, refl, sym, subst, inl, inr}
+use Rattle.std.proofs.Common.{◌≡◌, ◌≢◌, ℕ, ◌<◌, ◌≤◌, ◌⊎◌, List, [], ◌∷◌, ◌++◌, length, Some, refl, sym, subst, inl, inr, arith}
 use Rattle.std.proofs.Math.Nat.{le_trans}
 use Rattle.ist_core.specs.declared.loads.Load.{Load}
 use Rattle.ist_core.specs.declared.pairs.Pair.{Pair}
@@ -87,11 +87,7 @@ comes_later v w g key last node rows comes =
 -- so it has still come there
 pub come_later : (v w : View) → GoesOnTo v w → (key node : ℕ) (rows : List ℕ)
     → HasCome v key node rows → HasCome w key node rows
-come_later v w g key node rows h = record {
-  last = h.last;
-  until = le_trans h.until (goes_length v w g);
-  comes = comes_later v w g key h.last node rows h.comes;
-}
+come_later v w g key node rows h = grind (arith, le_trans, goes_length, comes_later)
 
 -- the child, the side and the target together are a look at the slot
 pub look_since : (v u t w : View) (key least node i word side : ℕ) (ref : Ref) → GoesOnTo v u

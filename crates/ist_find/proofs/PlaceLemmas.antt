@@ -1,13 +1,13 @@
 -- The slot of a key in a node: it stays the key's slot, and where its keys end. Serves `children`
 -- and `sweeping`.
-use Rattle.std.proofs.Common.{◌≡◌, ◌≢◌, ◌⊎◌, ℕ, ◌+◌, ◌<◌, ◌≤◌, ◌==◌, true, false, length, get_or, refl, sym, ap, ◌∙◌, inl, inr, le_refl, arith}
+use Rattle.std.proofs.Common.{◌≡◌, ◌≢◌, ℕ, ◌+◌, ◌<◌, ◌≤◌, length, get_or, sym, ap, ◌∙◌, le_refl, arith}
 use Rattle.std.proofs.Math.Nat.{le_trans}
 use Rattle.std.proofs.lemmas.Bool.Decides.{eqb_tells}
-use Rattle.ist_core.specs.WordTerms.{child_count, anchor, Ref, IsChildFor, of_anchor}
+use Rattle.ist_core.specs.WordTerms.{child_count, anchor, Ref, IsChildFor}
 use Rattle.ist_core.specs.LogTerms.{Among}
 use Rattle.ist_math.specs.Guess.{guess_in, distance}
 use Rattle.ist_math.proofs.ChildLemmas.{key_after_child}
-use Rattle.ist_rule.specs.RuleTerms.{IsSound, now, GoesOnTo, is_anchor, is_inner}
+use Rattle.ist_rule.specs.RuleTerms.{IsSound, now, GoesOnTo, is_inner}
 use Rattle.ist_rule.specs.declared.view.View.{View}
 use Rattle.ist_rule.proofs.EventLemmas.{goes_on_more}
 use Rattle.ist_find.specs.Searches.{IsRow, keys_at}
@@ -31,11 +31,7 @@ at_on v w s g node key i count a = record {
 
 -- the anchor has one slot, and no keys
 pub anchor_at : (v : View) → IsSound v → (node key : ℕ) → node ≡ anchor → IsSlotForKey v node key 0 0
-anchor_at v s node key e = record {
-  node_is = is_anchor e;
-  count_is = sym (ap length (no_keys v s node e));
-  child = of_anchor e refl;
-}
+anchor_at v s node key e = grind (arith, no_keys)
 
 -- in a row it is the number of the row's keys that are at most the key
 pub row_at : (v u w : View) → GoesOnTo v u → GoesOnTo u w → (node key i count : ℕ) → IsRow v node
@@ -51,23 +47,14 @@ row_at v u w g h node key i count r long is = let there = row_on v u g node r in
 -- what it takes to find the first slot of a row
 pub row_starts : (v : View) (node key : ℕ) → node ≢ anchor
     → starting v node key ≡ distance (guess_in (keys_at v node) key) (child_count (keys_at v node) key) + 6
-row_starts v node key other = at (eqb_tells node anchor)
-  where
-    at : (((node == anchor) ≡ true) × (node ≡ anchor)) ⊎ (((node == anchor) ≡ false) × (node ≢ anchor))
-        → starting v node key
-        ≡ distance (guess_in (keys_at v node) key) (child_count (keys_at v node) key) + 6
-    at (inl t) = absurd (other t.1)
-    at (inr t) = rw t.0 refl
+row_starts v node key other = grind (arith, eqb_tells)
 
 -- and it takes few loads to find it
 pub few_to_start : (v w : View) → GoesOnTo v w → (node key i count loads : ℕ) → node ≢ anchor → IsRow v node
     → IsSlotForKey w node key i count → loads ≤ distance (guess_in (keys_at v node) key) i + 6
     → loads ≤ starting v node key
 few_to_start v w g node key i count loads other r a few =
-    let is = row_child w node key i other a.child
-    ∙ ap (λ ks. child_count ks key) (keys_on v w g node r) in
-    let near = ap (λ n. distance (guess_in (keys_at v node) key) n) is in
-    let start = row_starts v node key other in omega arith
+    grind (arith, row_child, keys_on, row_starts)
 
 -- ---- where its keys end
 

@@ -1,5 +1,5 @@
 -- What a word reads as, by the loads of its change, its rebuild or its leaf. Serves `reading`.
-use Rattle.std.proofs.Common.{◌≡◌, ◌≢◌, ℕ, ◌+◌, ◌≤◌, ◌==◌, Bool, true, false, length, slice_get, Option, Some, None, refl, sym, ap, ◌∙◌, subst, le_refl, ⊎_elim}
+use Rattle.std.proofs.Common.{◌≡◌, ◌≢◌, ℕ, ◌+◌, ◌≤◌, ◌==◌, length, slice_get, Option, Some, None, refl, sym, ap, ◌∙◌, subst, le_refl, arith}
 use Rattle.std.proofs.lemmas.Bool.Decides.{eqb_tells}
 use Rattle.std.proofs.Math.Nat.{le_trans}
 use Rattle.ist_core.specs.WordTerms.{change_decision_offset, change_from_offset, change_to_offset, rebuild_target_offset, leaf_key_offset, leaf_value_offset, Ref, Empty, Unset, LeafAt, InnerAt, ChangeAt, RebuildAt, ref_of, decided_yes, Change, Rebuild, words_of}
@@ -49,8 +49,7 @@ side_named v node i (Some Unset) h = absurd h
 side_named v node i (Some (LeafAt base)) h = (record { row = h.0; published = h.1 }, λ b e. cc)
 side_named v node i (Some (InnerAt base)) h = (record { row = h.1.0; published = h.1.1 }, λ b e. cc)
 side_named v node i (Some (ChangeAt base)) h = absurd h
-side_named v node i (Some (RebuildAt base)) h =
-    (record { row = h.row; published = h.published }, λ b e. cc)
+side_named v node i (Some (RebuildAt base)) h = grind arith
 
 -- and what a slot may hold names a published row or no row
 pub slot_named : (v : View) (node i : ℕ) (ref : Option Ref) → SlotNames (now v).pieces node i ref
@@ -139,12 +138,7 @@ module _ (v u w : View) (word base decision side p q : ℕ) (is : ref_of word �
   -- the word of the change that its decision selects is what the slot reads as
   pub side_told : (offset : ℕ) → q ≡ base + offset → offset ≡ outcome_offset_of (decision == decided_yes)
       → TellsSide v w word side
-  side_told offset there which =
-      let place : (b : Bool) → (decision == decided_yes) ≡ b
-      → q ≡ base + outcome_offset_of b =
-      λ b e. there ∙ ap (λ n. base + n) (which ∙ ap outcome_offset_of e) in
-      ⊎_elim (λ e. yes e.1 (place true e.0)) (λ e. no e.1 (place false e.0))
-      (eqb_tells decision decided_yes)
+  side_told offset there which = grind (arith, yes, no, eqb_tells)
 
 -- a word that names no change reads as itself
 pub no_change_told : (v : View) → IsSound v → (word : ℕ) → Names v (ref_of word)

@@ -1,10 +1,10 @@
 -- A search from its begin to its end, as it knows it. Serves `find_from_anchor`.
-use Rattle.std.proofs.Common.{◌≡◌, ℕ, List, [], length, Option, sym, ap, ◌∙◌, subst, arith, ◌≢◌, Some, None, refl, inl, le_refl}
+use Rattle.std.proofs.Common.{◌≡◌, ℕ, List, [], length, Option, sym, ap, ◌∙◌, subst, arith, ◌≢◌, Some, None, refl, inl}
 use Rattle.std.proofs.Math.Nat.{le_trans}
 use Rattle.ist_core.specs.declared.pairs.Pair.{Pair}
 use Rattle.ist_core.specs.WordTerms.{anchor, Ref, start, IsChildFor, child_count, of_anchor, of_row}
-use Rattle.ist_core.specs.LogTerms.{Log, GoesOn, state_of, Later, Snapshot, same_log, EachEnabled, CanOpen}
-use Rattle.ist_core.specs.TreeTerms.{WasLinked, place_of_slot, map_of, changes_of, map_after_entries, AllGrow, IsChild, Leads, from_anchor, down}
+use Rattle.ist_core.specs.LogTerms.{Log, GoesOn, state_of, Snapshot, same_log, EachEnabled, CanOpen}
+use Rattle.ist_core.specs.TreeTerms.{WasLinked, place_of_slot, AllGrow, IsChild, Leads, from_anchor, down}
 use Rattle.ist_core.proofs.AllLogLemmas.{child_remains, grow_between, goes_on_length, enabled_before, inner_there, goes_on_more}
 use Rattle.ist_rule.specs.RuleTerms.{IsSound, now, GoesOnTo, Turned, searching}
 use Rattle.ist_rule.specs.declared.view.View.{View}
@@ -42,27 +42,7 @@ begun_comes v w key t = at_anchor w key t.sound
 
 -- a caller that has begun a search and gone on by loads has searched
 pub has_searched : (v b w : View) → Turned v (searching v) b → GoesOnTo b w → HasSearched v w
-has_searched v b w t g =
-    let since : w.loads.since ≡ length b.log = g.since ∙ ap (λ x. x.loads.since) t.view in
-    let low = goes_on_length (later-goes_on t.later) in let one = ap (λ x. x.loaded) t.view in
-    let more = g.loaded in let begun = ap (λ x. x.searches) t.view in
-    let kept = ap (λ x. x.searches) g.same in record {
-      later = later_more t.later (subst (λ x. Later x b.log w.log) (ap (λ x. x.who) t.view) g.later);
-      sound = g.sound;
-      same = g.same ∙ ap {B = View} (λ (x : View). record x {
-        log = w.log;
-        loads = w.loads;
-        loaded = w.loaded;
-      }) t.view ∙ ap {B = View} (λ n. record v {
-        log = w.log;
-        loads = w.loads;
-        loaded = w.loaded;
-        searches = n;
-      }) (sym (kept ∙ begun));
-      searches = kept ∙ begun;
-      since = omega arith;
-      loaded = omega arith;
-    }
+has_searched v b w t g = grind (arith, goes_on_length, later-goes_on, later_more)
 
 -- ---- the end
 
@@ -140,9 +120,7 @@ found_position v b w t g key node i value f =
 -- the node was linked
 pub found_linked : (w : View) → IsSound w → (key node i : ℕ) (value : Option ℕ)
     → HasFound w key node i value → WasLinked (start w.start w.words) w.log node
-found_linked w s key node i value f =
-    (node_met w.start w.words s.lawful.opens w.log s.lawful.enabled key w.loads.since
-    f.searched.least node f.searched.comes).linked
+found_linked w s key node i value f = grind (arith, node_met)
 
 -- the slot is the one of the child for the key
 pub found_child : (w : View) → IsSound w → (key node i : ℕ) (value : Option ℕ)
@@ -185,9 +163,7 @@ module _ (opened : List Pair) (words : ℕ) (opens : CanOpen opened words) where
   pub leads_later : (earlier log : Log) → GoesOn earlier log → EachEnabled (start opened words) log
       → (one key node : ℕ) → Leads (state_of opened words earlier) key node
       → Leads (state_of opened words log) one node → Leads (state_of opened words log) key node
-  leads_later earlier log g h one key node led other = leads_too log h one key node other
-      (was_led opened words opens log h key node
-      (ever_at (start opened words) (λ t. Leads t key node) earlier log g led))
+  leads_later earlier log g h one key node led other = grind (arith, leads_too, was_led, ever_at)
 
   -- a key that leads to a child leads to the node in whose slot it hung
   pub leads_above : (earlier log : Log) → GoesOn earlier log → EachEnabled (start opened words) log
@@ -235,10 +211,4 @@ module _ (opened : List Pair) (words : ℕ) (opens : CanOpen opened words) where
 pub had_at : (opened : List Pair) (words : ℕ) (earlier at : Log) → GoesOn earlier at → (key : ℕ)
     (value : Option ℕ) → value ≡ fin.get (map_now opened words at) key
     → HasPosition opened words earlier at key value
-had_at opened words earlier at since key value is = let all = changes_of opened words at in record {
-  position = length all;
-  from = changes_rise (start opened words) earlier at since;
-  to = le_refl (length all);
-  value_is = is ∙ ap (λ es. fin.get (map_after_entries (map_of opened) es) key)
-      (sym (take_all (length all) all (le_refl (length all))));
-}
+had_at opened words earlier at since key value is = grind (arith, changes_rise, take_all)

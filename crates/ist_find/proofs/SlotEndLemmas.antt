@@ -2,7 +2,7 @@
 use Rattle.std.proofs.Common.{◌≡◌, ◌≢◌, ℕ, ◌+◌, ◌-◌, ◌<◌, ◌≤◌, List, [], length, get_or, refl, sym, ap, ◌∙◌, subst, ⊎_elim, arith}
 use Rattle.std.proofs.lemmas.Bool.{cases_lt}
 use Rattle.std.specs.List.Sorted.{IsStrictlyIncreasing}
-use Rattle.ist_core.specs.WordTerms.{child_count, anchor, as_inner, IsChildFor, of_anchor, of_row, InnerAt}
+use Rattle.ist_core.specs.WordTerms.{child_count, anchor, IsChildFor, of_anchor, of_row, InnerAt}
 use Rattle.ist_core.specs.LogTerms.{Among}
 use Rattle.ist_core.proofs.AllPlaceLemmas.{anchor_free}
 use Rattle.ist_math.proofs.ChildLemmas.{child_count_is, child_most, key_before_child}
@@ -11,13 +11,12 @@ use Rattle.ist_rule.specs.declared.view.View.{View}
 use Rattle.ist_layout.specs.declared.references.Ref as coded
 use Rattle.ist_layout.specs.declared.references.Ref.TheVariants.{Empty, Unset, Leaf, Inner, Change, Rebuild}
 use Rattle.ist_layout.specs.Meanings.{ref_meant}
-use Rattle.ist_find.specs.Searches.{keys_in, keys_at}
+use Rattle.ist_find.specs.Searches.{keys_at}
 use Rattle.ist_find.proofs.LoadLemmas.{keys_are, keys_on}
 
 -- the anchor has no keys
 pub no_keys : (v : View) → IsSound v → (node : ℕ) → node ≡ anchor → keys_at v node ≡ []
-no_keys v s node e = ap (λ p. keys_in (as_inner p))
-    (ap (now v).pieces e ∙ anchor_free v.start v.words v.log s.lawful.enabled)
+no_keys v s node e = grind (arith, anchor_free)
 
 -- so no key is an edge between its slots
 pub one_slot : (v : View) → IsSound v → (node : ℕ) → node ≡ anchor → (key : ℕ)
@@ -62,10 +61,7 @@ module _ (keys : List ℕ) (rises : IsStrictlyIncreasing keys) (from i to last :
       (more : to < last) where
     -- if keys are left after its end, the slot isn't the node's last one
     pub slot_more : i < length keys
-    slot_more = ⊎_elim (λ l. l)
-        (λ (ge : length keys ≤ i). let no = most (to + 1) (omega arith) (λ l. absurd (omega arith)) in
-        absurd (omega arith))
-        (cases_lt i (length keys))
+    slot_more = grind (arith, cases_lt)
 
     next_key : to + 1 ≡ get_or keys i 0
     next_key = let u = under slot_more in ⊎_elim

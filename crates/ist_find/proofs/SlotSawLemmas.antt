@@ -60,17 +60,12 @@ led_node v s first last node some h =
 -- if keys led to a node after a log, they do so for a caller that goes on by loads
 pub led_on : (v w : View) → GoesOnTo v w → (at : Log) (first last node : ℕ) → AllLed v at first last node
     → AllLed w at first last node
-led_on v w g at first last node led k low high =
-    by_table v w g (λ p n. Leads (state_of p n at) k node) (led k low high)
+led_on v w g at first last node led k low high = grind (arith, by_table)
 
 -- so do keys that were led there at some moment
 pub were_led_on : (v w : View) → GoesOnTo v w → (first last node : ℕ) → WereLed v first last node
     → WereLed w first last node
-were_led_on v w g first last node h = record {
-  at = h.at;
-  until = goes_on_more h.until (goes_log v w g);
-  led = led_on v w g h.at first last node h.led;
-}
+were_led_on v w g first last node h = grind (arith, goes_on_more, goes_log, led_on)
 
 -- ---- the look
 

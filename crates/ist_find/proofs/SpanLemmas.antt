@@ -27,9 +27,7 @@ use Rattle.ist_find.proofs.SearchLemmas.{look_later, has_found, found_since}
 pub child_shared : (u w : View) → IsSound u → GoesOnTo u w → (node key k i : ℕ)
     → IsChildFor (now u) node key i → IsChildFor (now w) node k i → IsChildFor (now u) node k i
 child_shared u w s g node key k i (of_anchor e f) later = of_anchor e f
-child_shared u w s g node key k i (of_row r e f) (of_anchor a b) =
-    let high = fixed_row u.start u.words u.log s.lawful.enabled node 0 (Inner r) e in
-    absurd (omega arith)
+child_shared u w s g node key k i (of_row r e f) (of_anchor a b) = grind (arith, fixed_row)
 child_shared u w s g node key k i (of_row r e f) (of_row q d h) =
     let row : IsRow u node = record { row = r; published = e } in
     let same : q.keys ≡ r.keys =
@@ -176,8 +174,7 @@ node_row v node other (is_inner r e) = record { row = r; published = e }
 pub row_child : (v : View) (node key i : ℕ) → node ≢ anchor → IsChildFor (now v) node key i
     → i ≡ child_count (keys_at v node) key
 row_child v node key i other (of_anchor e f) = absurd (other e)
-row_child v node key i other (of_row r e f) =
-    f ∙ ap (λ ks. child_count ks key) (sym (keys_are v node record { row = r; published = e }))
+row_child v node key i other (of_row r e f) = grind (arith, keys_are)
 
 -- a node stays one when the caller goes on by loads, with the same child for a key
 pub node_later : (v w : View) → GoesOnTo v w → (node : ℕ) → IsNode (now v) node

@@ -31,8 +31,7 @@ use Rattle.ist_find.proofs.SlotSawLemmas.{SlotSaw, slot_saw, led_on, were_led_on
 begins_at : (v : View) → IsSound v → (at : Log) → GoesOn at v.log → (first last low node : ℕ)
     → first ≤ last → AllLed v at first last node → (low ≡ first) ⊎ Among low (keys_at v node)
     → (low ≡ first) ⊎ IsEdge (state_of v.start v.words at) low
-begins_at v s at g first last low node some led b = ⊎_elim (λ e. inl e)
-    (λ a. inr (edge_then v s at g first node low (led first (omega arith) some) a)) b
+begins_at v s at g first last low node some led b = grind (arith, edge_then)
 
 -- the keys of a row were the same at an earlier moment at which some key led to it
 keys_then : (v : View) → IsSound v → (at : Log) → GoesOn at v.log → (key base : ℕ) → IsRow v base
@@ -210,17 +209,4 @@ module _ (v u w : View) (node first low high last i count spent : ℕ) (ref : Re
       where
         under_node : HasSwept v x first (high + 1) last node 0 spent old new
             → HasSwept v x first (high + 1) last node node spent old new
-        under_node y = record {
-          found = y.found;
-          are = y.are;
-          sweeps = λ began f led. let s = y.sweeps began f led in let low = s.under in record {
-            at = s.at;
-            until = s.until;
-            led = s.led;
-            row = s.row;
-            under = omega arith;
-            loads = s.loads;
-            few = s.few;
-            swept = s.swept;
-          };
-        }
+        under_node y = grind arith

@@ -4,7 +4,7 @@ use Rattle.std.specs.Prelude.{IfSome, OnOk}
 use Rattle.ist_core.specs.declared.pairs.Pair.{Pair}
 use Rattle.ist_core.specs.WordTerms.{anchor, Ref, InnerAt, start}
 use Rattle.ist_core.specs.TreeTerms.{from_anchor, AllGrow}
-use Rattle.ist_core.specs.LogTerms.{same_log, Among, Snapshot, Log, GoesOn, EachEnabled, state_of}
+use Rattle.ist_core.specs.LogTerms.{same_log, Snapshot, Log, GoesOn, EachEnabled, state_of}
 use Rattle.ist_core.proofs.AllLogLemmas.{goes_on_more, enabled_before, grow_between, inner_there}
 use Rattle.ist_rule.specs.RuleTerms.{GoesOnTo, IsSound}
 use Rattle.ist_rule.specs.declared.view.View.{View}
@@ -110,13 +110,7 @@ swept_between v w sound first last old new (Ok x) h =
 
 -- an edge stays one when rows grow
 edge_grows : (t u : Snapshot) → AllGrow t.pieces u.pieces → (key : ℕ) → IsEdge t key → IsEdge u key
-edge_grows t u g key e = let on = inner_there t.pieces u.pieces g e.base e.row e.published in
-    record {
-      base = e.base;
-      row = on.0;
-      published = on.1;
-      among = subst (Among key) (sym on.2.keys) e.among;
-    }
+edge_grows t u g key e = grind (arith, inner_there)
 
 module _ (opened : List Pair) (words : ℕ) where
   -- a sweep ends at a later log
@@ -184,6 +178,4 @@ pub later_edge : (opened : List Pair) (words : ℕ) (a b : Log) → GoesOn a b
     → EachEnabled (start opened words) b → (key named : ℕ)
     → (key ≡ named) ⊎ IsEdge (state_of opened words a) key
     → (key ≡ named) ⊎ IsEdge (state_of opened words b) key
-later_edge opened words a b on h key named e = ⊎_elim (λ f. inl f)
-    (λ f. inr (edge_grows (state_of opened words a) (state_of opened words b)
-    (grow_between opened words a b h on) key f)) e
+later_edge opened words a b on h key named e = grind (arith, edge_grows, grow_between)

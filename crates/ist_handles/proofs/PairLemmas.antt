@@ -1,5 +1,5 @@
 -- What is written to a caller's memory. Serves `pairs.rt`, `pieces.rt` and `shot_pieces.rt`.
-use Rattle.std.proofs.Common.{◌≡◌, ℕ, List, take, Option, Some, None, sym, subst}
+use Rattle.std.proofs.Common.{◌≡◌, ℕ, List, take, Option, Some, None, sym, subst, arith}
 use Rattle.ist_core.specs.declared.pairs.Pair.{Pair}
 use Rattle.ist_handles.specs.declared.pieces.Piece.{Piece}
 use Rattle.ist_handles.specs.Results.{done, no_key}
@@ -18,6 +18,4 @@ wrote_not found place is = subst (λ (o : Option Pair). Wrote o no_key place pla
 pub piece_said : (Says : Option ℕ → List Pair → Type 0) (piece : Piece) (next : Option ℕ) (count : ℕ)
     (room : List Pair) → next_key piece ≡ next → piece.count ≡ count → Says next (take count room)
     → Says (next_key piece) (take piece.count room)
-piece_said Says piece next count room next_is count_is says =
-    subst (λ (k : Option ℕ). Says k (take piece.count room)) (sym next_is)
-    (subst (λ (n : ℕ). Says next (take n room)) (sym count_is) says)
+piece_said Says piece next count room next_is count_is says = grind arith

@@ -1,5 +1,6 @@
 -- What a handle holds owns nothing that names a thread. Of a closed tree these are its words, and the right to free
 -- them. Serves `Opaque`. Assumes `Logic`.
+use Rattle.std.proofs.Common.{arith}
 use mathlib.Core.Bool.{Bool, true, false}
 use mathlib.Core.List.{List, [], ◌∷◌}
 use mir.Syntax.{Ty}
@@ -10,13 +11,12 @@ use denote.RattleType.{RattleType}
 use denote.Memory.{lone}
 use denote.RawPtr.{Ptr, block_ptr, null_ptr, room_for, in_block, ◌+ₚ◌}
 use denote.Builtin.{RawPtr, usize}
-use denote.Param.Send.{IsSend, AllSend, owning_send, struct_send, sendable}
-use denote.Struct.Struct.{exits_of}
-use denote.Struct.Owning.{shape, fields, to}
+use denote.Param.Send.{IsSend, sendable}
+use denote.Struct.Owning.{to}
 use Rattle.core.specs.Mem.Slots.Ownership.{bytes_of, slot, slots}
 use Rattle.core.specs.contracts.slots.Slots as slots_row
 use Rattle.core.specs.contracts.slots.Lease as lease
-use Rattle.std_alloc.proofs.SendSync.{quiet, lies}
+use Rattle.std_alloc.proofs.SendSync.{lies}
 use Rattle.std.proofs.Crossing as crossing
 use Rattle.std.specs.contracts.alloc.Global as heap
 use Rattle.std.specs.contracts.impls.GlobalAllocator.TheImpl.{ghosts}
@@ -66,9 +66,7 @@ ns = search sendable
 
 -- a row of places may go to another thread if what is in them may
 slots_send : (R : RattleType) → IsSend R → IsSend (slots_row.the_field R).row
-slots_send R s = let O = slots_row.the_type R in let all : AllSend (fields O) = (ps, (ns, tt)) in
-    owning_send O all (λ d. (tt, inside d.ptr _ (places R s d.ptr d.items d.filled)))
-    (λ k. quiet (to O) (exits_of k (fields O)) ((struct_send (shape O) all).leaving k))
+slots_send R s = grind (arith, ps, ns, inside, places)
 
 -- and so may the right to free it
 lease_send : (R : RattleType) → IsSend (lease.the_field R heap.the_row ghosts).row

@@ -4,11 +4,11 @@ use Rattle.std.specs.Prelude.{IfSome}
 use Rattle.std.proofs.lemmas.List.{take_all}
 use Rattle.ist_core.specs.declared.pairs.Pair.{Pair}
 use Rattle.ist_core.specs.LogTerms.{Lawful}
-use Rattle.ist_core.specs.TreeTerms.{pairs_between, pairs_of}
+use Rattle.ist_core.specs.TreeTerms.{pairs_between}
 use Rattle.ist_tree.specs.CallTerms.{PassFace, IsFrozenFor}
 use Rattle.ist_tree.specs.declared.freezing.Frozen.{Frozen}
 use Rattle.ist_live.specs.Pieces.{end_of}
-use Rattle.ist_scan.specs.Shots.{HasOnlyLooked, ArePairsOf, map_seen}
+use Rattle.ist_scan.specs.Shots.{HasOnlyLooked, ArePairsOf}
 use Rattle.ist_scan.specs.Walks.{WalkFace, AreOneWalk, IsWalkOfPass}
 use Rattle.ist_scan.proofs.PairLemmas.{rise}
 use Rattle.ist_scan.proofs.ShotLemmas.{looked_not, looked_more, of_pairs, some_pairs}
@@ -53,13 +53,7 @@ read_to_none p shot first last pairs none = record { looked = looked_not p; fron
 pub walk_on : (q m : PassFace) (w v : WalkFace) (shot : Frozen) (first last count : ℕ)
     → IsWalkOf m w shot first last count → AreOneWalk w v → v.given ≡ w.given + 1 → IsWalkOfPass q v
     → IsWalkOf q v shot first last (count + 1)
-walk_on q m w v shot first last count walk one given way = record {
-  shot_is = one.shot ∙ walk.shot_is;
-  first_is = one.first ∙ walk.first_is;
-  last_is = one.last ∙ walk.last_is;
-  given_is = given ∙ ap (λ n. n + 1) walk.given_is;
-  way = way;
-}
+walk_on q m w v shot first last count walk one given way = grind arith
 
 -- ---- pieces
 
@@ -68,11 +62,7 @@ piece_of : (p : PassFace) (shot : Frozen) (first last : ℕ) (next : Option ℕ)
     → Lawful p.tree.start p.tree.words p.seen
     → ((all : List Pair) → ArePairsOf p shot all → pairs ≡ pairs_between first (end_of next last) all)
     → IfSome next (λ key. (first < key) × (key ≤ last)) → IsShotPiece p shot first last next pairs
-piece_of p shot first last next pairs lawful by goes = record {
-  by_pairs = by;
-  of_map = λ position o. by (pairs_of (map_seen p position)) (of_pairs p position shot lawful o);
-  goes_on = goes;
-}
+piece_of p shot first last next pairs lawful by goes = grind (arith, of_pairs)
 
 module _ (p m q : PassFace) (shot : Frozen) (first last count : ℕ) (pairs : List Pair) (w : WalkFace)
     (found : Option Pair) (read : IsShotReadTo p m shot first last count pairs)
@@ -85,11 +75,7 @@ module _ (p m q : PassFace) (shot : Frozen) (first last count : ℕ) (pairs : Li
 
   came : (all : List Pair) → ArePairsOf p shot all
       → slice_get (pairs_between first last all) count ≡ found
-  came all h =
-      sym (next all (read.looked.pairs shot all h)
-      ∙ ap (λ n. slice_get (pairs_between n w.last all) w.given) walk.first_is
-      ∙ ap (λ n. slice_get (pairs_between first n all) w.given) walk.last_is
-      ∙ ap (slice_get (pairs_between first last all)) walk.given_is)
+  came all h = grind arith
 
   -- if the walk found none, the pairs are all of the interval
   pub piece_ends : Lawful p.tree.start p.tree.words p.seen → found ≡ None
@@ -102,8 +88,7 @@ module _ (p m q : PassFace) (shot : Frozen) (first last count : ℕ) (pairs : Li
       (some : found ≡ Some pair) where
     -- the pair is in the interval
     pub bounds : (first ≤ pair.key) × (pair.key ≤ last)
-    bounds = let it = some_pairs p shot lawful frozen in
-        let i = inside it.0 first last count pair (came it.0 it.1 ∙ some) in (i.2, i.3)
+    bounds = grind (arith, some_pairs, inside)
 
     module _ (more : List Pair) (pushed : more ≡ pairs ++ pair ∷ []) where
       -- with it, these are the first pairs of the interval
@@ -117,9 +102,7 @@ module _ (p m q : PassFace) (shot : Frozen) (first last count : ℕ) (pairs : Li
       }
 
       upto_pair : (all : List Pair) → ArePairsOf p shot all → more ≡ pairs_between first pair.key all
-      upto_pair all h = pushed ∙ ap (λ ps. ps ++ pair ∷ []) (read.front all h)
-          ∙ take_next (pairs_between first last all) count pair (came all h ∙ some)
-          ∙ upto all (rise all h.rising) first last count pair (came all h ∙ some)
+      upto_pair all h = grind (arith, take_next, upto, rise)
 
       -- if it is the pair of the last key, they are all
       pub piece_full : pair.key ≡ last → IsShotPiece p shot first last None more

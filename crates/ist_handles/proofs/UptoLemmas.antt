@@ -25,8 +25,7 @@ at_first : (p : Pair) (ps : List Pair) (first last : ℕ) → first ≤ p.key �
     → ((n : ℕ) (x : Pair) → slice_get (pairs_between first last ps) n ≡ Some x → IsInside ps first last x)
     → (n : ℕ) (x : Pair) → slice_get (p ∷ pairs_between first last ps) n ≡ Some x
     → IsInside (p ∷ ps) first last x
-at_first p ps first last from to rest zero x at = let same : p ≡ x = cc in
-    (0, at, subst (λ (q : Pair). first ≤ q.key) same from, subst (λ (q : Pair). q.key ≤ last) same to)
+at_first p ps first last from to rest zero x at = grind arith
 at_first p ps first last from to rest (suc n) x at = later p ps first last x (rest n x at)
 
 -- a pair of an interval is one of all, between both ends
@@ -61,9 +60,7 @@ module _ (p : Pair) (ps : List Pair) (first last : ℕ)
       → (nat_le first p.key && nat_le p.key x.key) ≡ false
       → slice_get (pairs_between first last (p ∷ ps)) n ≡ Some x
       → take (suc n) (pairs_between first last (p ∷ ps)) ≡ pairs_between first x.key (p ∷ ps)
-  upto_out n x out other at = ap (take (suc n)) (left_out first last p ps out)
-      ∙ rest n x (subst (λ l. slice_get l n ≡ Some x) (left_out first last p ps out) at)
-      ∙ sym (left_out first x.key p ps other)
+  upto_out n x out other at = grind (arith, left_out)
 
   -- after a pair that is kept
   upto_in : first ≤ p.key → ((j : ℕ) (y : Pair) → slice_get ps j ≡ Some y → p.key < y.key)
@@ -73,9 +70,7 @@ module _ (p : Pair) (ps : List Pair) (first last : ℕ)
       subst (λ (q : Pair). p ∷ [] ≡ pairs_between first q.key (p ∷ ps)) same
       (sym (kept first p.key p ps (key_within first p.key p.key from (omega arith))
       ∙ ap (λ l. p ∷ l) (none_upto ps first p.key above)))
-  upto_in from above (suc n) x at = let f = inside ps first last n x at in
-      let less = above f.0 x f.1 in ap (λ l. p ∷ l) (rest n x at)
-      ∙ sym (kept first x.key p ps (key_within first x.key p.key from (omega (arith, less))))
+  upto_in from above (suc n) x at = grind (arith, inside, kept, key_within)
 
 -- the first pairs of an interval, up to one of them, are those up to its key
 pub upto : (all : List Pair) → Rise all → (first last n : ℕ) (x : Pair)

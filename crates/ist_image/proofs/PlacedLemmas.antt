@@ -1,5 +1,5 @@
 -- Parts that are cut out of the pairs, and what one of them adds. Serves `laying.rt` and `rows.rt`.
-use Rattle.std.proofs.Common.{◌≡◌, ◌∙◌, ◌+◌, ◌-◌, ◌<◌, ◌≤◌, ℕ, List, [], ◌∷◌, ◌++◌, length, map, take, drop, get_or, suc, refl, sym, ap, subst, arith, length-drop, length-append, append_assoc}
+use Rattle.std.proofs.Common.{◌≡◌, ◌∙◌, ◌+◌, ◌-◌, ◌<◌, ◌≤◌, ℕ, List, [], ◌∷◌, ◌++◌, length, map, take, drop, get_or, refl, sym, ap, subst, arith, length-drop, length-append, append_assoc}
 use Rattle.std.specs.List.{range_with_len}
 use Rattle.std.proofs.lemmas.List.{length-take-le}
 use Rattle.std.proofs.Math.ListN.{set}
@@ -18,9 +18,7 @@ use Rattle.std.proofs.lemmas.List.FromFn.{length-map-range_with_len}
 pub cut_part : (pairs : List Pair) (j start len : ℕ) → start ≡ part_start (length pairs) j
     → len ≡ part_len (length pairs) j
     → take (start + len - start) (drop start pairs) ≡ part_of pairs j
-cut_part pairs j start len e i = let whole : start + len - start ≡ len = omega arith in
-    ap (λ k. take k (drop start pairs)) (whole ∙ i) ∙ ap (λ k. take (part_len (length pairs) j)
-    (drop k pairs)) e
+cut_part pairs j start len e i = grind arith
 
 -- cutting out a part gives its length
 pub length-cut_part : (pairs : List Pair) (start len : ℕ) → start + len ≤ length pairs
@@ -105,34 +103,11 @@ pub row_set : (old mid new : List ℕ) (base d : ℕ) (pairs : List Pair) → 2 
     → new ≡ sets mid (base + 3 + d)
     (map (λ part. word_of (tree_at part.0 part.1)) (placed_parts base pairs))
     → new ≡ sets old base (words_of (top_row base pairs))
-row_set old mid new base d pairs two e i m = let n = length pairs in
-    let keys = first_keys (λ pair. pair.key) (drop 1 (parts pairs)) in
-    let slots = map (λ part. word_of (tree_at part.0 part.1)) (placed_parts base pairs) in
-    let many = keys_of_parts (λ pair. pair.key) pairs two in
-    let fields = λ (w : ℕ). set (set (set (set old base 0) (suc base) 0) (suc (suc base)) w)
-    (suc (suc (suc base))) n in
-    let second : base + 1 ≡ suc base = omega arith in
-    let third : base + 2 ≡ suc (suc base) = omega arith in
-    let fourth : base + 3 ≡ suc (suc (suc base)) = omega arith in
-    let fifth : base + 4 ≡ suc (suc (suc (suc base))) = omega arith in
-    let at : base + 3 + d ≡ suc (suc (suc (suc base))) + length keys = omega arith in
-    let is : mid ≡ sets (fields (degree n)) (suc (suc (suc (suc base)))) keys =
-    i ∙ ap (λ k. sets (set (set (set (set old base 0) k 0) (base + 2) d) (base + 3) n)
-    (base + 4) keys) second
-    ∙ ap (λ k. sets (set (set (set (set old base 0) (suc base) 0) k d) (base + 3) n)
-    (base + 4) keys) third
-    ∙ ap (λ k. sets (set (set (set (set old base 0) (suc base) 0) (suc (suc base)) d) k n)
-    (base + 4) keys) fourth
-    ∙ ap (λ k. sets (fields d) k keys) fifth
-    ∙ ap (λ w. sets (fields w) (suc (suc (suc (suc base)))) keys) e in
-    m ∙ ap (λ k. sets mid k slots) at
-    ∙ ap (λ ws. sets ws (suc (suc (suc (suc base))) + length keys) slots) is
-    ∙ sym (sets-append (fields (degree n)) (suc (suc (suc (suc base)))) keys slots)
+row_set old mid new base d pairs two e i m = grind (arith, keys_of_parts, set, sets, sets-append)
 
 -- there is room for the two words of one pair
 pub leaf_room : (base n whole : ℕ) → 1 ≤ n → n < 2 → base + ideal_words n ≤ whole → base + 2 ≤ whole
-leaf_room base n whole least most room = let one : n ≡ 1 = omega arith in
-    let size = ap ideal_words one ∙ ideal_words_one in omega arith
+leaf_room base n whole least most room = grind (arith, ideal_words_one)
 
 -- the words of no pair, and of one
 pub nothing_set : (words : List ℕ) (base : ℕ) (pairs : List Pair) → length pairs < 1
@@ -147,8 +122,7 @@ pub leaf_set : (words : List ℕ) (base : ℕ) (pairs : List Pair) (default : Pa
     ≡ sets words base (tree_words base pairs)
 unfolding rows_within
 leaf_set words base [] default one = absurd (omega arith)
-leaf_set words base (p ∷ []) default one = ap (λ i. set (set words base p.key) i p.value)
-    (let e : base + 1 ≡ suc base = omega arith in e)
+leaf_set words base (p ∷ []) default one = grind (arith, set)
 leaf_set words base (p ∷ q ∷ pairs) default one = absurd (omega arith)
 
 -- the words of at least two pairs: the top row's, then the parts'
@@ -156,13 +130,8 @@ pub tree_set : (old mid new : List ℕ) (base : ℕ) (pairs : List Pair) → 2 �
     → mid ≡ sets old base (words_of (top_row base pairs))
     → new ≡ sets mid (part_base base (length pairs) 0) (row_words (rows_after base pairs 0))
     → new ≡ sets old base (tree_words base pairs)
-tree_set old mid new base pairs two e i = let n = length pairs in
-    let size = length-top_words base pairs two in let first = words_of (top_row base pairs) in
-    let rest = row_words (rows_after base pairs 0) in
-    let begin : part_base base n 0 ≡ base + length first = omega arith in
-    i ∙ ap (λ at. sets mid at rest) begin ∙ ap (λ ws. sets ws (base + length first) rest) e
-    ∙ sym (sets-append old base first rest)
-    ∙ ap (λ rows. sets old base (row_words rows)) (sym (rows_from-many base pairs two))
+tree_set old mid new base pairs two e i =
+    grind (arith, length-top_words, sets, sets-append, rows_from-many)
 
 -- of the words of the parts, the next part's are set
 pub part_set : (old new : List ℕ) (base at next j : ℕ) (pairs part : List Pair)
@@ -170,24 +139,13 @@ pub part_set : (old new : List ℕ) (base at next j : ℕ) (pairs part : List Pa
     → new ≡ sets old at (tree_words at part) → at + ideal_words (length part) ≡ next
     → sets old at (row_words (rows_after base pairs j))
     ≡ sets new next (row_words (rows_after base pairs (j + 1)))
-part_set old new base at next j pairs part h e i set n = let b = part_base base (length pairs) j in
-    let following = rows_after base pairs (j + 1) in let here = tree_words at part in
-    let long = length-tree_words at part in
-    let same : tree_words b (part_of pairs j) ≡ here =
-    ap (λ k. tree_words k (part_of pairs j)) (sym e) ∙ ap (tree_words at) (sym i) in
-    ap (λ rows. sets old at (row_words rows)) (rows_after-first base pairs j h)
-    ∙ ap (sets old at) (row_words-append (rows_from b (part_of pairs j)) following)
-    ∙ ap (λ ws. sets old at (ws ++ row_words following)) same
-    ∙ sets-append old at here (row_words following)
-    ∙ ap (λ k. sets (sets old at here) k (row_words following))
-    (let end : at + length here ≡ next = omega arith in end)
-    ∙ ap (λ ws. sets ws next (row_words following)) (sym set)
+part_set old new base at next j pairs part h e i set n =
+    grind (arith, length-tree_words, sets, rows_after-first, row_words-append, sets-append, set)
 
 -- after the last part none are set
 pub no_part_set : (words : List ℕ) (base at j : ℕ) (pairs : List Pair) → j ≡ degree (length pairs)
     → sets words at (row_words (rows_after base pairs j)) ≡ words
-no_part_set words base at j pairs e = ap (λ rows. sets words at (row_words rows))
-    (ap (rows_after base pairs) e ∙ rows_after-last base pairs)
+no_part_set words base at j pairs e = grind (arith, sets, rows_after-last)
 
 -- of the slots and the words of the parts, the next part's are set
 pub slot_and_part_set : (old new : List ℕ) (base slot next_slot at next j x : ℕ)
@@ -199,24 +157,13 @@ pub slot_and_part_set : (old new : List ℕ) (base slot next_slot at next j x : 
     ≡ sets (sets new next_slot (slots_after base pairs (j + 1))) next
     (row_words (rows_after base pairs (j + 1)))
 slot_and_part_set old new base slot next_slot at next j x pairs part h e i room is n put m =
-    let d = degree (length pairs) in let more = slots_after base pairs (j + 1) in
-    let here = tree_words at part in let one = set old slot x in
-    let size = length-map-range_with_len (slot_word base pairs) (j + 1) (d - (j + 1)) in
-    ap (λ ws. sets ws at (row_words (rows_after base pairs j)))
-    (set_made (slot_word base pairs) old slot next_slot j d x h is n)
-    ∙ part_set (sets one next_slot more) (sets (sets one next_slot more) at here) base at next j
-    pairs part h e i refl m
-    ∙ ap (λ ws. sets ws next (row_words (rows_after base pairs (j + 1))))
-    (sym (sets-sets one next_slot at more here (omega arith))
-    ∙ ap (λ ws. sets ws next_slot more) (sym put))
+    grind (arith, set, length-map-range_with_len, sets, set_made, part_set, sets-sets)
 
 -- after the last part neither slots nor words of parts are set
 pub none_set : (words : List ℕ) (base slot at j : ℕ) (pairs : List Pair) → j ≡ degree (length pairs)
     → sets (sets words slot (slots_after base pairs j)) at (row_words (rows_after base pairs j))
     ≡ words
-none_set words base slot at j pairs e =
-    no_part_set (sets words slot (slots_after base pairs j)) base at j pairs e
-    ∙ none_made (slot_word base pairs) words slot j (degree (length pairs)) e
+none_set words base slot at j pairs e = grind (arith, no_part_set, sets, none_made)
 
 -- the words of at least two pairs: the top row's fields and keys, then its slots and the parts
 pub head_set : (old mid new : List ℕ) (base : ℕ) (pairs : List Pair) → 2 ≤ length pairs
@@ -238,9 +185,7 @@ pub all_left : (words : List ℕ) (base slot at : ℕ) (pairs : List Pair)
     → sets (sets words slot (slots_after base pairs 0)) at (row_words (rows_after base pairs 0))
     ≡ sets (sets words (slot_base base (length pairs)) (slots_after base pairs 0))
     (part_base base (length pairs) 0) (row_words (rows_after base pairs 0))
-all_left words base slot at pairs s e = let slots = slots_after base pairs 0 in
-    let rows = row_words (rows_after base pairs 0) in ap (λ k. sets (sets words k slots) at rows) s
-    ∙ ap (λ k. sets (sets words (slot_base base (length pairs)) slots) k rows) e
+all_left words base slot at pairs s e = grind (arith, sets)
 
 -- so the slot of a part and its tree are written
 pub part_put : (old mid new : List ℕ) (base d j at next : ℕ) (pairs part : List Pair)
@@ -252,8 +197,4 @@ pub part_put : (old mid new : List ℕ) (base d j at next : ℕ) (pairs part : L
     (row_words (rows_after base pairs (j + 1)))
     ≡ sets (sets old (base + 3 + d + j) (slots_after base pairs j)) at (row_words (rows_after base pairs j))
 part_put old mid new base d j at next pairs part e h row place is slot tree n =
-    sym (slot_and_part_set old new base (base + 3 + d + j) (base + 3 + d + (j + 1)) at next j
-    (word_of (tree_at at part)) pairs part h place is (omega arith)
-    (ap (λ b. word_of (tree_at b part)) place
-    ∙ ap (λ p. word_of (tree_at (part_base base (length pairs) j) p)) is)
-    (omega arith) (tree ∙ ap (λ ws. sets ws at (tree_words at part)) slot) (sym n))
+    grind (arith, slot_and_part_set, sets)

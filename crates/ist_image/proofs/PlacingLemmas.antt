@@ -130,18 +130,12 @@ rows_from-many base (pair ∷ more ∷ pairs) two = let all = pair ∷ more ∷ 
 pub rows_after-first : (base : ℕ) (pairs : List Pair) (j : ℕ) → j < degree (length pairs)
     → rows_after base pairs j ≡ rows_from (part_base base (length pairs) j) (part_of pairs j) ++
     rows_after base pairs (j + 1)
-rows_after-first base pairs j h =
-    let left : degree (length pairs) - j ≡ suc (degree (length pairs) - (j + 1)) = omega arith in
-    ap (λ k. flat_map (λ i. rows_from (part_base base (length pairs) i) (part_of pairs i))
-    (range_with_len j k)) left
+rows_after-first base pairs j h = grind arith
 
 -- there are no rows after the last part
 pub rows_after-last : (base : ℕ) (pairs : List Pair)
     → rows_after base pairs (degree (length pairs)) ≡ []
-rows_after-last base pairs =
-    let none : degree (length pairs) - degree (length pairs) ≡ 0 = omega arith in
-    ap (λ k. flat_map (λ i. rows_from (part_base base (length pairs) i) (part_of pairs i))
-    (range_with_len (degree (length pairs)) k)) none
+rows_after-last base pairs = grind arith
 
 -- ---- first keys
 

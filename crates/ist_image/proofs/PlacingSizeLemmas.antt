@@ -9,13 +9,11 @@ use Rattle.ist_image.specs.Placing.{words_before, part_base, FitsAt}
 -- the words of the trees of one part more
 pub words_before-suc : (n j : ℕ)
     → words_before n (j + 1) ≡ words_before n j + ideal_words (part_len n j)
-words_before-suc n j = ap (words_before n) (let e : j + 1 ≡ suc j = omega arith in e) ∙ sum_of_more
-    ideal_words n j
+words_before-suc n j = grind (arith, sum_of_more)
 
 -- more parts take at least as many words
 words_before-le : (n j more : ℕ) → words_before n j ≤ words_before n (j + more)
-words_before-le n j zero = let same : j + 0 ≡ j = omega arith in let e = ap (words_before n) same in
-    omega arith
+words_before-le n j zero = grind arith
 words_before-le n j (suc more) = let next : j + suc more ≡ j + more + 1 = omega arith in
     let e = ap (words_before n) next in let one = words_before-suc n (j + more) in
     let rest = words_before-le n j more in omega arith
@@ -36,8 +34,7 @@ part_base-last base n two = let whole = ideal_words_many n two in omega arith
 
 -- a tree that fits has few keys
 pub few_fit : (base n : ℕ) → FitsAt base n → n < 2 ^ 28
-few_fit base n fits = let low = fits.after_fixed in let high = fits.below_limit in
-    let words = ideal_words_is n in omega arith
+few_fit base n fits = grind (arith, ideal_words_is)
 
 -- a part fits if the whole does
 pub part_fits : (base n j : ℕ) → 2 ≤ n → j < degree n → FitsAt base n
@@ -80,8 +77,7 @@ row_fits base n whole two room = let words = ideal_words_many n two in omega ari
 -- the tree of a table that may begin so fits
 pub opens_fit : (pairs : List Pair) (words : ℕ) → CanOpen pairs words
     → FitsAt first_row (length pairs)
-opens_fit pairs words opens = let room = opens.room in let within = opens.within in
-    record { after_fixed = omega arith; below_limit = omega arith }
+opens_fit pairs words opens = grind arith
 
 -- no pair is before the first part
 pub part_start-first : (n : ℕ) → part_start n 0 ≡ 0
@@ -99,8 +95,7 @@ next_start n m j start len next e s l k = let more = part_start-suc n j in
 -- a part ends within the whole
 pub end_within : (n m j start len : ℕ) → m ≡ n → j < degree n → start ≡ part_start n j
     → len ≡ part_len m j → start + len ≤ n
-end_within n m j start len e below s l = let same = ap (λ i. part_len i j) e in
-    omega (arith, part_end-le n j below, same)
+end_within n m j start len e below s l = grind (arith, part_end-le)
 
 -- a part of several pairs begins within the whole
 pub start_within : (n j start : ℕ) → 2 ≤ n → j < degree n → start ≡ part_start n j → start < n
@@ -136,13 +131,11 @@ part_lies base n m d j at len whole several same is less fits room place long =
 
 -- the tree of no pair ends where it begins
 pub none_end : (base n : ℕ) → n < 1 → base ≡ base + ideal_words n
-none_end base n less = let none : n ≡ 0 = omega arith in
-    omega (arith, ap ideal_words none, ideal_words_none)
+none_end base n less = grind (arith, ideal_words_none)
 
 -- the tree of one pair has two words
 pub one_end : (base n : ℕ) → 1 ≤ n → n < 2 → base + 2 ≡ base + ideal_words n
-one_end base n least most = let one : n ≡ 1 = omega arith in
-    omega (arith, ap ideal_words one, ideal_words_one)
+one_end base n least most = grind (arith, ideal_words_one)
 
 -- after the last part the tree ends
 pub last_end : (base n m d j at : ℕ) → 2 ≤ m → m ≡ n → d ≡ degree m → j ≡ d → at ≡ part_base base n j

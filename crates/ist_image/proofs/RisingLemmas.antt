@@ -25,27 +25,17 @@ abbrev numbers : ℕ → List ℕ
 numbers n = map (λ i. i) (range_with_len 0 n)
 
 rising : (n : ℕ) → IsStrictlyIncreasing (numbers n)
-rising n k h =
-    let below : k + 1 < n = omega (arith, length-map-range_with_len (λ (i : ℕ). i) 0 n) in
-    let here = get_or-map-range_with_len (λ (i : ℕ). i) 0 n k k 0 (omega arith) (omega arith) in
-    let next = get_or-map-range_with_len (λ (i : ℕ). i) 0 n (k + 1) (k + 1) 0 below (omega arith) in
-    omega arith
+rising n k h = grind (arith, length-map-range_with_len, get_or-map-range_with_len)
 
 -- there are as many pairs as keys
 pub length-numbered : (pairs : List Pair) (n : ℕ) → map (λ pair. pair.key) pairs ≡ numbers n
     → length pairs ≡ n
-length-numbered pairs n e =
-    sym (length-map pairs (λ pair. pair.key)) ∙ ap length e ∙ length-map-range_with_len (λ i. i) 0 n
+length-numbered pairs n e = grind (arith, length-map, length-map-range_with_len)
 
 -- a table may begin with these pairs
 pub numbered_open : (pairs : List Pair) (n words : ℕ) → map (λ pair. pair.key) pairs ≡ numbers n
     → 4 + 9 * n ≤ words → words ≤ place_limit → CanOpen pairs words
-numbered_open pairs n words e room within = let long = length-numbered pairs n e in
-    let most = ideal_words_nine (length pairs) in record {
-      rising = subst IsStrictlyIncreasing (sym e) (λ k h. rising n k h);
-      room = omega arith;
-      within = within;
-    }
+numbered_open pairs n words e room within = grind (arith, length-numbered, ideal_words_nine, rising)
 
 -- the pairs with one more number as a key
 pub numbered_more : (pairs : List Pair) (n value : ℕ) → map (λ pair. pair.key) pairs ≡ numbers n
@@ -58,11 +48,7 @@ numbered_more pairs n value e =
 
 -- a table may begin with one pair
 pub one_opens : CanOpen (pair 5 7 ∷ []) 16
-one_opens = record {
-  rising = λ k h. absurd (omega arith);
-  room = omega (arith, ideal_words_one);
-  within = omega arith;
-}
+one_opens = grind (arith, rising, ideal_words_one)
 
 pub two_rise : IsStrictlyIncreasing (map (λ pair. pair.key) two_pairs)
 two_rise zero h = omega arith
@@ -70,11 +56,7 @@ two_rise (suc k) h = absurd (omega arith)
 
 -- a table may begin with two pairs
 pub two_open : CanOpen two_pairs 20
-two_open = record {
-  rising = λ k h. two_rise k h;
-  room = omega (arith, ideal_words_two);
-  within = omega arith;
-}
+two_open = grind (arith, rising, two_rise, ideal_words_two)
 
 -- ---- the words that are written are the image of a new table. Serves `images.rt`.
 
@@ -113,12 +95,7 @@ pub words_laid : (old new : List ℕ) (next anchor first : ℕ) (pairs : List Pa
     → first ≡ first_row
     → new ≡ sets (set (set (set (set old 0 next) 1 0) 2 0) 3 anchor) first (tree_words first pairs)
     → new ≡ sets old 0 (image_words pairs)
-words_laid old new next anchor first pairs n a f e =
-    let fixed = λ (next anchor : ℕ). set (set (set (set old 0 next) 1 0) 2 0) 3 anchor in
-    let used = first_row + ideal_words (length pairs) in
-    e ∙ ap (λ w. sets (fixed w anchor) first (tree_words first pairs)) n
-    ∙ ap (λ w. sets (fixed used w) first (tree_words first pairs)) a
-    ∙ ap (λ b. sets (fixed used (word_of (tree_at b pairs))) b (tree_words b pairs)) f
+words_laid old new next anchor first pairs n a f e = grind (arith, set, sets)
 
 -- the first words of two lists, the first of which is no longer
 take_over : (xs ys : List ℕ) (n : ℕ) → length xs ≤ n → take n (xs ++ ys) ≡ xs ++ take (n - length xs) ys
@@ -146,8 +123,7 @@ module _ (pairs : List Pair) (old : List ℕ) (n : ℕ) (opens : CanOpen pairs n
 
   -- the words are the image's, and then the old ones
   words_are : sets old 0 (image_words pairs) ≡ image_words pairs ++ rest
-  words_are = let room = opens.room in let long = length-image_words in
-      sets-eq (image_words pairs) old 0 (omega arith)
+  words_are = grind (arith, length-image_words, sets-eq)
 
   -- and so are the first n of them
   abbrev table : List ℕ
@@ -199,8 +175,7 @@ module _ (pairs : List Pair) (old : List ℕ) (n : ℕ) (opens : CanOpen pairs n
 -- at first all keys but the first part's are still to be written
 pub keys_left : (xs : List Pair) (words : List ℕ) (place : ℕ)
     → sets words (place + 0) (keys_after xs 1) ≡ sets words place (keys_after xs 1)
-keys_left xs words place =
-    ap (λ k. sets words k (keys_after xs 1)) (let e : place + 0 ≡ place = omega arith in e)
+keys_left xs words place = grind (arith, sets)
 
 module _ (xs : List Pair) (m d : ℕ) (several : 2 ≤ m) (same : m ≡ length xs) (is : d ≡ degree m) where
   -- the number of children
@@ -210,8 +185,7 @@ module _ (xs : List Pair) (m d : ℕ) (several : 2 ≤ m) (same : m ≡ length x
   module _ (j start : ℕ) (less : j < d) (some : 1 ≤ j) (at : start ≡ part_start m (j - 1 + 1)) where
     -- the part after the last one is part j
     begins : start ≡ part_start (length xs) j
-    begins = at ∙ ap (λ n. part_start n (j - 1 + 1)) same
-        ∙ ap (part_start (length xs)) (let e : j - 1 + 1 ≡ j = omega arith in e)
+    begins = grind arith
 
     -- so is the one before the next
     pub begins_next : start ≡ part_start m (j + 1 - 1)
@@ -219,18 +193,13 @@ module _ (xs : List Pair) (m d : ℕ) (several : 2 ≤ m) (same : m ≡ length x
 
     -- it begins at one of the pairs
     pub begins_within : start < length xs
-    begins_within = let count = children in
-        start_within (length xs) j start (omega arith) (omega arith) begins
+    begins_within = grind (arith, start_within, begins)
 
     -- its first key is written
     pub key_put : (words : List ℕ) (place : ℕ) (default : Pair)
         → sets (set words (place + (j - 1)) (get_or xs start default).key) (place + (j + 1 - 1))
         (keys_after xs (j + 1)) ≡ sets words (place + (j - 1)) (keys_after xs j)
-    key_put words place default = let count = children in
-        sym (set_made (λ i. get_or (map (λ pair. pair.key) xs) (part_start (length xs) i) 0) words
-        (place + (j - 1)) (place + (j + 1 - 1)) j (degree (length xs)) _ (omega arith)
-        (key_at (λ pair. pair.key) xs start default begins_within
-        ∙ ap (λ i. get_or (map (λ pair. pair.key) xs) i 0) begins) (omega arith))
+    key_put words place default = grind (arith, set_made, key_at, begins_within, begins)
 
   -- after the last part all are written
   pub keys_put : (old words : List ℕ) (place j : ℕ) → j ≡ d

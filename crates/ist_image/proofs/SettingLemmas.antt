@@ -1,5 +1,5 @@
 -- Words that are set one after another. Serves `laying.rt` and `rows.rt`.
-use Rattle.std.proofs.Common.{◌≡◌, ◌∙◌, ◌+◌, ◌-◌, ◌<◌, ◌≤◌, ℕ, suc, List, [], ◌∷◌, ◌++◌, length, map, refl, sym, ap, arith}
+use Rattle.std.proofs.Common.{◌≡◌, ◌∙◌, ◌+◌, ◌-◌, ◌<◌, ◌≤◌, ℕ, suc, List, [], ◌∷◌, ◌++◌, length, map, refl, ap, arith}
 use Rattle.std.proofs.lemmas.List.{set_comm}
 use Rattle.std.specs.List.{range_with_len}
 use Rattle.std.proofs.Math.ListN.{set}
@@ -17,17 +17,12 @@ sets-append words at (x ∷ xs) ys = sets-append (set words at x) (suc at) xs ys
 pub set_made : (f : ℕ → ℕ) (words : List ℕ) (at next j d x : ℕ) → j < d → x ≡ f j → at + 1 ≡ next
     → sets words at (map f (range_with_len j (d - j)))
     ≡ sets (set words at x) next (map f (range_with_len (j + 1) (d - (j + 1))))
-set_made f words at next j d x h e n = let left : d - j ≡ suc (d - (j + 1)) = omega arith in
-    let more = map f (range_with_len (j + 1) (d - (j + 1))) in
-    ap (λ k. sets words at (map f (range_with_len j k))) left
-    ∙ ap (λ v. sets (set words at v) (suc at) more) (sym e)
-    ∙ ap (λ i. sets (set words at x) i more) (let s : suc at ≡ next = omega arith in s)
+set_made f words at next j d x h e n = grind (arith, sets, set)
 
 -- after the last one none is set
 pub none_made : (f : ℕ → ℕ) (words : List ℕ) (at j d : ℕ) → j ≡ d
     → sets words at (map f (range_with_len j (d - j))) ≡ words
-none_made f words at j d e = ap (λ k. sets words at (map f (range_with_len j k)))
-    (let none : d - j ≡ 0 = omega arith in none)
+none_made f words at j d e = grind (arith, sets)
 
 -- a word and words after it may be set in either order
 set-sets : (words : List ℕ) (at x base : ℕ) (ys : List ℕ) → at < base

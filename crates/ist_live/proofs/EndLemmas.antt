@@ -1,5 +1,5 @@
 -- The next pair above and below a key. Serves `ends` and `cursors`.
-use Rattle.std.proofs.Common.{◌≡◌, ◌≢◌, ℕ, ◌+◌, ◌-◌, ◌^◌, ◌<◌, ◌≤◌, if◌then◌else◌, List, [], ◌∷◌, length, Option, Some, None, ⊎_elim, inl, inr, refl, ap, subst, append-nil, arith}
+use Rattle.std.proofs.Common.{◌≡◌, ◌≢◌, ℕ, ◌+◌, ◌-◌, ◌^◌, ◌<◌, ◌≤◌, List, [], ◌∷◌, Option, Some, None, ⊎_elim, inl, inr, refl, subst, append-nil, arith}
 use Rattle.std.proofs.lemmas.Bool.{cases_lt}
 use Rattle.std.proofs.lemmas.Bool.Decides.{eqb_tells}
 use Rattle.ist_core.specs.declared.pairs.Pair.{Pair}
@@ -15,15 +15,11 @@ use Rattle.ist_live.proofs.ListLemmas.{Listed, all_up}
 
 -- a pair gives no key but its own a value
 other_key : (pair : Pair) (k : ℕ) → pair.key ≢ k → value_among (pair ∷ []) k ≡ None
-other_key pair k ne =
-    ⊎_elim (λ a. absurd (ne a.1)) (λ a. ap (λ b. if b then Some pair.value else None) a.0)
-    (eqb_tells pair.key k)
+other_key pair k ne = grind (arith, eqb_tells)
 
 -- a list of one pair gives the pair's key the pair's value
 pub own_key : (pair : Pair) → value_among (pair ∷ []) pair.key ≡ Some pair.value
-own_key pair =
-    ⊎_elim (λ a. ap (λ b. if b then Some pair.value else None) a.0) (λ a. absurd (a.1 refl))
-    (eqb_tells pair.key pair.key)
+own_key pair = grind (arith, eqb_tells)
 
 -- ---- upwards
 
@@ -65,8 +61,7 @@ none_read p following q first _ e (span_down {m = m} {from = from} {pairs = pair
           (λ (l : k < from + 1). had_before p m q h.read k None (s.values k least l))
           (λ (l : from + 1 ≤ k). had_after p m q s.read k None (h.none k l most)) (cases_lt k (from + 1));
     }
-none_read p following q first _ e (span_down {pairs = pairs} (Some x) r begins s) =
-    let long = ap length e in absurd (omega arith)
+none_read p following q first _ e (span_down {pairs = pairs} (Some x) r begins s) = grind arith
 
 -- one span more, with the pair or with none
 pub next_down : (p m q : PassFace) (asked from following : ℕ) (pair : Option Pair)

@@ -36,13 +36,7 @@ span_had p m q from following None s x a = absurd a
 
 -- both were in turn at a later moment too
 pub turn_later : (p m q : PassFace) (x y : Pair) → HasOnlyRead m q → HadInTurn p m x y → HadInTurn p q x y
-turn_later p m q x y r t = record {
-  between = t.between;
-  before = t.before;
-  after = read_more t.between m q t.after r;
-  one_had = t.one_had;
-  other_had = since_after t.between m q r y.key (Some y.value) t.other_had;
-}
+turn_later p m q x y r t = grind (arith, read_more, since_after)
 
 module _ (p : PassFace) (first : ℕ) where
   -- each pair that was read was in the map at a position
@@ -84,10 +78,7 @@ module _ (p : PassFace) (first : ℕ) where
       }
 
       wrong_way : Among x (one_of pair) → Among y pairs → ⊥
-      wrong_way c d = let high = (span_had p m q from following pair s x c).0 in
-          let low = each-among (λ (z : Pair). z.key < from) y pairs
-          (all_swept p first m from pairs r).low d in
-          omega arith
+      wrong_way c d = grind (arith, span_had, each-among, all_swept)
 
 -- ---- keys that rise
 
@@ -156,12 +147,7 @@ among_right (x ∷ xs) ys from k low h = let less = low.0 in
 among_own : (pairs : List Pair) (x : Pair) → IsStrictlyIncreasing (keys pairs) → Among x pairs
     → value_among pairs x.key ≡ Some x.value
 among_own [] x rise a = absurd a
-among_own (y ∷ pairs) x rise (inl e) =
-    subst (λ z. value_among (y ∷ pairs) z.key ≡ Some z.value) (sym e) (first_key y pairs)
-  where
-    first_key : (p : Pair) (ps : List Pair) → value_among (p ∷ ps) p.key ≡ Some p.value
-    first_key p ps = ⊎_elim (λ a. ap (λ b. if b then Some p.value else value_among ps p.key) a.0)
-        (λ a. absurd (a.1 refl)) (eqb_tells p.key p.key)
+among_own (y ∷ pairs) x rise (inl e) = grind (arith, eqb_tells)
 among_own (y ∷ pairs) x rise (inr a) =
     let up = each-among (λ (p : Pair). y.key < p.key) x pairs (tail_above y pairs rise) a in
     other_first y pairs x.key (λ e. omega arith) ∙ among_own pairs x (tail_rises y pairs rise) a
@@ -171,9 +157,7 @@ among_own (y ∷ pairs) x rise (inr a) =
 -- a pair of a live list was in the map at a position
 live_had : (p q : PassFace) (first last : ℕ) (pairs : List Pair) → AreLive p q first last pairs → (x : Pair)
     → Among x pairs → Had p q x.key (Some x.value)
-live_had p q first last pairs h x a =
-    let within = each-among (λ (y : Pair). (first ≤ y.key) × (y.key ≤ last)) x pairs h.within a in
-    subst (Had p q x.key) (among_own pairs x h.rise a) (h.values x.key within.0 within.1)
+live_had p q first last pairs h x a = grind (arith, each-among, among_own)
 
 module _ (p m q : PassFace) (first from last : ℕ) (xs ys : List Pair) (r : HasOnlyRead p m) (s : HasOnlyRead m q)
     (low : first < from) (high : from ≤ last) (a : AreLive p m first (from - 1) xs)
@@ -224,13 +208,7 @@ module _ (p m q : PassFace) (first from last : ℕ) (xs ys : List Pair) (r : Has
       (among-append x xs ys i)
     where
       both : Among x xs → Among y ys → HadInTurn p q x y
-      both e f = record {
-        between = m;
-        before = r;
-        after = s;
-        one_had = had_since p m x.key (Some x.value) (live_had p m first (from - 1) xs a x e);
-        other_had = had_since m q y.key (Some y.value) (live_had m q from last ys b y f);
-      }
+      both e f = grind (arith, had_since, live_had)
 
       earlier : HadInTurn m q x y → HadInTurn p q x y
       earlier t = record {
@@ -242,5 +220,4 @@ module _ (p m q : PassFace) (first from last : ℕ) (xs ys : List Pair) (r : Has
       }
 
       wrong_way : Among x ys → Among y xs → ⊥
-      wrong_way e f = let more = each-among (λ (z : Pair). from ≤ z.key) x ys above e in
-          let under = each-among (λ (z : Pair). z.key < from) y xs below f in omega arith
+      wrong_way e f = grind (arith, each-among, above, below)

@@ -17,8 +17,7 @@ use Rattle.ist_live.proofs.ReadLemmas.{read_not, read_more, had_after}
 -- a pair of another key gives the key nothing
 pub other_first : (pair : Pair) (pairs : List Pair) (k : ℕ) → pair.key ≢ k
     → value_among (pair ∷ pairs) k ≡ value_among pairs k
-other_first pair pairs k ne = ⊎_elim (λ a. absurd (ne a.1))
-    (λ a. ap (λ b. if b then Some pair.value else value_among pairs k) a.0) (eqb_tells pair.key k)
+other_first pair pairs k ne = grind (arith, eqb_tells)
 
 -- pairs below a key give it nothing
 pub among_none : (pairs : List Pair) (from k : ℕ) → Each (λ p. p.key < from) pairs → from ≤ k
@@ -69,10 +68,7 @@ push_rises xs y rises low k within =
 pub rises_on : (pairs : List Pair) (pair : Pair) (from : ℕ) → Each (λ p. p.key < from) pairs
     → from ≤ pair.key → IsStrictlyIncreasing (map (λ (p : Pair). p.key) pairs)
     → IsStrictlyIncreasing (map (λ (p : Pair). p.key) (pairs ++ pair ∷ []))
-rises_on pairs pair from low h rises =
-    subst IsStrictlyIncreasing (sym (map-append (λ (p : Pair). p.key) pairs (pair ∷ [])))
-    (push_rises (map (λ (p : Pair). p.key) pairs) pair.key rises
-    (λ k less. let under = keys_low pairs from low k less in omega arith))
+rises_on pairs pair from low h rises = grind (arith, map-append, push_rises, keys_low)
 
 -- ---- what was read upwards
 
@@ -162,8 +158,7 @@ all_swept p first q following _ (slot_up {m = m} {from = from} {pairs = pairs} p
 -- those of all spans
 pub all_up : (p : PassFace) (first : ℕ) (q : PassFace) (following : ℕ) (pairs : List Pair)
     → ReadsUp p first q following pairs → Listed p q first following pairs
-all_up p first q following pairs r =
-    all_swept p first q following pairs (slots_of p first q following pairs r)
+all_up p first q following pairs r = grind (arith, all_swept, slots_of)
 
 -- the pairs lie between both ends
 each_both : (pairs : List Pair) (first last : ℕ) → Each (λ x. first ≤ x.key) pairs
@@ -175,16 +170,8 @@ each_both (x ∷ pairs) first last a b =
 -- all keys up to the last one were read
 pub all_live : (p q : PassFace) (first last : ℕ) (pairs : List Pair)
     → SweepsUp p first q (last + 1) pairs → AreLive p q first last pairs
-all_live p q first last pairs r = let h = all_swept p first q (last + 1) pairs r in record {
-  rise = h.rise;
-  within = each_both pairs first last h.within h.low;
-  values = λ k low high. h.values k low (omega arith);
-}
+all_live p q first last pairs r = grind (arith, all_swept, each_both)
 
 -- where there are none, nothing needs to be read
 pub none_live : (p : PassFace) (first last : ℕ) → last < first → AreLive p p first last []
-none_live p first last less = record {
-  rise = λ k h. absurd (omega arith);
-  within = tt;
-  values = λ k low high. absurd (omega arith);
-}
+none_live p first last less = grind arith

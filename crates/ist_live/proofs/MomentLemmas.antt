@@ -1,5 +1,5 @@
 -- What a tree swept between two moments of a pass, as moments of the pass. Serves `lists`.
-use Rattle.std.proofs.Common.{◌≡◌, ℕ, ◌+◌, ◌<◌, List, [], ◌++◌, refl, sym, ap, ◌∙◌, subst, arith}
+use Rattle.std.proofs.Common.{◌≡◌, ℕ, ◌+◌, ◌<◌, List, [], ◌++◌, sym, ap, ◌∙◌, subst, arith}
 use Rattle.ist_core.specs.declared.pairs.Pair.{Pair}
 use Rattle.ist_core.specs.LogTerms.{Log, GoesOn, same_log}
 use Rattle.ist_core.specs.WordTerms.{anchor}
@@ -23,61 +23,19 @@ module _ (p q : PassFace) (r : HasOnlyRead p q) (began : Log) (step : StepsIn p 
 
   -- from the beginning to the step
   to_step : HasOnlyRead p (seeing began)
-  to_step = record {
-    seen = record {
-      tree = refl;
-      number = refl;
-      seen = step.seen;
-      heard = r.seen.heard;
-      stamp = omega arith;
-    };
-    calls = refl;
-    stamp = refl;
-    refused = refl;
-  }
+  to_step = grind arith
 
   -- from one log to a longer one
   to_later : (a b : Log) → GoesOn a b → HasOnlyRead (seeing a) (seeing b)
-  to_later a b g = record {
-    seen = record {
-      tree = refl;
-      number = refl;
-      seen = g;
-      heard = heard_same refl;
-      stamp = omega arith;
-    };
-    calls = refl;
-    stamp = refl;
-    refused = refl;
-  }
+  to_later a b g = grind (arith, heard_same)
 
   -- from a log to what the pass has seen in the end
   to_end : (a : Log) → GoesOn a q.seen → HasOnlyRead (seeing a) q
-  to_end a g = record {
-    seen = record {
-      tree = r.seen.tree;
-      number = r.seen.number;
-      seen = g;
-      heard = heard_same refl;
-      stamp = r.seen.stamp;
-    };
-    calls = r.calls;
-    stamp = r.stamp;
-    refused = r.refused;
-  }
+  to_end a g = grind (arith, heard_same)
 
   -- the step was made before each longer log was seen
   step_at : (a : Log) → GoesOn began a → StepsIn p (seeing a) began
-  step_at a g = record {
-    before = step.before;
-    since = step.since;
-    step = step.step;
-    step_by = step.step_by;
-    heard = step.heard;
-    seen = step.seen;
-    until = g;
-    placed = step.placed;
-  }
+  step_at a g = grind arith
 
   -- each slot was read between two of these moments
   slots_at : (first above : ℕ) (at : Log) (following row loads : ℕ) (pairs : List Pair)
@@ -114,19 +72,7 @@ swept_up p q r first last old new none h =
 -- and listed them
 pub has_listed : (p q : PassFace) (first last : ℕ) (old new : List Pair) → old ≡ []
     → HasSweptOver p q first last old new → HasListedLive p q first last new
-has_listed p q first last old new none h = record {
-  following = last + 1;
-  past = omega arith;
-  began = h.began;
-  step = λ some. h.step;
-  at = h.at;
-  until = h.until;
-  row = 0;
-  loads = h.loads;
-  few = h.few;
-  swept = subst (Swept p.tree.start p.tree.words first anchor h.began h.at (last + 1) 0 h.loads)
-      (sym (h.are ∙ ap (λ xs. xs ++ h.found) none)) h.swept;
-}
+has_listed p q first last old new none h = grind arith
 
 -- if there is no key to read, it listed none
 pub none_listed : (p : PassFace) (first last : ℕ) → last < first → HasListedLive p p first last []

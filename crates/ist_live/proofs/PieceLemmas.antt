@@ -1,5 +1,5 @@
 -- The pairs of a piece, one by one, and pieces one after another. Serves whoever reads in pieces.
-use Rattle.std.proofs.Common.{◌≡◌, ℕ, ◌+◌, ◌-◌, ◌<◌, ◌≤◌, if◌then◌else◌, List, [], ◌∷◌, ◌++◌, Option, Some, None, ⊎_elim, sym, subst, append-nil, arith}
+use Rattle.std.proofs.Common.{◌≡◌, ℕ, ◌+◌, ◌-◌, ◌<◌, ◌≤◌, List, [], ◌∷◌, ◌++◌, Option, Some, None, sym, subst, append-nil, arith}
 use Rattle.std.specs.Prelude.{IfSome}
 use Rattle.std.proofs.lemmas.Bool.Decides.{eqb_tells}
 use Rattle.ist_core.specs.declared.pairs.Pair.{Pair}
@@ -36,20 +36,12 @@ read_to_none p first last pairs none some = record {
 swept_piece : (p q : PassFace) (first last : ℕ) (next : Option ℕ) (pairs : List Pair)
     → IfSome next (λ key. (first < key) × (key ≤ last)) → SweepsUp p first q (end_of next last + 1) pairs
     → IsPiece p q first last next pairs
-swept_piece p q first last next pairs goes_on s = record {
-  live = all_live p q first (end_of next last) pairs s;
-  in_turn = in_turn p first q (end_of next last + 1) pairs s;
-  goes_on = goes_on;
-}
+swept_piece p q first last next pairs goes_on s = grind (arith, all_live, in_turn)
 
 -- if there are no keys, the piece is empty
 pub piece_none : (p : PassFace) (first last : ℕ) (pairs : List Pair) → pairs ≡ [] → last < first
     → IsPiece p p first last None pairs
-piece_none p first last pairs none less = subst (IsPiece p p first last None) (sym none) record {
-  live = none_live p first last less;
-  in_turn = λ one other a. absurd a;
-  goes_on = tt;
-}
+piece_none p first last pairs none less = grind (arith, none_live, in_turn)
 
 module _ (p m q : PassFace) (first from last : ℕ) (pairs : List Pair) (h : IsReadTo p m first from last pairs)
     (r : HasOnlyRead m q) where
@@ -82,13 +74,7 @@ module _ (p m q : PassFace) (first from last : ℕ) (pairs : List Pair) (h : IsR
         })
       where
         had_here : (k : ℕ) → from ≤ k → k < x.key + 1 → Had m q k (pair_value (Some x) k)
-        had_here k low high = ⊎_elim
-            (λ a. subst (λ b. Had m q k (if b then Some x.value else None)) (sym a.0)
-            (subst (λ j. Had m q j (Some x.value)) a.1 next.1))
-            (λ a. let other = a.1 in
-            subst (λ b. Had m q k (if b then Some x.value else None)) (sym a.0)
-            (next.2 k low (omega arith)))
-            (eqb_tells x.key k)
+        had_here k low high = grind (arith, eqb_tells)
 
     -- it is the pair of the last key
     pub piece_full : x.key ≡ last → IsPiece p q first last None all
@@ -113,19 +99,4 @@ pub pieces_join : (p m q : PassFace) (first from last : ℕ) (next : Option ℕ)
     → all ≡ xs ++ ys → HasOnlyRead p m → HasOnlyRead m q → IsPiece p m first last (Some from) xs
     → IsPiece m q from last next ys → IsPiece p q first last next all
 pieces_join p m q first from last next xs ys all is r s a b =
-    subst (IsPiece p q first last next) (sym is) record {
-      live = live_join p m q first from (end_of next last) xs ys r s a.goes_on.0 (high next b.goes_on) a.live
-          b.live;
-      in_turn = turn_join p m q first from (end_of next last) xs ys r s a.goes_on.0 (high next b.goes_on) a.live
-          b.live a.in_turn b.in_turn;
-      goes_on = on next b.goes_on;
-    }
-  where
-    high : (o : Option ℕ) → IfSome o (λ key. (from < key) × (key ≤ last)) → from ≤ end_of o last
-    high (Some key) h = let more = h.0 in omega arith
-    high None h = a.goes_on.1
-
-    on : (o : Option ℕ) → IfSome o (λ key. (from < key) × (key ≤ last))
-        → IfSome o (λ key. (first < key) × (key ≤ last))
-    on (Some key) h = let more = h.0 in let less = a.goes_on.0 in (omega arith, h.1)
-    on None h = tt
+    grind (arith, live_join, in_turn, turn_join)

@@ -1,5 +1,5 @@
 -- What a pass read so far, and what it read after that, together. Serves all reads.
-use Rattle.std.proofs.Common.{◌≡◌, ℕ, ◌+◌, ◌≤◌, Option, Some, refl, ◌∙◌, subst, arith}
+use Rattle.std.proofs.Common.{◌≡◌, ℕ, ◌+◌, ◌≤◌, Option, Some, refl, subst, arith}
 use Rattle.ist_core.specs.declared.pairs.Pair.{Pair}
 use Rattle.ist_core.specs.LogTerms.{same_log}
 use Rattle.laws_histories.specs.Searching.{HasPosition}
@@ -14,12 +14,7 @@ read_not p = record { seen = seen_same p; calls = refl; stamp = refl; refused = 
 
 -- two reads are one
 pub read_more : (p m q : PassFace) → HasOnlyRead p m → HasOnlyRead m q → HasOnlyRead p q
-read_more p m q a b = record {
-  seen = seen_more_then p m q a.seen b.seen;
-  calls = b.calls ∙ a.calls;
-  stamp = b.stamp ∙ a.stamp;
-  refused = b.refused ∙ a.refused;
-}
+read_more p m q a b = grind (arith, seen_more_then)
 
 -- what a key had after what was read so far, it had since the beginning
 pub since_before : (p m q : PassFace) → HasOnlyRead p m → (k : ℕ) (value : Option ℕ)
@@ -43,11 +38,7 @@ had_since p q k value h =
 -- a step after what was read so far is one of both
 pub had_before : (p m q : PassFace) → HasOnlyRead p m → (k : ℕ) (value : Option ℕ) → Had m q k value
     → Had p q k value
-had_before p m q r k value h = record {
-  at = h.at;
-  step = steps_from p m q h.at r.seen h.step;
-  position = subst (λ t. HasPosition t.start t.words h.at q.seen k value) r.seen.tree h.position;
-}
+had_before p m q r k value h = grind (arith, steps_from)
 
 -- so is a step before more is read
 pub had_after : (p m q : PassFace) → HasOnlyRead m q → (k : ℕ) (value : Option ℕ) → Had p m k value
@@ -63,26 +54,10 @@ had_after p m q r k value h = record {
 pub up_to_pair : (p q : PassFace) (asked from following : ℕ) (x : Pair)
     → HasReadSpan p q asked from following (Some x) → from ≡ asked
     → HasReadSpan p q asked from (x.key + 1) (Some x)
-up_to_pair p q asked from following x s is = let low = s.within.0 in let high = s.within.1 in
-    record {
-      read = s.read;
-      low = s.low;
-      high = omega arith;
-      within = (low, omega arith);
-      values = λ k a b. s.values k a (omega arith);
-      loads = s.loads;
-    }
+up_to_pair p q asked from following x s is = grind arith
 
 -- and down to it
 pub down_to_pair : (p q : PassFace) (asked from following : ℕ) (x : Pair)
     → HasReadSpan p q asked from following (Some x) → following ≡ asked + 1
     → HasReadSpan p q asked x.key following (Some x)
-down_to_pair p q asked from following x s is = let low = s.within.0 in let high = s.within.1 in
-    record {
-      read = s.read;
-      low = omega arith;
-      high = s.high;
-      within = (omega arith, high);
-      values = λ k a b. s.values k (omega arith) b;
-      loads = s.loads;
-    }
+down_to_pair p q asked from following x s is = grind arith

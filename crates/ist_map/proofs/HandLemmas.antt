@@ -10,7 +10,7 @@ use Rattle.ist_core.specs.declared.pairs.Pair.{Pair}
 use Rattle.ist_core.specs.declared.ports.Full.{Full}
 use Rattle.ist_core.specs.LogTerms.{PassCalls, Answered}
 use Rattle.ist_core.specs.TreeTerms.{told_by_call}
-use Rattle.ist_tree.specs.CallTerms.{MakerFace, calls_taken, calls_from, TreeFace, words_for}
+use Rattle.ist_tree.specs.CallTerms.{MakerFace, calls_taken, TreeFace, words_for}
 use Rattle.ist_tree.proofs.NumberLemmas.{calls_in_order}
 use Rattle.ist_map.specs.declared.stops.StopRequest.{StopRequest}
 use Rattle.ist_map.specs.Hands.{HaveWorked, first_stop}
@@ -29,9 +29,7 @@ use Rattle.ist_map.specs.Running.{HasStopped, IsUnderway, OpensEnough}
 pub taken_in_order : (m : MakerFace) (passes : List PassCalls) → m.made ≡ length passes
     → m.taken ≡ passes → map (λ p. p.number) passes ≡ range_with_len 0 (length passes)
     → calls_taken m ≡ map (λ p. p.calls) passes
-taken_in_order m passes many taken numbers =
-    ap (λ n. calls_from 0 n m.taken) many ∙ ap (calls_from 0 (length passes)) taken
-    ∙ calls_in_order 0 passes numbers
+taken_in_order m passes many taken numbers = grind (arith, calls_in_order)
 
 -- ---- lists of workers
 
@@ -75,19 +73,7 @@ module _ {H : Type 0} where
       → map (λ h. (passes h).number) worked ≡ map (λ h. (passes h).number) hired
       → HaveWorked (map told old) (calls_taken m) (map told done)
   all_worked told passes old hired worked done n many ts taken m before last each same none empty made still made_all all numbers kept number =
-      let long = length-map worked passes in
-      let in_order : calls_taken m ≡ map (λ h. (passes h).calls) worked =
-      taken_in_order m (map passes worked) (omega arith)
-      (all ∙ ap (λ xs. map passes worked ++ xs) (still ∙ empty) ∙ append-nil _)
-      (map_map (λ p. p.number) passes worked ∙ kept ∙ numbers
-      ∙ ap (λ n. range_with_len n (length old)) none ∙ ap (range_with_len 0) (sym (long ∙ same)))
-      ∙ map_map (λ p. p.calls) passes worked in
-      ap (λ ts. slice_index_or ts number []) last
-      ∙ each number
-      ∙ ap (λ ts. slice_index_or ts number []
-      ++ map told_by_call (slice_index_or (map (λ h. (passes h).calls) worked) number [])) before
-      ∙ ap (λ cs. slice_index_or (map told old) number []
-      ++ map told_by_call (slice_index_or cs number [])) (sym in_order)
+      grind (arith, length-map, taken_in_order, append-nil, map_map)
 
 -- ---- workers that stopped by request
 

@@ -1,5 +1,5 @@
 -- A key that one worker alone changes. Serves `laws.owners_read_back`.
-use Rattle.std.proofs.Common.{◌≡◌, ◌≢◌, ℕ, ◌==◌, Bool, true, false, List, [], ◌∷◌, map, filter, refl, sym, ap, subst, ◌∙◌, ⊎_elim, inl, inr, arith}
+use Rattle.std.proofs.Common.{◌≡◌, ◌≢◌, ℕ, ◌==◌, Bool, true, false, List, [], ◌∷◌, map, filter, refl, sym, subst, inl, inr, arith}
 use Rattle.std.proofs.lemmas.Bool.Decides.{nat_tests, eqb_tells}
 use Rattle.std.specs.FinMap as fin
 use Rattle.std.specs.FinMap.{gets}
@@ -34,9 +34,7 @@ module _ (key owner : ℕ) where
   -- a call of another leaves the value
   left_by_other : (m : Map) (x : Owned) → (x.owner == owner) ≡ false → IsOwnersCall x
       → fin.get (map_after m x.told.command) key ≡ fin.get m key
-  left_by_other m x other fair = ⊎_elim
-      (λ same. ap (λ c. fin.get (map_after m c) key) (fair (grind (arith, nat_tests)) same.1))
-      (λ away. get_other m x.told.command key away.1) (eqb_tells (key_of x.told.command) key)
+  left_by_other m x other fair = grind (arith, nat_tests, get_other, eqb_tells)
 
   -- the owner reads back, if each call of another leaves the key
   pub read_back : (m : Map) (owned : List Owned) → IsLegal m (map (λ x. x.told) owned)
@@ -51,28 +49,15 @@ module _ (key owner : ℕ) where
           (filter (is_about key) (told_to_pass owner owned))
           → (mine : Bool) → (x.owner == owner) ≡ mine → (about : Bool) → is_about key x.told ≡ about
           → ReadBack (fin.get m key) (filter (is_about key) (told_to_pass owner (x ∷ owned)))
-      at rest false his about e = rw his
-          (subst (λ v. ReadBack v (filter (is_about key) (told_to_pass owner owned)))
-          (left_by_other m x his fair.0) rest)
-      at rest true mine true e =
-          let same : key_of x.told.command ≡ key = grind (arith, nat_tests) in
-          rw (mine, e) (
-            sym (same_head _ _ _ _ legal) ∙ ap (fin.get m) same,
-            subst (λ v. ReadBack v (filter (is_about key) (told_to_pass owner owned)))
-                (get_same m x.told.command key same) rest,
-          )
-      at rest true mine false e =
-          let other : key_of x.told.command ≢ key = grind (arith, nat_tests) in rw (mine, e)
-          (subst (λ v. ReadBack v (filter (is_about key) (told_to_pass owner owned)))
-          (get_other m x.told.command key other) rest)
+      at rest false his about e = grind (arith, left_by_other)
+      at rest true mine true e = grind (arith, nat_tests, same_head, get_same)
+      at rest true mine false e = grind (arith, nat_tests, get_other)
 
 -- what was told to one of these is among what the pass with its number was told
 told_among : (x : Owned) (owned : List Owned) → Among x owned
     → Among x.told (told_to_pass x.owner owned)
 told_among x [] h = absurd h
-told_among x (y ∷ owned) (inl same) =
-    let mine : (y.owner == x.owner) ≡ true = grind (arith, nat_tests) in
-    rw mine (inl (ap (λ (o : Owned). o.told) same))
+told_among x (y ∷ owned) (inl same) = grind (arith, nat_tests)
 told_among x (y ∷ owned) (inr more) = at (told_among x owned more) (y.owner == x.owner) refl
   where
     at : Among x.told (told_to_pass x.owner owned) → (v : Bool) → (y.owner == x.owner) ≡ v

@@ -13,7 +13,7 @@ use Rattle.ist_rest.specs.RestingWords.{HoldPairs}
 use Rattle.ist_rest.proofs.WholeLemmas.{same_pairs, hold_map}
 use Rattle.ist_rest.specs.Standings.{Stands}
 use Rattle.ist_tree.specs.CallTerms.{TreeFace, MakerFace, ClosesWith, calls_taken, told_to}
-use Rattle.ist_reopen.specs.Generations.{Generation, IsGeneration, generation_of, FollowOn, moments_over, pairs_left, history, calls_of}
+use Rattle.ist_reopen.specs.Generations.{Generation, IsGeneration, generation_of, FollowOn, pairs_left, history, calls_of}
 use Rattle.ist_reopen.specs.Interleaving.{told_over}
 use Rattle.ist_map.specs.Hands.{HaveWorked}
 use Rattle.ist_map.specs.Growing.{HaveDoubled, words_for_tree, words_after, asked_after, last_words}
@@ -196,21 +196,8 @@ run_one first last asked words before after refused m holds long many c worked a
 -- the calls of a run are one legal history
 pub run_is_one : (first last : List ℕ) (asked left : ℕ) (before after : List (List Answered))
     → HasRunOn first last asked left before after → IsOneHistory first last before after
-run_is_one first last asked left before after r = record {
-  began = r.began;
-  began_held = r.began_held;
-  ended = r.ended;
-  ended_held = r.ended_held;
-  history = history r.trees;
-  legal = history_legal r.began r.ended r.trees r.follow;
-  leads = history_leads r.began r.ended r.trees r.follow;
-  told = told_over r.trees;
-  made = made_over r.began r.ended r.trees r.follow;
-  moments = moments_over r.trees;
-  linear = history_linear r.began r.ended r.trees r.follow;
-  returned = moments_told r.began r.ended r.trees r.follow;
-  told_are = r.told;
-}
+run_is_one first last asked left before after r =
+    grind (arith, history_legal, history_leads, made_over, history_linear, moments_told)
 
 -- ---- before the first run
 

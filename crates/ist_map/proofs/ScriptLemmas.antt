@@ -1,5 +1,5 @@
 -- Commands with their replies, and with one reply more. Serves `Script`.
-use Rattle.std.proofs.Common.{◌≡◌, ◌∙◌, ℕ, ◌<◌, List, [], ◌∷◌, ◌++◌, length, Option, slice_index_or, refl, sym, ap, arith}
+use Rattle.std.proofs.Common.{◌≡◌, ℕ, ◌<◌, List, [], ◌∷◌, ◌++◌, length, Option, slice_index_or, refl, ap, arith}
 use Rattle.std.proofs.lemmas.List.{append_assoc}
 use Rattle.ist_core.specs.declared.commands.Command.{Command}
 use Rattle.ist_core.specs.LogTerms.{Answered, told}
@@ -25,7 +25,4 @@ pub told_more : (commands : List Command) (replies after : List (Option ℕ)) (r
     → told_in commands replies ≡ before ++ old → new ≡ old ++ told command reply ∷ []
     → told_in commands after ≡ before ++ new
 told_more commands replies after reply command before old new items low is was added =
-    ap (told_in commands) items ∙ told_in-push commands replies reply command low
-    ∙ ap (λ x. told_in commands replies ++ told x reply ∷ []) is
-    ∙ ap (λ ts. ts ++ told command reply ∷ []) was
-    ∙ append_assoc before old (told command reply ∷ []) ∙ ap (λ ts. before ++ ts) (sym added)
+    grind (arith, told_in-push, append_assoc)

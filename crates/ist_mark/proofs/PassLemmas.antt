@@ -48,8 +48,7 @@ module _ (pairs : List Pair) (words : ℕ) (opens : CanOpen pairs words) (log : 
       at p.word p.passed keeps
     where
       at : (v : ℕ) → IsFrozen log node i v → KeepsWord t log node i v → IsFrozen log node i word
-      at v p (holds_it k) = subst (IsFrozen log node i)
-          (slot_once t node i v word (anchor_free pairs words log h) k slot) p
+      at v p (holds_it k) = grind (arith, slot_once, anchor_free)
       at v p (holds_change x) =
           let same = slot_once t node i word (word_of (ChangeAt x.base))
           (anchor_free pairs words log h) slot x.in_slot in
@@ -182,15 +181,8 @@ module _ (v : View) (node degree i place word : ℕ) (m : MayPass v node degree)
           (slot_shown w.start w.words w.log enabled node i in_slot.0 in_slot.1)))) in_slot.1
 
       unset : here.row.status ≡ marked_word → IsNoChange word → word ≡ unset_word
-      unset marked plain = let u = state_of v.start v.words w.log in
-          let piece : u.pieces node ≡ Some (Inner here.row) =
-          ap (λ x. x.pieces node) (sym (went_now (Marks w node) v w went)) ∙ here.published in
-          let test : is_marked (as_inner (u.pieces node)) ≡ true =
-          ap (λ o. is_marked (as_inner o)) piece ∙ ap (λ n. n == marked_word) marked in
-          let c = unset_by_test (is_marked (as_inner (u.pieces node))) (is_change_ref (ref_of word))
-          (word == unset_word) (not_named _ (Pass (number_of v.who) node i word) none) test
-          (plain_test (ref_of word) plain) in
-          eqb-true word unset_word c
+      unset marked plain =
+          grind (arith, went_now, went, unset_by_test, not_named, plain_test, eqb-true)
 
   -- after the load of a slot of a marked node the change found is known, or the slot is frozen
   pub look_tells : LoadedAs v (pass_of v node i) place word w → LookTells v w node i word

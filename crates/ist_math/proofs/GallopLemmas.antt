@@ -30,16 +30,7 @@ halved g guess looks low high h over between up down some half = let steps = h.s
     at : (t : ℕ) → width g ≤ 2 ^ t → looks + t ≤ 2 * h.doublings + 2
         → Gallops (gallop low high g.step g.down) guess (suc looks)
     at zero wide few = absurd (omega arith)
-    at (suc t) wide few = let double = pow-suc 2 t in let far = h.far in record {
-      doublings = h.doublings;
-      halvings = t;
-      some = some;
-      steps = h.steps;
-      side = side_stays g.low g.high g.step low high g.step guess g.down up down h.side;
-      far = omega arith;
-      away = λ less. absurd (omega arith);
-      near = λ _. (omega arith, omega arith);
-    }
+    at (suc t) wide few = grind (arith, pow-suc, side_stays)
 
 -- the side to which a step goes, and the other one
 module _ (low high step guess looks : ℕ) (less : step < high - low) where

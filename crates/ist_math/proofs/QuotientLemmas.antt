@@ -24,10 +24,7 @@ first_is rest wide fits = let top = leading_top 64 (rest / 2 ^ 64) (omega arith)
     (at top.0 top.2 top.3)
   where
     at : (j : ℕ) → 2 ^ j ≤ rest / 2 ^ 64 → rest / 2 ^ 64 < 2 ^ suc j → IsFirst rest j
-    at j low less = let double = pow-suc 2 j in record {
-      fits = div_below (rest / 2) (2 ^ j) (2 ^ 64) (pow_pos j) (omega arith);
-      high = le-div (2 ^ 63) (rest / 2) (2 ^ j) (pow_pos j) (omega arith);
-    }
+    at j low less = grind (arith, pow-suc, div_below, pow_pos, le-div)
 
 -- the first 64 bits, divided by one more than the divisor's bits at the same places
 abbrev pub low_quotient_of : ℕ → ℕ → ℕ → ℕ

@@ -1,5 +1,5 @@
 -- Two trees, one with one key more than the other: their parts have the same two sizes.
-use Rattle.std.proofs.Common.{◌≡◌, ◌∙◌, ℕ, ◌+◌, ◌-◌, ◌*◌, ◌/◌, ◌<◌, ◌≤◌, min, ⊎_elim, sym, ap, subst, arith}
+use Rattle.std.proofs.Common.{◌≡◌, ℕ, ◌+◌, ◌-◌, ◌*◌, ◌/◌, ◌<◌, ◌≤◌, min, ⊎_elim, arith}
 use Rattle.std.proofs.lemmas.Bool.{cases_lt}
 use Rattle.ist_core.specs.WordTerms.{degree, ideal_words}
 use Rattle.ist_core.proofs.AllWordLemmas.{least_degree-le, degree_next, mixed_words, ideal_words_by_two}
@@ -30,13 +30,10 @@ pub shortest_fits : (n d e s : ℕ) → 2 ≤ n → d ≡ degree n → e ≡ deg
 shortest_fits n d e s h f g m = ⊎_elim same next (degree_next n h)
   where
     shortest : s ≡ min (n / degree n) ((n + 1) / degree (n + 1))
-    shortest =
-        m ∙ ap (λ k. min (n / k) ((n + 1) / e)) f ∙ ap (λ k. min (n / degree n) ((n + 1) / k)) g
+    shortest = grind arith
 
     same : degree (n + 1) ≡ degree n → FitsBoth n (degree n) (degree (n + 1)) s
-    same x = let one = shortest ∙ ap (λ k. min (n / degree n) ((n + 1) / k)) x in
-        let fits = fits_same n (degree n) s (least_degree-le n) one in
-        subst (λ k. FitsBoth n (degree n) k s) (sym x) fits
+    same x = grind (arith, shortest, fits_same, least_degree-le)
 
     next : (degree (n + 1) ≡ degree n + 1) × (n + 1 ≡ (degree n + 1) * (degree n + 1))
         → FitsBoth n (degree n) (degree (n + 1)) s

@@ -1,6 +1,6 @@
 -- How a caller goes on that starts a rebuild, and what the result tells. Serves `put_in` and
 -- `start`.
-use Rattle.std.proofs.Common.{◌≡◌, ◌∙◌, ℕ, Bool, true, false, Result, Ok, Err, None, refl, subst}
+use Rattle.std.proofs.Common.{◌≡◌, ℕ, Bool, true, false, Result, Ok, Err, None, refl, subst, arith}
 use Rattle.std.specs.Result.{IsErr}
 use Rattle.ist_build.specs.Laying.{IsReservation}
 use Rattle.ist_core.specs.declared.ports.Full.{Full}
@@ -14,7 +14,6 @@ use Rattle.ist_dcss.specs.Helping.{Serves, IsDecided, IsOut}
 use Rattle.ist_dcss.specs.Installing.{Filling, IsInstalled, IsOther}
 use Rattle.ist_rebuild.specs.declared.answers.Started.{Started}
 use Rattle.ist_rebuild.specs.declared.answers.Started.TheVariants.{Yes, Other, Marked}
-use Rattle.ist_rebuild.specs.Going.{Begins, StartsAt}
 use Rattle.ist_rebuild.specs.Starting.{ReservesNeeded, StartsDoneSince, StartsNone, StoodInstead}
 use Rattle.ist_rebuild.specs.StartSteps.{HasBegun, HasReserved, IsStartReady, TellsStart, start_filling}
 use Rattle.ist_rebuild.proofs.FewLemmas.{none_installed}
@@ -27,29 +26,12 @@ use Rattle.ist_rebuild.proofs.StartReservedLemmas.{put_caller, put_quiet, put_re
 
 -- a caller that made at most reservings has begun
 pub reserved_begun : (target : ℕ) (old new : Caller) → HasReserved old new → HasBegun target old new
-reserved_begun target old new r = record {
-  caller = r.caller;
-  number = r.number;
-  fresh = r.fresh;
-  went = went_all IsReservation Begins begins_reserving old.token.view new.token.view r.went;
-  aims = went_all IsReservation (StartsAt target) (aims_reserving target) old.token.view
-      new.token.view r.went;
-  quiet = r.quiet;
-  refused = r.refused;
-}
+reserved_begun target old new r = grind (arith, went_all, begins_reserving, aims_reserving)
 
 -- beginning twice
 pub begun_more : (target : ℕ) (old mid new : Caller) → HasBegun target old mid
     → HasBegun target mid new → HasBegun target old new
-begun_more target old mid new a b = record {
-  caller = b.caller;
-  number = b.number ∙ a.number;
-  fresh = (b.fresh.0 ∙ a.fresh.0, b.fresh.1 ∙ a.fresh.1);
-  went = went_more Begins old.token.view mid.token.view new.token.view a.went b.went;
-  aims = went_more (StartsAt target) old.token.view mid.token.view new.token.view a.aims b.aims;
-  quiet = b.quiet;
-  refused = λ was. b.refused (a.refused was);
-}
+begun_more target old mid new a b = grind (arith, went_more)
 
 -- ---- what is told after reservings
 
@@ -146,9 +128,7 @@ module _ (who : Caller) (parent index target rebuild change : ℕ) (f : Filling)
 
     put : (said : Bool) → IsDecided last.view change said → HasPutIn who.token.view change
         (start_filling who.number parent index target rebuild) said last.view
-    put said d =
-        has_put who.token.view change f (start_filling who.number parent index target rebuild) said
-        token.view last.view is i helped d
+    put said d = grind (arith, has_put)
 
     -- it was installed and is out of its slot
     put_begun : (said : Bool) → IsDecided last.view change said → IsOut last.view change

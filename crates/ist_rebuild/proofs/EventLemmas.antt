@@ -1,6 +1,6 @@
 -- Which events are steps of help, and which of them change nothing of what their caller holds.
 -- Serves each function.
-use Rattle.std.proofs.Common.{ℕ, ◌≡◌, List, Option, Some, None, Result, Ok, IfSome, refl, sym, ap, ◌∙◌, subst}
+use Rattle.std.proofs.Common.{ℕ, ◌≡◌, List, Option, Some, None, Result, Ok, IfSome, refl, sym, ap, ◌∙◌, subst, arith}
 use Rattle.ist_core.specs.declared.events.Event.{Event}
 use Rattle.ist_core.specs.declared.events.Event.TheVariants.{Reserve, Install, Okay, Decide, Resolve, Mark, Pass, Finish, Root, Draw, Place, Lose}
 use Rattle.ist_core.specs.declared.ports.Full.{Full}
@@ -66,10 +66,7 @@ helped_same who ready s = record { on = ready_same ServesRebuild who s ready; fr
 
 -- helping twice
 pub helped_more : (a b c : Caller) → HasHelped a b → HasHelped b c → HasHelped a c
-helped_more a b c h k = record {
-  on = ready_more ServesRebuild a b c h.on k.on;
-  fresh = (k.fresh.0 ∙ h.fresh.0, k.fresh.1 ∙ h.fresh.1);
-}
+helped_more a b c h k = grind (arith, ready_more)
 
 -- a started rebuild is started still
 pub started_went : (P : Event → Type 0) (v w : View) → WentOn P v w → (rebuild : ℕ)
@@ -97,14 +94,12 @@ loads_helped who token ready g =
 -- help for a change
 pub help_helped : (who : Caller) (token : TokenFace) (change : ℕ) → IsReady who
     → WentOn (HelpsWith change) who.token.view token.view → HasHelped who (record who { token = token })
-help_helped who token change ready g =
-    kept_helped who token ready (HelpsWith change) (serves_keep change) (change_serves change) g
+help_helped who token change ready g = grind (arith, kept_helped, serves_keep, change_serves)
 
 -- marking
 pub marks_helped : (who : Caller) (token : TokenFace) (v : View) (node : ℕ) → IsReady who
     → WentOn (Marks v node) who.token.view token.view → HasHelped who (record who { token = token })
-marks_helped who token v node ready g =
-    kept_helped who token ready (Marks v node) (marks_keep v node) (marks_serve v node) g
+marks_helped who token v node ready g = grind (arith, kept_helped, marks_keep, marks_serve)
 
 -- ---- events of builds
 
@@ -136,9 +131,7 @@ builds_helped old new ready c refused number leaf pair g = record {
 pub built_helped : (old new : Caller) → IsReady old → IsCaller new → HasRefused new
     → new.number ≡ old.number → spares_of new ≡ spares_of old
     → WentOn Builds old.token.view new.token.view → HasHelped old new
-built_helped old new ready c refused number rows g =
-    builds_helped old new ready c refused number (ap (λ own. own.leaf) rows)
-    (ap (λ own. own.pair) rows) g
+built_helped old new ready c refused number rows g = grind (arith, builds_helped)
 
 -- ---- a change row
 
@@ -178,14 +171,8 @@ took_row old new base ready s h = at old.change refl h.held
     at : (o : Option ℕ) → old.change ≡ o
         → IfSome o (λ held. (◌≡◌ {A = Result ℕ Full} (Ok base) (Ok held)) × (new ≡ old))
         → HasTakenRow old new base
-    at (Some held) is k = subst (λ x. HasTakenRow old x base) (sym k.1) record {
-      helped = helped_same old ready s;
-      by = went_same Builds old.token.view s;
-      row = is ∙ ap (λ n. Some n) (sym (cc (k.0)));
-    }
-    at None is k = let f = h.fresh is in
-        let it = reserved_helped old new base ready h.caller h.number is f.0 f.1 in
-        record { helped = it.0; by = it.1; row = ap (λ own. own.change) f.1 }
+    at (Some held) is k = grind (arith, helped_same, went_same)
+    at None is k = grind (arith, reserved_helped)
 
 -- a caller that was refused the row has helped
 pub refused_row : (old new : Caller) (words : ℕ) (full : Full) → IsReady old

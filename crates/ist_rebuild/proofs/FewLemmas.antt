@@ -6,10 +6,9 @@ use Rattle.ist_core.specs.declared.events.Event.{Event}
 use Rattle.ist_core.specs.declared.events.Event.TheVariants.{Install}
 use Rattle.ist_core.specs.declared.events.Who.TheVariants.{Caller as CallerOf}
 use Rattle.ist_core.specs.declared.ports.Full.{Full}
-use Rattle.ist_core.specs.LogTerms.{GoesOn}
 use Rattle.ist_rule.specs.RuleTerms.{TokenFace, WentOn, now, GoesOnTo, IsSound}
 use Rattle.ist_rule.proofs.EventLemmas.{goes_on_who}
-use Rattle.ist_rows.specs.RowTerms.{kind_words, IsCaller, IsFreshRow, IsKindRefused, HasRunOut, HasTakenFew, HasTakenFewIn, TakesNoWords, IsLaterCaller, taken_by, took_few, IsReady}
+use Rattle.ist_rows.specs.RowTerms.{kind_words, IsCaller, IsFreshRow, IsKindRefused, HasRunOut, HasTakenFew, HasTakenFewIn, TakesNoWords, IsLaterCaller, took_few, IsReady}
 use Rattle.ist_rows.specs.declared.callers.Caller.{Caller}
 use Rattle.ist_rows.specs.declared.kinds.Kind.TheVariants.{Change}
 use Rattle.ist_rows.proofs.FewLemmas.{later_went, few_less, few_low, few_more, few_then, few_wider, out_wider}
@@ -47,15 +46,7 @@ told_went P old new g rebuild k told =
 -- which rows a caller says that it has changes nothing
 none_beside : (old mid new : Caller) → new.token ≡ mid.token → new.number ≡ mid.number
     → TakesNoWords old mid → TakesNoWords old new
-none_beside old mid new token number h = record {
-  later = record {
-    number = number ∙ h.later.number;
-    start = ap (λ (t : TokenFace). t.view.start) token ∙ h.later.start;
-    words = ap (λ (t : TokenFace). t.view.words) token ∙ h.later.words;
-    on = subst (λ (t : TokenFace). GoesOn old.token.view.log t.view.log) (sym token) h.later.on;
-  };
-  none = ap (λ (t : TokenFace). taken_by old.number t.view.log) token ∙ h.none;
-}
+none_beside old mid new token number h = grind arith
 
 -- help for a change
 pub none_helped : (who : Caller) (token : TokenFace) (change : ℕ)
@@ -158,17 +149,7 @@ module _ (old mid built : Caller) (rebuild : ℕ) (m : TakesNoWords old mid) (h 
       → (k : ℕ) → IsTold (now old.token.view) rebuild k
       → HasTakenFewIn r (sum (shape k) + change_words) change_words old built
   few_marked r f k told =
-      few_call r (sum (shape k) + change_words) change_words old mid built m (after_helped mid built b)
-      (wide r (f k (told_went ServesRebuild old mid h.on.gone.went rebuild k told)))
-    where
-      wide : {A : Type 0} (r : Result A Full) → HasTakenFewIn r (sum (shape k)) 0 mid built
-          → HasTakenFewIn r (sum (shape k) + change_words) change_words mid built
-      wide (Ok x) few =
-          few_low (sum (shape k) + change_words) (0 + change_words) (sum (shape k) + change_words)
-          change_words mid built (omega arith) (omega arith)
-          (few_wider (sum (shape k)) 0 change_words mid built few)
-      wide (Err full) out =
-          out_wider (sum (shape k)) (sum (shape k) + change_words) mid built (omega arith) out
+      grind (arith, few_call, after_helped, told_went, few_low, few_wider, out_wider)
 
   -- made loads, and finished it, has helped and took few words, and a refusal is one of the whole
   pub rebuilt : {A : Type 0} (r : Result A Full) (token : TokenFace) (new : Caller) (was words : ℕ)
@@ -202,9 +183,7 @@ few_needed old new r = let few = r.few in took_few (omega arith)
 -- and then no word
 pub few_bare : (old mid new : Caller) → HasReserved old mid → TakesNoWords mid new
     → HasTakenFew (needed old) 0 old new
-few_bare old mid new r none =
-    few_kept (needed old) 0 old mid new (later_went IsReservation old mid r.number r.went) none
-    (few_needed old mid r)
+few_bare old mid new r none = grind (arith, few_kept, later_went, few_needed)
 
 -- or then what it still needed
 pub few_begun : {target : ℕ} (old mid new : Caller) → HasReserved old mid → HasBegun target mid new

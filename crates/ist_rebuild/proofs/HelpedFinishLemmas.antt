@@ -1,5 +1,5 @@
 -- A finish that was installed, and helped. Serves `carry`.
-use Rattle.std.proofs.Common.{◌≡◌, ◌≢◌, ℕ, ◌==◌, if◌then◌else◌, true, false, Bool, [], ◌∷◌, Some, None, option_map, refl, sym, ap, ◌∙◌, subst, ◌+◌, ◌<◌, slice_get, arith}
+use Rattle.std.proofs.Common.{◌≡◌, ◌≢◌, ℕ, true, [], ◌∷◌, Some, None, refl, sym, ap, ◌∙◌, subst, ◌+◌, ◌<◌, slice_get, arith}
 use Rattle.std.proofs.lemmas.Option.{same_Some}
 use Rattle.ist_core.specs.declared.events.Event.{Event}
 use Rattle.ist_core.specs.declared.events.Event.TheVariants.{Install}
@@ -37,16 +37,7 @@ use Rattle.ist_rows.proofs.FillingLemmas.{stored_at}
 -- a change that was put among the rows is there, also after a write of a slot
 there_after : (ps : Pieces) (base node i word : ℕ) (r : ChangeRow)
     → changed_at (with_row ps base (Some (Change r))) node (with_slot i word) base ≡ Some (Change r)
-there_after ps base node i word r = at (base == node)
-  where
-    here : with_row ps base (Some (Change r)) base ≡ Some (Change r)
-    here = ap (λ b. if b then Some (Change r) else ps base) (base_same base)
-
-    at : (b : Bool)
-        → (if b then option_map (with_slot i word) (with_row ps base (Some (Change r)) base)
-        else with_row ps base (Some (Change r)) base) ≡ Some (Change r)
-    at true = ap (option_map (with_slot i word)) here
-    at false = here
+there_after ps base node i word r = grind (arith, base_same)
 
 -- the caller after its Install
 pub record HasInstalled (who : Caller) (plan : PlannedFinish) (change : ℕ) (token : TokenFace) : Type 0 where
@@ -72,8 +63,7 @@ module _ (who : Caller) (plan : PlannedFinish) (change : ℕ) (ready : IsReady w
   number_is = ap number_of (sym i.mine ∙ ready.caller.mine)
 
   serves : ServesRebuild event
-  serves r e = ap (λ c. c.kind) (sym (same_Some (filling_at who.token.view change).change r e))
-      ∙ ap (λ c. c.kind) p.is
+  serves r e = grind (arith, same_Some)
 
   refused_before : HasRefused before
   refused_before =
@@ -149,8 +139,7 @@ module _ (who : Caller) (plan : PlannedFinish) (change : ℕ) (ready : IsReady w
         has_installed.published
 
     same_row : (r : ChangeRow) → (now last.view).pieces change ≡ Some (Change r) → the_change.0 ≡ r
-    same_row r e = one_change the_change.0 r
-        (same_value ((now last.view).pieces change) (Change the_change.0) (Change r) the_change.1 e)
+    same_row r e = grind (arith, one_change, same_value)
 
     -- if it was decided yes, the rebuild was replaced
     pub carried_yes : IsSound who.token.view → IsPlan who.token.view plan
@@ -199,11 +188,7 @@ pub other_differs : (who : Caller) (plan : PlannedFinish) (change found : ℕ) (
     → IsPrepared who plan change
     → IsOther who.token.view change (filling_at who.token.view change) found w
     → (word : ℕ) → Other found ≡ Other word → word ≢ word_of (RebuildAt plan.rebuild)
-other_differs who plan change found w p o word e is =
-    o.differs (answer found word e ∙ is ∙ sym (ap (λ (r : ChangeRow). r.from) p.is))
-  where
-    answer : (a b : ℕ) → Other a ≡ Other b → a ≡ b
-    answer a b e = cc
+other_differs who plan change found w p o word e is = grind arith
 
 -- ---- the change that a caller has stored into a row, read back. Serves `prepare`.
 

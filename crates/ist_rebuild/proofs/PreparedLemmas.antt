@@ -1,6 +1,5 @@
 -- A filled finish may be installed. Serves `prepare`.
-use Rattle.std.proofs.Common.{◌≡◌, ℕ, ◌+◌, ◌<◌, List, [], length, slice_get, Some, Ok, refl, sym, subst, ⊎_elim, arith, ◌≢◌}
-use Rattle.ist_core.specs.declared.states.ChangeRow.{ChangeRow}
+use Rattle.std.proofs.Common.{◌≡◌, ℕ, ◌+◌, ◌<◌, List, [], slice_get, Some, Ok, refl, sym, subst, arith, ◌≢◌}
 use Rattle.ist_core.specs.TreeTerms.{IsUnrefused, IsUpdate, IsReplaced}
 use Rattle.ist_core.specs.WordTerms.{Change, words_of, change_words, finish_kind, ChangeAt, RebuildAt, ref_of, SlotHolds, IsOpen}
 use Rattle.ist_rule.specs.RuleTerms.{now, IsSound, own_at, TokenFace, WentOn, GoesOnTo}
@@ -33,8 +32,7 @@ use Rattle.ist_rebuild.specs.declared.answers.Helped.TheVariants.{ParentMarked, 
 use Rattle.ist_rebuild.proofs.SlotLemmas.{closed_went, tells_left, tells_replaced}
 
 no_update : IsUpdate finish_kind → ⊥
-no_update u = ⊎_elim (λ e. let four : ◌≡◌ {A = ℕ} 4 1 = e in omega arith)
-    (λ e. let four : ◌≡◌ {A = ℕ} 4 2 = e in omega arith) u
+no_update u = grind arith
 
 -- a caller that stored the words of its plan's finish into its change row
 module _ (mid : Caller) (plan : PlannedFinish) (change : ℕ) (row : mid.change ≡ Some change)
@@ -56,9 +54,7 @@ module _ (mid : Caller) (plan : PlannedFinish) (change : ℕ) (row : mid.change 
 
   stored : (k : ℕ) → k < 9 → slice_get (words_of (Change (finish_row plan mid.number))) k
       ≡ Some (own_at w.own (change + k))
-  stored k less = subst (λ ws. slice_get ws k ≡ Some (own_at w.own (change + k))) words_are
-      (stored_at mid.token.view.own change words k
-      (subst (λ ws. k < length ws) (sym words_are) less))
+  stored k less = grind (arith, stored_at)
 
   -- the finish may be installed
   installable : IsReady new → IsSound w → IsPlan w plan → IsUnrefused (now w) mid.number plan.parent
@@ -87,14 +83,7 @@ module _ (mid : Caller) (plan : PlannedFinish) (change : ℕ) (row : mid.change 
   -- a caller that filled its change row may install the finish
   pub filled_prepared : IsReady new → IsSound w → IsPlan w plan
       → IsUnrefused (now w) mid.number plan.parent → IsPrepared new plan change
-  filled_prepared ready s p unrefused = record {
-    row = row;
-    is = is;
-    may_install = subst (λ (r : ChangeRow). IsInstallable w change record {
-      change = r;
-      fresh = [];
-    }) (sym is) (installable ready s p unrefused);
-  }
+  filled_prepared ready s p unrefused = grind (arith, is, installable)
 
 -- ---- from the reserving on
 

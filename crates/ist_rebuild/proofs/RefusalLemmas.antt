@@ -1,5 +1,5 @@
 -- What a refused caller was refused for. Serves `build_out`, `prepare` and their callers.
-use Rattle.std.proofs.Common.{◌≡◌, ℕ, Result, Ok, Err, IfErr, sym, subst, ◌≢◌, ◌⊎◌, List, ◌∷◌, ap, ◌∙◌, inl, inr}
+use Rattle.std.proofs.Common.{◌≡◌, ℕ, Result, Ok, Err, IfErr, sym, subst, ◌≢◌, ◌⊎◌, List, ◌∷◌, ap, ◌∙◌, inl, inr, arith}
 use Rattle.std.specs.Result.{IsErrAnd}
 use Rattle.ist_core.specs.declared.ports.Full.{Full}
 use Rattle.ist_core.specs.declared.events.Event.{Event}
@@ -69,25 +69,21 @@ row_refused old new rebuild words full h gone =
 -- the refusal of a call holds from an earlier view too, if the caller helped in between
 pub refused_more : (u v w : View) (rebuild words : ℕ) (full : Full) → WentOn ServesRebuild u v
     → IsHelpRefused v rebuild words full w → IsHelpRefused u rebuild words full w
-refused_more u v w rebuild words full g h =
-    short_from (WentOn ServesRebuild) (WentOn ServesRebuild) u v
-    (λ x. went_more ServesRebuild u v x g) words full w h (λ asked. asked)
+refused_more u v w rebuild words full g h = grind (arith, short_from, went_more)
 
 -- so does that of an answer
 pub answer_refused : {A : Type 0} (r : Result A Full) (u v w : View) (was rebuild words : ℕ) → was ≡ rebuild
     → WentOn ServesRebuild u v → IfErr r (λ full. IsHelpRefused v was words full w)
     → IfErr r (λ full. IsHelpRefused u rebuild words full w)
 answer_refused (Ok a) u v w was rebuild words is g h = tt
-answer_refused (Err full) u v w was rebuild words is g h =
-    refused_more u v w rebuild words full g (subst (λ n. IsHelpRefused v n words full w) is h)
+answer_refused (Err full) u v w was rebuild words is g h = grind (arith, refused_more)
 
 -- and that of an answer of a build
 pub answer_short : {A : Type 0} (r : Result A Full) (u v w : View) (rebuild words : ℕ)
     → WentOn ServesRebuild u v → IfErr r (λ full. RebuildIsShort v rebuild words full w)
     → IfErr r (λ full. IsHelpRefused u rebuild words full w)
 answer_short (Ok a) u v w rebuild words g h = tt
-answer_short (Err full) u v w rebuild words g h =
-    refused_more u v w rebuild words full g (short_refused v w rebuild words full h)
+answer_short (Err full) u v w rebuild words g h = grind (arith, refused_more, short_refused)
 
 -- ---- answers
 
@@ -101,9 +97,7 @@ passed_on (Err e) full P same p = subst P (sym same) p
 pub passed_more : {A : Type 0} (answer : Result A Full) (full : Full) (u v w : View) (rebuild words : ℕ)
     → IsErrAnd answer (λ x. x ≡ full) → WentOn ServesRebuild u v
     → IsHelpRefused v rebuild words full w → IfErr answer (λ x. IsHelpRefused u rebuild words x w)
-passed_more answer full u v w rebuild words same g h =
-    passed_on answer full (λ x. IsHelpRefused u rebuild words x w) same
-    (refused_more u v w rebuild words full g h)
+passed_more answer full u v w rebuild words same g h = grind (arith, passed_on, refused_more)
 
 -- ---- a rebuild that may be built may still be built later. Serves `build_out` and `help_rebuild`.
 
@@ -126,15 +120,7 @@ buildable_went P v w g rebuild b = let grow = went_grow P v w g in
 -- one with a finished target may be built
 told_buildable : (t : Snapshot) (rebuild target k : ℕ) → HasTarget t rebuild target
     → IsStarted t rebuild → IsFinishedWith t target k → IsBuildable t rebuild
-told_buildable t rebuild target k h started finished = record {
-  k = k;
-  told = record {
-    row = h.row;
-    published = h.published;
-    started = started;
-    finished = subst (λ n. IsFinishedWith t n k) (sym h.target_is) finished;
-  };
-}
+told_buildable t rebuild target k h started finished = grind arith
 
 -- the target of a started rebuild may be marked
 may_mark_target : (v : View) (number rebuild target : ℕ) → v.who ≡ CallerOf number

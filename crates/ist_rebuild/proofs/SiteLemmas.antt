@@ -1,5 +1,5 @@
 -- What the row of a started rebuild says, and what becomes of it. Serves `field` and `plan_of`.
-use Rattle.std.proofs.Common.{◌≡◌, ℕ, ◌+◌, ◌^◌, ◌<◌, [], slice_get, Some, refl, sym, ap, ◌∙◌, subst}
+use Rattle.std.proofs.Common.{◌≡◌, ℕ, ◌+◌, ◌^◌, ◌<◌, [], slice_get, Some, refl, sym, ap, ◌∙◌, subst, arith}
 use Rattle.std.proofs.lemmas.Option.{slice_get-get_or, same_Some}
 use Rattle.std.specs.Prelude.{get_or}
 use Rattle.ist_core.specs.declared.events.Event.{Event}
@@ -29,9 +29,7 @@ use Rattle.ist_rebuild.proofs.EventLemmas.{started_went}
 -- the base of a rebuild is good
 pub rebuild_good : (v : View) → IsSound v → (rebuild : ℕ) → IsRebuildRow (now v) rebuild
     → IsGoodBase rebuild
-rebuild_good v s rebuild h =
-    published_good v.start v.words s.lawful.opens v.log rebuild (Rebuild h.row) s.lawful.enabled
-    h.published
+rebuild_good v s rebuild h = grind (arith, published_good)
 
 -- so is that of a plan's rebuild
 pub plan_good : (v : View) → IsSound v → (plan : PlannedFinish) → IsPlan v plan → IsGoodBase plan.rebuild
@@ -62,8 +60,7 @@ looked_word v place word w l rebuild offset h less at =
 -- the parent's word of a rebuild fits in 32 bits
 pub parent_small : (v : View) → IsSound v → (rebuild word : ℕ) → IsWordOf (now v) rebuild 1 word
     → word < 2 ^ 32
-parent_small v s rebuild word h = subst (λ n. n < 2 ^ 32) (same_Some h.row.parent word h.is)
-    (fields_low v s rebuild h.row h.published).parent
+parent_small v s rebuild word h = grind (arith, same_Some, fields_low)
 
 -- ---- the plan of a finish
 
@@ -188,9 +185,7 @@ module _ (v : View) (s : IsSound v) (plan : PlannedFinish) (p : IsPlan v plan) w
 
   -- which was linked
   pub parent_linked : WasLinked (start v.start v.words) v.log plan.parent
-  parent_linked = subst (WasLinked (start v.start v.words) v.log) node_is
-      (node_was_linked v.start v.words s.lawful.opens v.log s.lawful.enabled p.started.base
-      p.started.change p.started.published)
+  parent_linked = grind (arith, node_is, node_was_linked)
 
   -- the parent has the slot
   pub parent_slot : IsSlot v plan.parent plan.index

@@ -1,7 +1,7 @@
 -- What a load of a rebuild's slot says of the rebuild. Serves `slot_word`, `settle` and `conclude`.
 use Rattle.std.proofs.Common.{◌≡◌, ◌≢◌, ℕ, ◌<◌, Some, sym, ap, ◌∙◌, subst, ⊎_elim, arith}
 use Rattle.ist_core.specs.declared.events.Event.{Event}
-use Rattle.ist_core.specs.WordTerms.{anchor, anchor_slot_place, Inner, size_of, words_of, ChangeAt, RebuildAt, ref_of, word_of, SlotHolds, IsOpen, in_anchor, in_row, past_change}
+use Rattle.ist_core.specs.WordTerms.{anchor, anchor_slot_place, size_of, words_of, ChangeAt, RebuildAt, ref_of, word_of, SlotHolds, IsOpen, past_change}
 use Rattle.ist_core.specs.TreeTerms.{IsReplaced, place_of_slot}
 use Rattle.ist_core.specs.LogTerms.{IsShown, shown_next, shown_callers, shown_status, shown_slot, shown_row, shown_free}
 use Rattle.ist_core.proofs.AllPlaceLemmas.{get_below, anchor_free, placed, claimed_within, slot_once}
@@ -39,8 +39,7 @@ shown_low v s _ word (shown_row base p k there got) =
     let less = get_below (words_of p) k word got in
     let low = next_within v.start v.words s.lawful.opens v.log s.lawful.enabled in
     let all = words_same v.start v.words s.lawful.opens v.log in omega arith
-shown_low v s _ _ (shown_free far inside) =
-    let all = words_same v.start v.words s.lawful.opens v.log in omega arith
+shown_low v s _ _ (shown_free far inside) = grind (arith, words_same)
 
 -- a word in a slot is in the table
 pub slot_low : (v : View) → IsSound v → (node i place : ℕ) → IsSlot v node i
@@ -52,12 +51,7 @@ slot_low v s node i place slot at = subst (λ p. p < v.words) (sym at)
 -- and isn't the anchor's slot, unless the node is the anchor
 pub slot_off : (v : View) → IsSound v → (node i place : ℕ) → IsSlot v node i → node ≢ anchor
     → place ≡ place_of_slot (now v) node i → place ≢ anchor_slot_place
-slot_off v s node i place slot ne at = off slot.word slot.holds
-  where
-    off : (word : ℕ) → SlotHolds (now v) node i word → place ≢ anchor_slot_place
-    off word (in_anchor e f g) same = absurd (ne e)
-    off word (in_row r e got) same = let is = place_inner (now v) node i r e ne in
-        let above = row_above v s node (Inner r) e in absurd (omega arith)
+slot_off v s node i place slot ne at = grind (arith, place_inner, row_above)
 
 -- a load of the slot gives its word
 pub slot_told : (v : View) → IsSound v → (node i place : ℕ) → IsSlot v node i

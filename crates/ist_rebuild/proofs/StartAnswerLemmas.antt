@@ -1,5 +1,5 @@
 -- What `start` returns, by the result of putting the start in. Serves `BegunLemmas`.
-use Rattle.std.proofs.Common.{◌≡◌, ◌≢◌, ℕ, Bool, true, false, Result, Some, Ok, Err, refl, sym, ◌∙◌, subst, inl, inr, ⊎_elim, arith}
+use Rattle.std.proofs.Common.{◌≡◌, ◌≢◌, ℕ, Bool, true, false, Result, Some, refl, sym, ◌∙◌, subst, inl, inr, ⊎_elim, arith}
 use Rattle.ist_build.specs.Laying.{IsReservation}
 use Rattle.ist_core.specs.declared.events.Event.{Event}
 use Rattle.ist_core.specs.declared.events.Event.TheVariants.{Okay, Decide, Resolve}
@@ -15,7 +15,7 @@ use Rattle.ist_rows.specs.declared.callers.Caller.{Caller}
 use Rattle.ist_dcss.specs.Helping.{Serves, IsDecided}
 use Rattle.ist_dcss.specs.Installing.{Filling, IsInstalled}
 use Rattle.ist_rebuild.specs.declared.answers.Started.{Started}
-use Rattle.ist_rebuild.specs.declared.answers.Started.TheVariants.{Yes, Other, Marked}
+use Rattle.ist_rebuild.specs.declared.answers.Started.TheVariants.{Yes}
 use Rattle.ist_rebuild.specs.Going.{Begins, StartsAt}
 use Rattle.ist_rebuild.specs.Starting.{IsStartedAt, LeavesDone, IsStartRefused, StartsDoneBut, StartsDoneSince, LeavesUninstalled, LeavesUnstarted, ReservesNeeded, StartsNone}
 use Rattle.ist_rebuild.specs.StartSteps.{IsStartReady, start_filling}
@@ -30,12 +30,7 @@ use Rattle.ist_rows.proofs.ShortLemmas.{short_from}
 pub has_put : (v : View) (change : ℕ) (f g : Filling) (said : Bool) (between w : View) → f ≡ g
     → IsInstalled v change f between → WentOn (Serves change) between w → IsDecided w change said
     → HasPutIn v change g said w
-has_put v change f g said between w is i helped d = record {
-  between = between;
-  installed = subst (λ x. IsInstalled v change x between) is i;
-  helped = helped;
-  decided = d;
-}
+has_put v change f g said between w is i helped d = grind arith
 
 -- ---- the rows
 
@@ -157,20 +152,7 @@ after_done v u w g number same mine resolved is answer leaves first done =
 pub after_uninstalled : (old mid new : Caller) → mid.number ≡ old.number → ReservesNeeded old mid
     → (answer : Result Started Full) → LeavesUninstalled mid new answer
     → LeavesUninstalled old new answer
-after_uninstalled old mid new number first answer left = at answer left
-  where
-    both : ReservesNeeded mid new → ReservesNeeded old new
-    both next = record {
-      went = went_more IsReservation old.token.view mid.token.view new.token.view first.went
-          next.went;
-      few = takes_more old mid new number first.few next.few;
-    }
-
-    at : (a : Result Started Full) → LeavesUninstalled mid new a → LeavesUninstalled old new a
-    at (Ok (Yes rebuild)) next = tt
-    at (Ok (Other word)) next = both next
-    at (Ok Marked) next = tt
-    at (Err full) next = both next
+after_uninstalled old mid new number first answer left = grind (arith, went_more, takes_more)
 
 -- what was not started after reservings was not started from the beginning
 pub after_unstarted : (v u w : View) → WentOn IsReservation v u → (number same : ℕ)
@@ -178,16 +160,4 @@ pub after_unstarted : (v u w : View) → WentOn IsReservation v u → (number sa
     → (answer : Result Started Full) → LeavesUnstarted (now u) (now w) same answer
     → LeavesUnstarted (now v) (now w) number answer
 after_unstarted v u w g number same mine resolved is answer left =
-    at answer (subst (λ n. LeavesUnstarted (now u) (now w) n answer) is left)
-  where
-    both : StartsNone (now u) (now w) number → StartsNone (now v) (now w) number
-    both two base x e own kind said =
-        starts_none_reserving v u g number mine resolved base x (two base x e own kind said) own kind
-        said
-
-    at : (a : Result Started Full) → LeavesUnstarted (now u) (now w) number a
-        → LeavesUnstarted (now v) (now w) number a
-    at (Ok (Yes rebuild)) two = tt
-    at (Ok (Other word)) two = both two
-    at (Ok Marked) two = both two
-    at (Err full) two = both two
+    grind (arith, starts_none_reserving)

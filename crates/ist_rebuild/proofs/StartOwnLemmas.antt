@@ -1,6 +1,6 @@
 -- The changes of a caller that starts a rebuild: all except that start are what they were. Serves
 -- `start`.
-use Rattle.std.proofs.Common.{◌≡◌, ◌≢◌, ◌⊎◌, ℕ, ◌+◌, List, ◌∷◌, Some, sym, ap, ◌∙◌, subst, inl, inr, ⊎_elim, arith, Bool, true, false, Option, refl}
+use Rattle.std.proofs.Common.{◌≡◌, ◌≢◌, ◌⊎◌, ℕ, ◌+◌, List, ◌∷◌, Some, sym, ap, ◌∙◌, subst, inl, inr, ⊎_elim, arith, Bool, true, false, Option}
 use Rattle.std.proofs.lemmas.Bool.Decides.{eqb_tells}
 use Rattle.ist_build.specs.Laying.{IsReservation}
 use Rattle.ist_core.specs.declared.events.Event.{Event}
@@ -11,7 +11,7 @@ use Rattle.ist_core.specs.declared.events.Who.TheVariants.{Caller}
 use Rattle.ist_core.specs.declared.states.RebuildRow.{RebuildRow}
 use Rattle.ist_core.specs.LogTerms.{GoesOnBy, no_more, one_more, whose, LaterBy, CanOpen, EachEnabled, state_of, Log, Snapshot, after}
 use Rattle.ist_core.specs.TreeTerms.{AllResolvedOf, IsUnrefused, AllGrow, ChangeGrows, RebuildGrows}
-use Rattle.ist_core.specs.WordTerms.{Change, RebuildAt, ref_of, start, start_kind, decided_yes, Rebuild, with_slot, with_row, ChangeAt, Ref, IsGoodBase, word_of, IsOpen, SlotHolds}
+use Rattle.ist_core.specs.WordTerms.{Change, RebuildAt, ref_of, start, start_kind, decided_yes, Rebuild, Ref, IsGoodBase, word_of, IsOpen, SlotHolds}
 use Rattle.ist_core.proofs.AllLogLemmas.{enabled_before, change_there, rebuild_there}
 use Rattle.laws_links.proofs.ChangeLemmas.{undecided_unresolved}
 use Rattle.laws_links.proofs.ComesLemmas.{change_comes}
@@ -51,8 +51,7 @@ reserves_but caller but _ is = absurd is
 either_but : (caller but : ℕ) (P : Event → Type 0)
     → ((event : Event) → P event → InstallsBut caller but event) → (event : Event)
     → (whose event ≢ Caller caller) ⊎ P event → InstallsBut caller but event
-either_but caller but P all event e =
-    ⊎_elim (λ other. others_but caller but event other) (λ is. all event is) e
+either_but caller but P all event e = grind (arith, others_but)
 
 module _ (pairs : List Pair) (words : ℕ) (opens : CanOpen pairs words) where
   -- if all changes of a caller were resolved, each of its changes but this one is what it was
@@ -74,8 +73,7 @@ module _ (pairs : List Pair) (words : ℕ) (opens : CanOpen pairs words) where
           → y.owner ≡ caller → (state_of pairs words earlier).pieces base ≡ Some (Change y))
           → (state_of pairs words earlier).pieces base ≡ Some (Change x)
       at event all none (change_was old) before = before x old own
-      at _ all none (is_installed can is) before =
-          absurd (ne (none (sym can.owned ∙ ap (λ y. y.owner) (sym is) ∙ own)))
+      at _ all none (is_installed can is) before = grind arith
       at _ all none (is_decided can is) before = let mine = ap (λ y. y.owner) (sym is) ∙ own in
           let old = before can.change can.pending.published mine in absurd
           (undecided_unresolved pairs words opens earlier
@@ -148,21 +146,12 @@ module _ (number parent index target rebuild change : ℕ) (apart : rebuild ≢ 
   change_stands : (t : Snapshot) → (after t (Install number change
       (rows_of (start_filling number parent index target rebuild) change))).pieces change
       ≡ Some (Change row)
-  change_stands t = changed_at-fixed
-      (with_installed t.pieces change row (start_filling number parent index target rebuild).fresh)
-      parent change (with_slot index (word_of (ChangeAt change))) (Change row)
-      (installed_stands t.pieces change row
-      (start_filling number parent index target rebuild).fresh) refl
+  change_stands t = grind (arith, changed_at-fixed, with_installed, installed_stands)
 
   rebuild_stands : (t : Snapshot) → (after t (Install number change
       (rows_of (start_filling number parent index target rebuild) change))).pieces rebuild
       ≡ Some (Rebuild fresh_row)
-  rebuild_stands t = changed_at-fixed
-      (with_installed t.pieces change row (start_filling number parent index target rebuild).fresh)
-      parent rebuild (with_slot index (word_of (ChangeAt change))) (Rebuild fresh_row)
-      (with_row-other (with_row t.pieces rebuild (Some (Rebuild fresh_row))) change rebuild
-      (Some (Change row)) apart
-      ∙ with_row-same t.pieces rebuild (Rebuild fresh_row)) refl
+  rebuild_stands t = grind (arith, changed_at-fixed, with_installed, with_row-other, with_row-same)
 
   module _ (v : View) (said : Bool) (w : View)
       (h : HasPutIn v change (start_filling number parent index target rebuild) said w) where
@@ -221,8 +210,7 @@ module _ (number parent index target rebuild change : ℕ) (apart : rebuild ≢ 
       → (h : HasPutIn v change (start_filling number parent index target rebuild) said w)
       → (y : ChangeRow) → (now w).pieces change ≡ Some (Change y)
       → y.decision ≡ h.decided.row.decision
-  put_said v said w h y e = ap (λ (c : ChangeRow). c.decision)
-      (same_change _ y h.decided.row e h.decided.published)
+  put_said v said w h y e = grind (arith, same_change)
 
   -- the change starts that rebuild and no other
   pub put_to : (v : View) (said : Bool) (w : View)

@@ -56,16 +56,11 @@ module _ (who : Caller) (rebuild change : ℕ) (rows : HasStartRows who rebuild 
 
   -- the base of the rebuild is good
   pub rebuild_good : IsSound who.token.view → IsGoodBase rebuild
-  rebuild_good s =
-      held_good who.token.view s record { caller = who.number; base = rebuild; size = rebuild_words }
-      rebuild_held
+  rebuild_good s = grind (arith, held_good, rebuild_held)
 
   -- the two rows don't overlap
   pub rows_apart : IsSound who.token.view → Apart rebuild rebuild_words change change_words
-  rows_apart s = held_apart who.token.view s
-      record { caller = who.number; base = rebuild; size = rebuild_words }
-      record { caller = who.number; base = change; size = change_words }
-      rebuild_held change_held (λ e. omega arith)
+  rows_apart s = grind (arith, held_apart, rebuild_held, change_held)
 
   module _ (s : IsSound who.token.view) (parent index target : ℕ) where
     abbrev full : Caller
@@ -160,8 +155,7 @@ may_start_on v w parent index target g m = let start_is = ap (λ (x : View). x.s
 -- a caller that has filled the rows of a start is quiet
 pub filled_quiet : (mid who : Caller) (rebuild change parent index target : ℕ)
     → who ≡ filled_start mid rebuild change parent index target → IsQuiet mid → IsQuiet who
-filled_quiet mid who rebuild change parent index target is q = subst IsQuiet (sym is)
-    record { pending = q.pending; in_call = q.in_call; resolved = q.resolved }
+filled_quiet mid who rebuild change parent index target is q = grind arith
 
 -- ---- the install
 
@@ -204,10 +198,7 @@ module _ (v : View) (parent index target : ℕ) (m : MayStart v parent index tar
   no_update (inr e) = let three : ◌≡◌ {A = ℕ} 3 2 = e in omega arith
 
   linked : WasLinked (start u.start u.words) u.log parent
-  linked = subst (λ t. WasLinked t u.log parent)
-      (sym (ap₂ start (ap (λ (x : View). x.start) g.same) (ap (λ (x : View). x.words) g.same)))
-      (ever_later (start v.start v.words) (λ t. Linked t parent)
-      (later_by-goes_on g.later) m.linked)
+  linked = grind (arith, ever_later, later_by-goes_on)
 
   -- the change may be installed, with the view in which the rows are filled
   installable : IsSound v → IsInstallable started.token.view change
@@ -238,12 +229,4 @@ module _ (v : View) (parent index target : ℕ) (m : MayStart v parent index tar
   -- the caller that has filled the rows is ready
   pub start_ready : IsSound v → IsStartReady who rebuild change
       (start_filling who.number parent index target rebuild)
-  start_ready sv =
-      subst (λ (x : Caller). IsStartReady x rebuild change
-      (start_filling x.number parent index target rebuild)) (sym is)
-      record {
-        caller = subst IsCaller is cw;
-        rows = record { rebuild_is = rows.rebuild_is; change_is = rows.change_is };
-        quiet = filled_quiet mid started rebuild change parent index target refl quiet;
-        may_install = installable sv;
-      }
+  start_ready sv = grind (arith, filled_quiet, installable)

@@ -1,5 +1,5 @@
 -- A caller that has made at most reservings. Serves `start_rows.rt` and `starting.rt`.
-use Rattle.std.proofs.Common.{◌≡◌, ℕ, Option, Some, None, Result, Ok, Err, IfSome, IfErr, refl, sym, subst, inl, inr, [], ◌∷◌, ap, ◌∙◌}
+use Rattle.std.proofs.Common.{◌≡◌, ℕ, Option, Some, None, Result, Ok, Err, IfSome, IfErr, refl, sym, subst, inr, [], ◌∷◌, ap, ◌∙◌, arith}
 use Rattle.ist_build.specs.Laying.{IsReservation}
 use Rattle.ist_core.specs.declared.ports.Full.{Full}
 use Rattle.ist_core.specs.declared.events.Event.TheVariants.{Install}
@@ -8,7 +8,7 @@ use Rattle.ist_core.specs.WordTerms.{rebuild_words, change_words}
 use Rattle.ist_rule.specs.RuleTerms.{WentOn, now, GoesOnTo, IsSound, TokenFace}
 use Rattle.ist_rule.specs.declared.view.View.{View}
 use Rattle.ist_rule.proofs.WentOnLemmas.{goes_on_went, went_more, went_same, went_all}
-use Rattle.ist_rows.specs.RowTerms.{HasRefused, KeepsRows, kind_words, spares_of, row_of, IsCaller, IsFull, IsFreshRow, IsKindRefused, InstallsNone, IsQuiet, Spares, with_spare}
+use Rattle.ist_rows.specs.RowTerms.{HasRefused, KeepsRows, spares_of, row_of, IsCaller, IsFull, IsFreshRow, IsKindRefused, InstallsNone, IsQuiet, Spares, with_spare}
 use Rattle.ist_rows.specs.declared.callers.Caller.{Caller}
 use Rattle.ist_rows.specs.declared.kinds.Kind.{Kind}
 use Rattle.ist_rows.specs.declared.kinds.Kind.TheVariants.{Change, Rebuild}
@@ -45,12 +45,8 @@ module _ (words : ℕ) (kind : Kind) (old new : Caller) (answer : Result ℕ Ful
           → (a : Result ℕ Full) → answer ≡ a → IsFreshRow kind old new a
           → IfErr a (λ f. IsKindRefused words kind old new f)
           → WentOn IsReservation old.token.view new.token.view
-      at (Some base) e h a is f r =
-          subst (λ (x : Caller). WentOn IsReservation old.token.view x.token.view) (sym h.1)
-          (went_same IsReservation old.token.view s)
-      at None e h (Ok base) is f r =
-          reserved_went IsReservation old.token.view old.number base (kind_words kind)
-          new.token.view (f e).0 tt
+      at (Some base) e h a is f r = grind (arith, went_same)
+      at None e h (Ok base) is f r = grind (arith, reserved_went)
       at None e h (Err x) is f r =
           goes_on_went IsReservation old.token.view new.token.view (short_goes_on _ words x _ r.cause)
 
@@ -74,8 +70,7 @@ module _ (words : ℕ) (kind : Kind) (old new : Caller) (answer : Result ℕ Ful
 -- the rebuild's row was refused
 pub rebuild_short : (v : View) (words : ℕ) (full : Full) (w : View)
     → IsFull v words rebuild_words full w → IsStartRefused v words full w
-rebuild_short v words full w f =
-    short_from GoesOnTo (WentOn Begins) v v (λ x. goes_on_went Begins v x) words full w f inl
+rebuild_short v words full w f = grind (arith, short_from, goes_on_went)
 
 -- the change's row was refused
 pub change_short : (u v : View) (words : ℕ) (full : Full) (w : View) → WentOn IsReservation u v
@@ -92,8 +87,7 @@ module _ (who : Caller) (token : TokenFace) (c : IsCaller who) (g : GoesOnTo who
   where
     -- after loads each build of which the caller holds rows is still refused
     pub loads_refused : HasRefused who → HasRefused (record who { token = token })
-    loads_refused r =
-        refused_went who token c r (goes_on_went KeepsRows who.token.view token.view g)
+    loads_refused r = grind (arith, refused_went, goes_on_went)
 
     -- after loads a quiet caller is still quiet
     pub loads_quiet : IsQuiet who → IsQuiet (record who { token = token })
@@ -110,8 +104,7 @@ module _ (who : Caller) (token : TokenFace) (c : IsCaller who) (g : GoesOnTo who
 pub start_bases : (number parent index target rebuild change : ℕ) (f : Filling)
     → f ≡ start_filling number parent index target rebuild
     → bases_of (rows_of f change) ≡ change ∷ rebuild ∷ []
-start_bases number parent index target rebuild change f is =
-    ap (λ (x : Filling). bases_of (rows_of x change)) is
+start_bases number parent index target rebuild change f is = grind arith
 
 module _ (who : Caller) (rebuild change : ℕ) (rows : HasStartRows who rebuild change)
     (c : IsCaller who) (f : Filling) (bases : bases_of (rows_of f change) ≡ change ∷ rebuild ∷ [])
@@ -182,15 +175,7 @@ loads_reserved who token c q g = record {
 -- reserving twice
 pub reserved_more : (old mid new : Caller) → HasReserved old mid → HasReserved mid new
     → HasReserved old new
-reserved_more old mid new a b = record {
-  caller = b.caller;
-  number = b.number ∙ a.number;
-  fresh = (b.fresh.0 ∙ a.fresh.0, b.fresh.1 ∙ a.fresh.1);
-  quiet = b.quiet;
-  refused = λ was. b.refused (a.refused was);
-  went = went_more IsReservation old.token.view mid.token.view new.token.view a.went b.went;
-  few = takes_more old mid new a.number a.few b.few;
-}
+reserved_more old mid new a b = grind (arith, went_more, takes_more)
 
 module _ (words : ℕ) (kind : Kind) (old new : Caller) (answer : Result ℕ Full)
     (held : IfSome (row_of kind (spares_of old)) (λ base. (answer ≡ Ok base) × (new ≡ old)))
@@ -200,17 +185,7 @@ module _ (words : ℕ) (kind : Kind) (old new : Caller) (answer : Result ℕ Ful
     → ((with_spare kind base own).leaf ≡ own.leaf) × ((with_spare kind base own).pair ≡ own.pair)) where
   -- a reserving of another kind leaves the leaf and the pair row
   row_fresh : KeepsFresh old new
-  row_fresh = at (row_of kind (spares_of old)) refl held answer taken full
-    where
-      at : (o : Option ℕ) → row_of kind (spares_of old) ≡ o
-          → IfSome o (λ base. (answer ≡ Ok base) × (new ≡ old))
-          → (a : Result ℕ Full) → IsFreshRow kind old new a
-          → IfErr a (λ f. IsKindRefused words kind old new f) → KeepsFresh old new
-      at (Some base) e h a f r = (ap (λ (x : Caller). x.leaf) h.1, ap (λ (x : Caller). x.pair) h.1)
-      at None e h (Ok base) f r = let is = (f e).1 in let same = other base (spares_of old) in
-          (ap (λ (s : Spares). s.leaf) is ∙ same.0, ap (λ (s : Spares). s.pair) is ∙ same.1)
-      at None e h (Err x) f r =
-          (ap (λ (s : Spares). s.leaf) r.same, ap (λ (s : Spares). s.pair) r.same)
+  row_fresh = grind arith
 
   -- what the reserving of a rebuild's or a change's row leaves
   pub row_reserved : IsSound old.token.view → IsCaller old → IsQuiet old → IsCaller new
@@ -231,20 +206,4 @@ pub filled_reserved : (old mid full : Caller) (rebuild change parent index targe
     → full ≡ filled_start mid rebuild change parent index target → IsCaller full
     → IsSound full.token.view → HasReserved old mid → HasReserved old full
 filled_reserved old mid full rebuild change parent index target is d s r =
-    subst (HasReserved old) (sym is)
-    record {
-      caller = subst IsCaller is d;
-      number = r.number;
-      fresh = r.fresh;
-      quiet = filled_quiet mid _ rebuild change parent index target refl r.quiet;
-      refused = r.refused;
-      went = record {
-        later = r.went.later;
-        sound = subst (λ (x : Caller). IsSound x.token.view) is s;
-        same = ap (λ (x : View). record x {
-          own = (filled_start mid rebuild change parent index target).token.view.own;
-        }) r.went.same;
-        loaded = r.went.loaded;
-      };
-      few = r.few;
-    }
+    grind (arith, filled_quiet)

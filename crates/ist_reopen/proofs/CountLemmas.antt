@@ -1,10 +1,10 @@
 -- There are at least as many entries of a pass as changes among its calls. Serves
 -- `laws.histories_are_made_of_calls`.
-use Rattle.std.proofs.Common.{◌≡◌, ℕ, zero, suc, ◌+◌, ◌≤◌, ◌==◌, if◌then◌else◌, Bool, true, false, List, [], ◌∷◌, filter, length, slice_get, Some, refl, ap, arith}
+use Rattle.std.proofs.Common.{◌≡◌, ℕ, zero, suc, ◌+◌, ◌≤◌, if◌then◌else◌, Bool, true, false, List, [], ◌∷◌, filter, length, slice_get, Some, refl, arith}
 use Rattle.std.proofs.lemmas.Bool.Decides.{nat_tests}
 use Rattle.ist_core.specs.declared.calls.Call.{Call}
 use Rattle.ist_core.specs.LogTerms.{Each}
-use Rattle.ist_core.specs.TreeTerms.{Entry, is_change, entry_by, entries_by, position_after, Follows, AllFollow}
+use Rattle.ist_core.specs.TreeTerms.{Entry, is_change, entry_by, entries_by, AllFollow}
 use Rattle.laws_real_time.proofs.CountLemmas.{count_rises}
 
 module _ (number : ℕ) where
@@ -25,13 +25,7 @@ module _ (number : ℕ) where
   pub shift_made : (first : ℕ) (entry : Entry) (entries : List Entry) (call : Call)
       → first + 1 ≤ call.position → MadeAt first (entry ∷ entries) call
       → MadeAt (first + 1) entries call
-  shift_made first entry entries call low m = at m.step m.position_is m.entry_is
-    where
-      at : (step : ℕ) → call.position ≡ first + step
-          → slice_get (entry ∷ entries) step ≡ Some (entry_by number call)
-          → MadeAt (first + 1) entries call
-      at zero same is = absurd (omega arith)
-      at (suc step) same is = record { step = step; position_is = omega arith; entry_is = is }
+  shift_made first entry entries call low m = grind arith
 
   -- what holds of calls holds of each in a weaker form
   pub each_map : (P Q : Call → Type 0) → ((call : Call) → P call → Q call) → (calls : List Call)
@@ -43,9 +37,7 @@ module _ (number : ℕ) where
   above : (first : ℕ) (call : Call) → first ≤ call.position → (calls : List Call)
       → Each (λ other. call.position + 1 ≤ other.position) calls
       → Each (λ other. first + 1 ≤ other.position) calls
-  above first call low calls h =
-      each_map (λ other. call.position + 1 ≤ other.position) (λ other. first + 1 ≤ other.position)
-      (λ other k. omega arith) calls h
+  above first call low calls h = grind (arith, each_map)
 
   -- all of them are
   shift_all : (first : ℕ) (entry : Entry) (entries : List Entry) (calls : List Call)
@@ -57,21 +49,13 @@ module _ (number : ℕ) where
     shift_all first entry entries calls low.1 made.1,
   )
 
-  -- no entries
-  abbrev no_entries : List Entry
-  no_entries = []
-
   -- there are at least as many entries of the pass as changes
   count_changes : (first : ℕ) (entries : List Entry) (calls : List Call) → Climbs calls
       → Each (λ call. first ≤ call.position) calls → Each (MadeAt first entries) calls
       → length calls ≤ length (entries_by number entries)
   unfolding Climbs
   count_changes first entries [] climb low made = omega arith
-  count_changes first [] (call ∷ calls) climb low made = absurd (none made.0.step made.0.entry_is)
-    where
-      none : (step : ℕ) → slice_get (no_entries) step ≡ Some (entry_by number call) → ⊥
-      none zero e = cc
-      none (suc step) e = cc
+  count_changes first [] (call ∷ calls) climb low made = grind arith
   count_changes first (entry ∷ entries) (call ∷ calls) climb low made =
       at made.0.step made.0.position_is made.0.entry_is
       (λ k m. count_changes (first + 1) entries calls climb.1 k m)
@@ -86,17 +70,8 @@ module _ (number : ℕ) where
           → Each (MadeAt (first + 1) entries) (call ∷ calls)
           → length (call ∷ calls) ≤ length (entries_by number entries))
           → length (call ∷ calls) ≤ length (entries_by number (entry ∷ entries))
-      at zero same is one both = let here : entry ≡ entry_by number call = cc in
-          let owner : entry.owner ≡ number = ap (λ (e : Entry). e.owner) here in
-          let mineis : (entry.owner == number) ≡ true = grind (arith, nat_tests) in
-          let low = above first call (omega arith) calls climb.0 in
-          let less = one low (shift_all first entry entries calls low made.1) in
-          rw mineis (omega arith)
-      at (suc step) same is one both = let high : first + 1 ≤ call.position = omega arith in
-          let low : Each (λ other. first + 1 ≤ other.position) (call ∷ calls)
-          = (high, above first call (omega arith) calls climb.0) in
-          let less = both low (shift_all first entry entries (call ∷ calls) low made) in
-          let more = count_rises number entry entries in omega arith
+      at zero same is one both = grind (arith, nat_tests, above, shift_all)
+      at (suc step) same is one both = grind (arith, above, shift_all, count_rises)
 
   -- ---- the changes among the calls, as such
 
@@ -120,13 +95,7 @@ module _ (number : ℕ) where
       at : Climbs (filter is_change calls) → (v : Bool) → is_change call ≡ v
           → Climbs (filter is_change (call ∷ calls))
       at rest false e = rw e rest
-      at rest true e = let past : position_after call ≡ call.position + 1 = rw e refl in
-          rw e (
-            each_map (Follows call) (λ other. call.position + 1 ≤ other.position)
-                (λ other k. let low = k.position in omega arith) (filter is_change calls)
-                (each_kept (Follows call) is_change calls order.0),
-            rest,
-          )
+      at rest true e = grind (arith, each_map, each_kept)
 
   -- the changes among the calls are entries
   changes_made : (first : ℕ) (entries : List Entry) (calls : List Call)
@@ -147,6 +116,4 @@ module _ (number : ℕ) where
       → Each (λ call. is_change call ≡ true → MadeAt first entries call) calls
       → length (filter is_change calls) ≤ length (entries_by number entries)
   changes_few first entries calls order low made =
-      count_changes first entries (filter is_change calls) (changes_climb calls order)
-      (each_kept (λ call. first ≤ call.position) is_change calls low)
-      (changes_made first entries calls made)
+      grind (arith, count_changes, changes_climb, each_kept, changes_made)

@@ -1,17 +1,15 @@
 -- Closed trees are generations, and the calls on trees that follow one another are one legal
 -- history. Serves the laws.
-use Rattle.std.proofs.Common.{◌≡◌, ℕ, ◌+◌, false, List, [], ◌∷◌, ◌++◌, map, Bool, true, ◌==◌, if◌then◌else◌, refl, sym, ap, subst, ◌∙◌, ◌<◌, length}
+use Rattle.std.proofs.Common.{◌≡◌, ℕ, ◌+◌, false, List, [], ◌∷◌, ◌++◌, map, Bool, true, ◌==◌, if◌then◌else◌, refl, sym, ap, subst, ◌∙◌, ◌<◌, length, arith}
 use Rattle.std.proofs.lemmas.List.{map-append}
-use Rattle.ist_core.specs.TreeTerms.{Map, map_after, replay, Entry, map_after_entries, is_change, map_of, AllStandIn}
-use Rattle.ist_core.specs.LogTerms.{Each, PassCalls, Reading, readings, in_order, at_position, told_by_entry, told_by_reading, woven_from, woven, IsLegal, Answered}
+use Rattle.ist_core.specs.TreeTerms.{Map, map_after, Entry, map_after_entries, is_change, map_of, AllStandIn}
+use Rattle.ist_core.specs.LogTerms.{Each, PassCalls, Reading, readings, at_position, told_by_entry, told_by_reading, woven_from, woven, IsLegal, Answered}
 use Rattle.ist_core.proofs.AllWordLemmas.{each_of}
 use Rattle.laws_histories.proofs.MapLemmas.{same_head, same_tail, replay-append, no_entry_leaves, legal_append}
 use Rattle.laws_histories.proofs.WovenLemmas.{among-in_order, of_passes, taken_legal}
 use Rattle.ist_reopen.specs.Generations.{map_told, Generation, generation_of, IsGeneration, FollowOn, history, changes_in, history_in, pairs_left}
 use Rattle.ist_core.specs.declared.pairs.Pair.{Pair}
 use Rattle.ist_core.proofs.AllPlaceLemmas.{map_of-pairs_of}
-use Rattle.laws_histories.specs.Telling.{map_now}
-use Rattle.laws_histories.specs.Weaving.{numbered}
 use Rattle.laws_histories.proofs.ContentLemmas.{told_at}
 use Rattle.ist_tree.specs.CallTerms.{MakerFace, ClosesWith}
 use Rattle.ist_tree.proofs.FewChangesLemmas.{lists_long}
@@ -22,8 +20,7 @@ use Rattle.ist_reopen.proofs.ReopenLemmas.{returned_are}
 -- the map after two histories is the map after the second on the map after the first
 pub told-append : (m : Map) (xs ys : List Answered)
     → map_told m (xs ++ ys) ≡ map_told (map_told m xs) ys
-told-append m xs ys = ap (replay m) (map-append (λ it. it.command) xs ys)
-    ∙ replay-append m (map (λ it. it.command) xs) (map (λ it. it.command) ys)
+told-append m xs ys = grind (arith, map-append, replay-append)
 
 -- the reading changes nothing
 abbrev Plain : Reading → Type 0
@@ -83,10 +80,7 @@ leads_from position (entry ∷ entries) xs m plain legal =
 pub woven_leads : (m : Map) (entries : List Entry) (passes : List PassCalls)
     → IsLegal m (woven entries passes)
     → map_told m (woven entries passes) ≡ map_after_entries m entries
-woven_leads m entries passes legal = leads_from 0 entries (in_order (readings passes)) m
-    (each_of Plain (in_order (readings passes))
-    (λ x i. (of_passes passes x (among-in_order x (readings passes) i)).2.plain))
-    legal
+woven_leads m entries passes legal = grind (arith, leads_from, each_of, of_passes, among-in_order)
 
 -- a tree that was closed is a generation
 pub closed_is : (m : MakerFace) (closed : List ℕ) (c : ClosesWith m closed)
@@ -104,20 +98,17 @@ closed_is m closed c = record {
 
 -- the history of one tree is legal
 pub one_legal : (g : Generation) → IsGeneration g → IsLegal (map_of g.start) (history_in g)
-one_legal g h = taken_legal g.start g.words g.log g.calls
-    (told_at g.start g.words h.lawful.opens g.log h.lawful.enabled).legal h.stand
+one_legal g h = grind (arith, taken_legal, told_at)
 
 -- and leads to the pairs that it left
 pub one_leads : (g : Generation) → IsGeneration g
     → map_told (map_of g.start) (history_in g) ≡ map_of (pairs_left g)
-one_leads g h = woven_leads (map_of g.start) (changes_in g) (numbered 0 g.calls) (one_legal g h)
-    ∙ sym (map_of-pairs_of (map_now g.start g.words g.log))
+one_leads g h = grind (arith, woven_leads, one_legal, map_of-pairs_of)
 
 -- the same from the pairs that the tree was opened with
 from_first : (first : List Pair) (g : Generation) → g.start ≡ first → IsGeneration g
     → map_told (map_of first) (history_in g) ≡ map_of (pairs_left g)
-from_first first g same h =
-    ap (λ ps. map_told (map_of ps) (history_in g)) (sym same) ∙ one_leads g h
+from_first first g same h = grind (arith, one_leads)
 
 -- the histories of trees that follow one another are legal together
 pub history_legal : (first last : List Pair) (gs : List Generation) → FollowOn first gs last

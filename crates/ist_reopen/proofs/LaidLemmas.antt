@@ -45,29 +45,16 @@ module _ (number : ℕ) where
   here_told : (first : ℕ) (entries : List Entry) (xs : List Reading) (calls : List Call)
       → ArePlacedAmong first entries xs calls → (s : Splits number first calls)
       → told_to_pass number (map own_reading (at_position first xs)) ≡ map told_by_call s.here
-  here_told first entries xs calls h s = told_at_position number first xs ∙ ap (map told_by_reading)
-      (h.reads first (omega arith)
-      ∙ ap (λ cs. map (read_by number) (reads_at number first cs)) s.is
-      ∙ ap (map (read_by number)) (here_reads number first s.here s.rest s.reads s.following))
-      ∙ told_read s.here
-
-  -- no entries
-  abbrev no_entries : List Entry
-  no_entries = []
+  here_told first entries xs calls h s =
+      grind (arith, told_at_position, read_by, reads_at, here_reads, told_read)
 
   -- after the last entry there are readings only
   nothing_left : (first : ℕ) (rest : List Call) → Rest number first rest
       → Each (λ call. call.position ≤ first + 0) rest
       → Each (λ call. is_change call ≡ true → MadeAt number first [] call) rest → rest ≡ []
   nothing_left first _ (later {calls = []} low) high made = refl
-  nothing_left first _ (later {calls = call ∷ calls} low) high made =
-      absurd (let a = low.0 in let b = high.0 in omega arith)
-  nothing_left first _ (changes call e same low) high made =
-      absurd (let m = made.0 e in none m.step m.entry_is)
-    where
-      none : (step : ℕ) → slice_get no_entries step ≡ Some (entry_by number call) → ⊥
-      none zero e = cc
-      none (suc step) e = cc
+  nothing_left first _ (later {calls = call ∷ calls} low) high made = grind arith
+  nothing_left first _ (changes call e same low) high made = grind arith
 
   -- later calls are placed among the later entries
   shift_when : (first : ℕ) (entry : Entry) (entries : List Entry) (calls : List Call)
@@ -98,15 +85,8 @@ module _ (number : ℕ) where
       → entries_by number entries ≡ map (entry_by number) (filter is_change calls)
       → ((position : ℕ) → reads_at number position rest ≡ reads_at number position calls)
       → ArePlacedAmong (first + 1) entries xs calls
-  laid_later first entry entries xs here rest h reads calls order low high made exactly same = record {
-    order = order;
-    low = low;
-    high = shift_high first (length entries) calls high;
-    made = shift_when first entry entries calls low made;
-    exactly = exactly;
-    reads = λ position from. h.reads position (omega arith) ∙ ap (map (read_by number))
-        (other_reads number first position from here rest reads ∙ same position);
-  }
+  laid_later first entry entries xs here rest h reads calls order low high made exactly same =
+      grind (arith, shift_high, shift_when, read_by, other_reads)
 
   -- what the pass was told after the readings at the first position
   after_told : (first : ℕ) (entry : Entry) (entries : List Entry) (xs : List Reading)
@@ -130,8 +110,7 @@ module _ (number : ℕ) where
       high = each_back (λ call. call.position ≤ first + suc (length entries)) here rest h.high
 
       made : Each (λ call. is_change call ≡ true → MadeAt number first (entry ∷ entries) call) rest
-      made = each_back (λ call. is_change call ≡ true → MadeAt number first (entry ∷ entries) call)
-          here rest h.made
+      made = grind (arith, each_back, MadeAt)
 
       at : (v : Bool) → (entry.owner == number) ≡ v
           → told_to_pass number (own_entry entry ∷ owned_from (first + 1) entries xs)
@@ -156,8 +135,7 @@ module _ (number : ℕ) where
       ∙ ap (λ (x : Entry). told_by_entry x ∷ map told_by_call calls) is)
     where
       high : Each (λ call. call.position ≤ first + suc (length entries)) (call ∷ calls)
-      high = each_back (λ call. call.position ≤ first + suc (length entries)) here (call ∷ calls)
-          h.high
+      high = grind (arith, each_back)
 
       made : Each (λ call. is_change call ≡ true → MadeAt number first (entry ∷ entries) call)
           (call ∷ calls)
@@ -174,13 +152,11 @@ module _ (number : ℕ) where
       is = let m = made.0 e in head m.step m.position_is m.entry_is
 
       owner : (entry.owner == number) ≡ true
-      owner = let o : entry.owner ≡ number = ap (λ (x : Entry). x.owner) is in
-          grind (arith, nat_tests)
+      owner = grind (arith, is, nat_tests)
 
       exactly : entries_by number (entry ∷ entries)
           ≡ map (entry_by number) (filter is_change (call ∷ calls))
-      exactly = h.exactly
-          ∙ ap (map (entry_by number)) (here_changes number first here (call ∷ calls) reads)
+      exactly = grind (arith, here_changes)
 
       all : entry ∷ entries_by number entries
           ≡ entry_by number call ∷ map (entry_by number) (filter is_change calls)

@@ -54,14 +54,8 @@ module _ (number : ℕ) where
       ≡ map (read_by number) (plain (slice_index_or lists k []))
   one_of first [] zero same = refl
   one_of first [] (suc k) same = refl
-  one_of first (calls ∷ more) zero same = let is : first ≡ number = omega arith in
-      filter-append (λ x. x.number == number) (map (read_by first) (plain calls))
-      (readings (numbered (first + 1) more))
-      ∙ ap (λ xs. mine number (map (read_by first) (plain calls)) ++ xs)
-      (none_of (first + 1) more (omega arith))
-      ∙ append-nil (mine number (map (read_by first) (plain calls)))
-      ∙ ap (λ n. mine number (map (read_by n) (plain calls))) is
-      ∙ own_all (plain calls)
+  one_of first (calls ∷ more) zero same =
+      grind (arith, filter-append, read_by, mine, none_of, append-nil, own_all)
   one_of first (calls ∷ more) (suc k) same =
       let no : (first == number) ≡ false = grind (arith, nat_tests) in
       filter-append (λ x. x.number == number) (map (read_by first) (plain calls))
@@ -122,9 +116,7 @@ stand_of : (pairs : List Pair) (words : ℕ) (log : Log) (first : ℕ) (lists : 
     → AllStandIn pairs words log first lists → (k : ℕ) → k < length lists
     → StandsIn pairs words log (first + k) (slice_index_or lists k [])
 stand_of pairs words log first [] h k low = absurd (omega arith)
-stand_of pairs words log first (calls ∷ more) h zero low =
-    let same : first ≡ first + 0 = omega arith in
-    subst (λ n. StandsIn pairs words log n calls) same h.0
+stand_of pairs words log first (calls ∷ more) h zero low = grind arith
 stand_of pairs words log first (calls ∷ more) h (suc k) low =
     let same : first + 1 + k ≡ first + suc k = omega arith in
     subst (λ n. StandsIn pairs words log n (slice_index_or more k [])) same

@@ -1,7 +1,7 @@
 -- A tree over the pairs of a closed one. Serves `open_after` and `reopen`.
-use Rattle.std.proofs.Common.{◌≡◌, ◌∙◌, ℕ, List, length, sym, subst, ◌⊎◌, zero, suc, ◌+◌, ◌<◌, ◌≤◌, [], ◌∷◌, ◌++◌, map, slice_index_or, refl, ap, ap₂, ⊎_elim, arith, ◌-◌, ◌^◌}
+use Rattle.std.proofs.Common.{◌≡◌, ◌∙◌, ℕ, List, length, sym, subst, zero, suc, ◌+◌, ◌<◌, ◌≤◌, [], ◌∷◌, ◌++◌, map, slice_index_or, refl, ap, ap₂, arith, ◌-◌, ◌^◌}
 use Rattle.ist_core.specs.declared.pairs.Pair.{Pair}
-use Rattle.ist_core.specs.TreeTerms.{pairs_of, StandsFor, Map, map_of, told_by_call, Entry, changes_of}
+use Rattle.ist_core.specs.TreeTerms.{pairs_of, StandsFor, Map, map_of, told_by_call}
 use Rattle.ist_core.specs.LogTerms.{Answered, Each, PassCalls, Log, Lawful}
 use Rattle.laws_histories.specs.Telling.{map_now}
 use Rattle.ist_rest.specs.RestingWords.{HoldPairs}
@@ -62,8 +62,7 @@ follows m closed words tree maker size closes opened = record {
 list_at : (number count : ℕ) (taken : List PassCalls) (i : ℕ) → i < count
     → slice_index_or (calls_from number count taken) i [] ≡ calls_numbered (number + i) taken
 list_at number zero taken i low = absurd (omega arith)
-list_at number (suc count) taken zero low =
-    let same : number ≡ number + 0 = omega arith in ap (λ n. calls_numbered n taken) same
+list_at number (suc count) taken zero low = grind arith
 list_at number (suc count) taken (suc i) low =
     let same : number + 1 + i ≡ number + suc i = omega arith in
     list_at (number + 1) count taken i (omega arith) ∙ ap (λ n. calls_numbered n taken) same
@@ -88,12 +87,7 @@ none_returned number bound (moment ∷ moments) above low = let less = low.0 in
 -- by the moments each pass of a tree made the calls that its maker kept
 pub returned_are : (m : MakerFace) (closed : List ℕ) (c : ClosesWith m closed) (number : ℕ)
     → calls_returned number c.timed.moments ≡ slice_index_or (calls_from 0 m.made m.taken) number []
-returned_are m closed c number = ⊎_elim
-    (λ a. none_returned number m.made c.timed.moments a.1 c.timed.callers
-    ∙ sym (none_past_count 0 m.made m.taken number a.1))
-    (λ a. (let same : 0 + number ≡ number = omega arith in c.timed.calls number
-    ∙ sym (list_at 0 m.made m.taken number a.1 ∙ ap (λ n. calls_numbered n m.taken) same)))
-    (leb_tells m.made number)
+returned_are m closed c number = grind (arith, none_returned, none_past_count, list_at, leb_tells)
 
 -- ---- one tree after another
 
@@ -153,18 +147,15 @@ len_entries (e ∷ es) = let rest = len_entries es in
 pub pairs_few : (pairs : List Pair) (words : ℕ) (log : Log) → Lawful pairs words log
     → length (pairs_of (map_now pairs words log)) < 2 ^ 32
 pairs_few pairs words log lawful =
-    let few = few_changes pairs words lawful.opens log lawful.enabled in
-    let room = lawful.opens.room in let within = lawful.opens.within in
-    let ideal = ideal_words_is (length pairs) in
-    let long = length-pairs_of (map_now pairs words log) in
-    let entries = changes_of pairs words log in
-    let grown = adds_few_keys (map_of pairs) (map (λ entry. entry.command) entries) in
-    let commands : length (map (λ (entry : Entry). entry.command) entries) ≡ length entries
-    = length-map entries _ in
-    let first = len_entries (map {A = Pair} {B = ℕ × ℕ} (λ p. (p.key, p.value)) pairs) in
-    let start : length (map {A = Pair} {B = ℕ × ℕ} (λ p. (p.key, p.value)) pairs) ≡ length pairs
-    = length-map pairs _ in
-    omega arith
+    grind (
+      arith,
+      few_changes,
+      ideal_words_is,
+      length-pairs_of,
+      adds_few_keys,
+      length-map,
+      len_entries,
+    )
 
 -- standing words hold few pairs
 pub found_few : (closed : List ℕ) (found : List Pair) → Stands closed

@@ -107,9 +107,7 @@ module _ (number : ℕ) where
       at : reads_at position calls ≡ [] → (v : Bool) → is_change call ≡ v
           → reads_at position (call ∷ calls) ≡ []
       at rest true e = rw e rest
-      at rest false e = let low = h.0 in
-          let no : (call.position == position) ≡ false = grind (arith, nat_tests) in
-          rw e (rw no rest)
+      at rest false e = grind (arith, nat_tests)
 
   -- nor has what is left after them
   none_left : (position : ℕ) (rest : List Call) → Rest position rest → reads_at position rest ≡ []
@@ -171,9 +169,7 @@ told_owned position (entry ∷ entries) xs =
 -- what a pass was told in two parts
 pub told_to-append : (number : ℕ) (xs ys : List Owned)
     → told_to_pass number (xs ++ ys) ≡ told_to_pass number xs ++ told_to_pass number ys
-told_to-append number xs ys = ap (map (λ x. x.told)) (filter-append (λ x. x.owner == number) xs ys)
-    ∙ map-append (λ x. x.told) (filter (λ x. x.owner == number) xs)
-    (filter (λ x. x.owner == number) ys)
+told_to-append number xs ys = grind (arith, filter-append, map-append)
 
 -- the readings of the pass with this number
 abbrev pub mine : ℕ → List Reading → List Reading

@@ -7,7 +7,7 @@ use Rattle.ist_core.specs.WordTerms.{child_count, Ref, Empty, Unset, LeafAt, Inn
 use Rattle.ist_core.specs.TreeTerms.{pairs_between}
 use Rattle.ist_core.specs.LogTerms.{Each}
 use Rattle.ist_rest.specs.declared.slots.SlotLeft.{SlotLeft}
-use Rattle.ist_rest.specs.WordRows.{Span, row_keys, row_slots, row_degree, reads_in}
+use Rattle.ist_rest.specs.WordRows.{Span, reads_in}
 use Rattle.ist_rest.specs.Walks.{Way, Visit, LeadsBy, IsGood, pairs_read, visits_from, visits_below, Walks, ends, goes_on}
 use Rattle.ist_rest.specs.Steps.{slot_of, GiveBetween, no_slot, one_slot, slots_between, pairs_at, IsGoodSlot}
 use Rattle.ist_rest.proofs.WalkLemmas.{IsSplit, split, all_lie}
@@ -34,38 +34,21 @@ module _ (words : List ℕ) (first last : ℕ) where
   take_nil (suc n) = refl
 
   part_nil : (base i from to : ℕ) → part base i from to [] ≡ []
-  part_nil base i from to =
-      ap (λ (xs : List ℕ). map (λ word. record { word = word; node = base })
-      (take (to - i - (from - i)) xs)) (drop_nil (from - i))
-      ∙ ap (λ (xs : List ℕ). map (λ word. record { word = word; node = base }) xs)
-      (take_nil (to - i - (from - i)))
+  part_nil base i from to = grind (arith, drop_nil, take_nil)
 
   -- a slot before the part is skipped
   part_skip : (base i from to word : ℕ) (ws : List ℕ) → i < from
       → part base i from to (word ∷ ws) ≡ part base (i + 1) from to ws
-  part_skip base i from to word ws h =
-      let n : to - i - (from - i) ≡ to - (i + 1) - (from - (i + 1)) = omega arith in
-      let m : from - i ≡ suc (from - (i + 1)) = omega arith in
-      ap (λ k. map (λ w. record { word = w; node = base }) (take k (drop (from - i) (word ∷ ws)))) n
-      ∙ ap (λ k. map (λ w. record { word = w; node = base })
-      (take (to - (i + 1) - (from - (i + 1))) (drop k (word ∷ ws)))) m
+  part_skip base i from to word ws h = grind arith
 
   part_past : (base i from to : ℕ) (ws : List ℕ) → to ≤ i → part base i from to ws ≡ []
-  part_past base i from to ws h = let n : to - i - (from - i) ≡ 0 = omega arith in
-      ap (λ k. map (λ w. record { word = w; node = base }) (take k (drop (from - i) ws))) n
+  part_past base i from to ws h = grind arith
 
   -- one of those
   part_take : (base i from to word : ℕ) (ws : List ℕ) → from ≤ i → i < to
       → part base i from to (word ∷ ws) ≡ record { word = word; node = base } ∷ part base (i + 1)
       from to ws
-  part_take base i from to word ws h l = let m : from - i ≡ 0 = omega arith in
-      let also : from - (i + 1) ≡ 0 = omega arith in
-      let n : to - i - (from - i) ≡ suc (to - (i + 1) - (from - (i + 1))) = omega arith in
-      ap (λ k. map (λ w. record { word = w; node = base }) (take k (drop (from - i) (word ∷ ws)))) n
-      ∙ ap (λ k. map (λ w. record { word = w; node = base })
-      (take (suc (to - (i + 1) - (from - (i + 1)))) (drop k (word ∷ ws)))) m
-      ∙ ap (λ k. record { word = word; node = base } ∷ map (λ w. record { word = w; node = base })
-      (take (to - (i + 1) - (from - (i + 1))) (drop k ws))) (sym also)
+  part_take base i from to word ws h l = grind arith
 
   -- one slot more
   between_more : (base : ℕ) (ways : List Way) (keys : List ℕ) (i place word : ℕ) (ws : List ℕ)
@@ -105,12 +88,7 @@ module _ (words : List ℕ) (first last : ℕ) where
           base (i + 1) (child_count keys first) (child_count keys last + 1) ws
           → GiveBetween words first last (part base i (child_count keys first)
           (child_count keys last + 1) (word ∷ ws)) (pairs_between first last pairs)
-      skip none same =
-          let e : pairs_between first last pairs ≡ pairs_between first last it.there =
-          both ∙ ap (λ ps. ps ++ pairs_between first last it.there) none in
-          subst (λ ss. GiveBetween words first last ss (pairs_between first last pairs)) (sym same)
-          (subst (λ ps. GiveBetween words first last (part base (i + 1) (child_count keys first)
-          (child_count keys last + 1) ws) ps) (sym e) more)
+      skip none same = grind (arith, both)
 
       at : ((nat_le (child_count keys first) i ≡ true) × (child_count keys first ≤ i)) ⊎
           ((nat_le (child_count keys first) i ≡ false) × (i < child_count keys first))
@@ -118,13 +96,8 @@ module _ (words : List ℕ) (first last : ℕ) where
           ((nat_le (child_count keys last + 1) i ≡ false) × (i < child_count keys last + 1))
           → GiveBetween words first last (part base i (child_count keys first)
           (child_count keys last + 1) (word ∷ ws)) (pairs_between first last pairs)
-      at (inr low) high = skip (none_low keys first last i it.here low.1 lie)
-          (part_skip base i (child_count keys first) (child_count keys last + 1) word ws low.1)
-      at (inl low) (inl high) = let k = high.1 in
-          skip (none_high keys first last i it.here (omega arith) lie)
-          (part_past base i (child_count keys first) (child_count keys last + 1) (word ∷ ws) high.1
-          ∙ sym (part_past base (i + 1) (child_count keys first) (child_count keys last + 1) ws
-          (omega arith)))
+      at (inr low) high = grind (arith, skip, none_low, lie, part_skip)
+      at (inl low) (inl high) = grind (arith, skip, none_high, lie, part_past)
       at (inl low) (inr high) =
           subst (λ ss. GiveBetween words first last ss (pairs_between first last pairs))
           (sym (part_take base i (child_count keys first) (child_count keys last + 1) word ws
@@ -196,20 +169,7 @@ module _ (words : List ℕ) (first last : ℕ) where
       → Walks words (visits_below words visit ref) rows pairs
       → GiveBetween words first last (slots_between words first last (Some ref))
       (pairs_between first last pairs)
-  below_gives visit (InnerAt base) rows pairs w = let keys = row_keys words base in
-      let m : child_count keys first - 0 ≡ child_count keys first = omega arith in
-      let n : child_count keys last + 1 - 0 - (child_count keys first - 0) ≡ child_count keys last
-      + 1 - child_count keys first = omega arith in
-      let same : part base 0 (child_count keys first) (child_count keys last + 1)
-      (row_slots words base) ≡ slots_between words first last (Some (InnerAt base)) =
-      ap (λ k. map (λ w. record { word = w; node = base })
-      (take k (drop (child_count keys first - 0) (row_slots words base)))) n
-      ∙ ap (λ k. map (λ w. record { word = w; node = base })
-      (take (child_count keys last + 1 - child_count keys first)
-      (drop k (row_slots words base)))) m in
-      subst (λ ss. GiveBetween words first last ss (pairs_between first last pairs)) same
-      (between_give base visit.ways keys 0 (base + 3 + row_degree words base)
-      (row_slots words base) rows pairs w)
+  below_gives visit (InnerAt base) rows pairs w = grind (arith, between_give)
   below_gives visit Empty rows pairs w =
       subst (λ ps. GiveBetween words first last [] (pairs_between first last ps))
       (sym (no_walk rows pairs [] refl w)) no_slot

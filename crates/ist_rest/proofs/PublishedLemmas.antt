@@ -48,8 +48,7 @@ module _ {pairs : List Pair} {words : List ℕ} {log : Log} (s : IsStood pairs w
   next_is = get_or_from_slice_get words next_place t.next 0 s.image.next
 
   high : t.next ≤ length words
-  high = let a = next_within pairs (length words) s.lawful.opens log s.lawful.enabled in let b =
-      s.image.size in omega arith
+  high = grind (arith, next_within)
 
   -- the words are in bounds
   pub good_bounds : HasGoodBounds words
@@ -74,9 +73,7 @@ module _ {pairs : List Pair} {words : List ℕ} {log : Log} (s : IsStood pairs w
 
   within : (base size : ℕ) (p : Piece) → t.pieces base ≡ Some p → size ≡ size_of p
       → IsWithinUsed words record { base = base; size = size }
-  within base size p e same = let it = in_table base p e in let a = it.after_fixed in
-      let b = it.below_next in let n = next_is in
-      record { after_fixed = omega arith; below_next = omega arith }
+  within base size p e same = grind (arith, in_table, next_is)
 
   -- each published row lies within the words
   pub room : (base : ℕ) (p : Piece) → t.pieces base ≡ Some p → base + size_of p ≤ length words

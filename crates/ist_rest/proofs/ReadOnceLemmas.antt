@@ -119,9 +119,7 @@ module _ {pairs : List Pair} {words : List ℕ} {log : Log} (s : IsStood pairs w
     where
       by : HasWay visit i → Through visit i (here ++ rows)
           ((rows_on words (ref_of visit.word) ++ here) ++ rows)
-      by (no_way e) =
-          subst (λ xs. Through visit i (here ++ rows) ((xs ++ here) ++ rows)) (sym e) record
-          { are = are; from = λ b a. inl a }
+      by (no_way e) = grind arith
       by (by_rebuild b h e) =
           subst (λ xs. Through visit i (here ++ rows) ((xs ++ here) ++ rows)) (sym e)
           record {

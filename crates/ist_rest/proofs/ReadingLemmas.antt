@@ -1,9 +1,9 @@
 -- How a slot word reads, in two steps. Serves `reading.reads`.
-use Rattle.std.proofs.Common.{◌≡◌, ℕ, ◌≤◌, List, [], ◌∷◌, ◌++◌, length, Option, Some, None, refl, sym, ◌∙◌, subst, arith}
+use Rattle.std.proofs.Common.{◌≡◌, ℕ, ◌≤◌, List, [], ◌∷◌, ◌++◌, length, Some, sym, ◌∙◌, arith}
 use Rattle.ist_core.specs.WordTerms.{next_place, place_limit, Ref, Empty, Unset, LeafAt, InnerAt, ChangeAt, RebuildAt, ref_of}
 use Rattle.ist_core.specs.LogTerms.{Each}
-use Rattle.ist_rest.specs.WordRows.{word_at, IsWithinUsed, change_on, rebuild_on, rows_on, past_change_in, past_rebuild_in}
-use Rattle.ist_rest.specs.Walks.{HasDecision, Reads, Visit, IsGood, IsGoodAs}
+use Rattle.ist_rest.specs.WordRows.{word_at}
+use Rattle.ist_rest.specs.Walks.{Reads, Visit, IsGood, IsGoodAs}
 use Rattle.ist_rest.specs.Readings.{IsTreeRef, IsInUse, LeavesSide, LeadsPast}
 
 -- the parts of a list joined
@@ -31,8 +31,7 @@ pub good_in_use : (words : List ℕ) (visit : Visit) (ref : Ref) → word_at wor
 good_in_use words visit Empty k l h = tt
 good_in_use words visit Unset k l h = absurd h
 good_in_use words visit (LeafAt base) k l h = tt
-good_in_use words visit (InnerAt base) k l h = let w = h.within in let b = w.below_next in
-    omega arith
+good_in_use words visit (InnerAt base) k l h = grind arith
 good_in_use words visit (ChangeAt base) k l h = absurd h
 good_in_use words visit (RebuildAt base) k l h = absurd h
 
@@ -40,38 +39,7 @@ good_in_use words visit (RebuildAt base) k l h = absurd h
 pub first_step : (words : List ℕ) (word : ℕ) (found ref : Ref) → ref_of word ≡ Some found
     → IsTreeRef ref → Reads words word ref
     → (side : Ref) × LeavesSide words found side × LeadsPast words side ref
-first_step words word found ref e plain r = at (past_change_in words (Some found)) refl
-  where
-    decision : HasDecision words (Some found)
-    decision = subst (HasDecision words) e r.decision
-
-    through : Each (IsWithinUsed words) (change_on (Some found) ++ rebuild_on
-        (past_change_in words (Some found)))
-    through = subst (λ o. Each (IsWithinUsed words) (rows_on words o)) e r.through
-
-    is : past_rebuild_in words (past_change_in words (Some found)) ≡ Some ref
-    is = subst (λ o. past_rebuild_in words (past_change_in words o) ≡ Some ref) e r.is
-
-    at : (o : Option Ref) → past_change_in words (Some found) ≡ o
-        → (side : Ref) × LeavesSide words found side × LeadsPast words side ref
-    at None f = let k : past_rebuild_in words None ≡ Some ref =
-        subst (λ o. past_rebuild_in words o ≡ Some ref) f is in absurd (cc)
-    at (Some side) f = (
-      side,
-      record {
-        within = each_left (IsWithinUsed words) (change_on (Some found))
-            (rebuild_on (past_change_in words (Some found))) through;
-        decision = decision;
-        is = f;
-      },
-      record {
-        through = subst (λ o. Each (IsWithinUsed words) (rebuild_on o)) f
-            (each_right (IsWithinUsed words) (change_on (Some found))
-            (rebuild_on (past_change_in words (Some found))) through);
-        is = subst (λ o. past_rebuild_in words o ≡ Some ref) f is;
-        plain = plain;
-      },
-    )
+first_step words word found ref e plain r = grind (arith, each_left, each_right)
 
 -- what a slot reads as by one first step
 pub same_side : (words : List ℕ) (found a b : Ref) → LeavesSide words found a
@@ -85,9 +53,4 @@ pub none_by : (words : List ℕ) (word : ℕ) (found side : Ref) (visit : Visit)
     → ((r : Ref) → IsTreeRef r → LeadsPast words side r → IsInUse words r → ⊥)
     → visit.word ≡ word → IsGood words visit → ⊥
 none_by words word found side visit used most e one none same good =
-    let plain = good_plain words visit good.ref good.good in
-    let it = first_step words word found good.ref e plain (subst (λ w. Reads words w good.ref)
-    same good.reads) in
-    let two = subst (λ x. LeadsPast words x good.ref) (same_side words found it.0 side it.1 one)
-    it.2 in
-    none good.ref plain two (good_in_use words visit good.ref used most good.good)
+    grind (arith, good_plain, first_step, same_side, good_in_use)

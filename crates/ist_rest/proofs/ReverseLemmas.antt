@@ -11,8 +11,7 @@ turned xs ys x e = ap reverse e ∙ reverse-append ys (x ∷ [])
 -- items that end with some in reverse begin with these, in reverse
 pub turned_back : {A : Type 0} (ys zs xs : List A) → xs ≡ ys ++ reverse zs
     → reverse xs ≡ zs ++ reverse ys
-turned_back ys zs xs e = ap reverse e ∙ reverse-append ys (reverse zs)
-    ∙ ap (λ ws. ws ++ reverse ys) (reverse-reverse zs)
+turned_back ys zs xs e = grind (arith, reverse-append, reverse-reverse)
 
 -- a sum over a list in reverse
 pub sum_reverse : {A : Type 0} (f : A → ℕ) (xs : List A) → sum_by f (reverse xs) ≡ sum_by f xs

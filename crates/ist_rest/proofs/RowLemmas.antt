@@ -1,5 +1,5 @@
 -- The words of a published row, read one by one. Serves the law on standing words.
-use Rattle.std.proofs.Common.{◌≡◌, ℕ, suc, ◌+◌, ◌-◌, ◌<◌, ◌≤◌, List, length, take, drop, get_or, refl, sym, ap, ◌∙◌, arith, length-append}
+use Rattle.std.proofs.Common.{◌≡◌, ℕ, ◌+◌, ◌-◌, ◌<◌, ◌≤◌, List, length, take, drop, get_or, sym, ap, ◌∙◌, arith, length-append}
 use Rattle.std.proofs.lemmas.Option.{get_or_from_slice_get, slice_get-get_or}
 use Rattle.std.proofs.lemmas.List.{length-take-le, length-drop, get_or-take, get_or-drop, ext_get_or, take_at, drop_at, take_all}
 use Rattle.ist_core.specs.declared.states.InnerRow.{InnerRow}
@@ -10,8 +10,7 @@ use Rattle.ist_rest.specs.WordRows.{word_at, row_degree, row_size, row_keys, row
 -- one word of a row
 pub word_is : (words : List ℕ) (base k : ℕ) (p : Piece) → StandsAt words base p → k < size_of p
     → word_at words (base + k) ≡ get_or (words_of p) k 0
-word_is words base k p h less = get_or_from_slice_get words (base + k) (get_or (words_of p) k 0) 0
-    (h k less ∙ slice_get-get_or (words_of p) k 0 less)
+word_is words base k p h less = grind (arith, get_or_from_slice_get, slice_get-get_or)
 
 -- the first word of a row
 pub first_word : (words : List ℕ) (base : ℕ) (p : Piece) → StandsAt words base p → 0 < size_of p
@@ -59,14 +58,10 @@ module _ (words : List ℕ) (base : ℕ) (r : InnerRow) (h : StandsAt words base
 
   -- the words give the row's keys
   pub keys_are : row_keys words base ≡ r.keys
-  keys_are = let d = degree_is in let k = shape.keys in let z = size_is in
-      let n : base + 3 + row_degree words base - (base + 4) ≡ length r.keys = omega arith in
-      ap (λ m. take m (drop (base + 4) words)) n ∙ part_is 4 (length r.keys) (omega arith)
-      ∙ take_at r.keys r.slots (length r.keys) refl
+  keys_are = grind (arith, degree_is, size_is, part_is, take_at)
 
   following : drop (4 + length r.keys) (words_of (Inner r)) ≡ r.slots
-  following = let e : 4 + length r.keys ≡ suc (suc (suc (suc (length r.keys)))) = omega arith in
-      ap (λ m. drop m (words_of (Inner r))) e ∙ drop_at r.keys r.slots (length r.keys) refl
+  following = grind (arith, drop_at)
 
   -- the words give the row's slots
   pub slots_are : row_slots words base ≡ r.slots

@@ -1,12 +1,12 @@
 -- Rows that are reached from a row, and whether they are settled. Serves `settling`.
-use Rattle.std.proofs.Common.{◌≡◌, ℕ, zero, suc, ◌+◌, ◌<◌, ◌≤◌, ◌⊎◌, List, [], ◌∷◌, ◌++◌, length, get_or, Some, refl, sym, ap, ◌∙◌, subst, inl, inr, ⊎_elim, ◌≢◌, nat_le, true, false, arith}
+use Rattle.std.proofs.Common.{◌≡◌, ℕ, zero, suc, ◌+◌, ◌<◌, ◌≤◌, List, [], ◌∷◌, ◌++◌, length, get_or, Some, refl, sym, ap, ◌∙◌, subst, inl, inr, ◌≢◌, arith}
 use Rattle.std.proofs.lemmas.Bool.Decides.{leb_tells, eqb_tells}
 use Rattle.ist_core.specs.declared.pairs.Pair.{Pair}
 use Rattle.ist_core.specs.WordTerms.{InnerAt, next_place}
 use Rattle.ist_core.specs.LogTerms.{Among, Each}
 use Rattle.ist_core.proofs.AllWordLemmas.{each-append}
 use Rattle.ist_rest.specs.WordRows.{Span, word_at, row_degree, row_keys, row_slots, reads_in}
-use Rattle.ist_rest.specs.Walks.{Way, Visit, IsGood, IsGoodAs, IsGoodRow, visits_from, visits_below, Walks, ends, goes_on, first_visit}
+use Rattle.ist_rest.specs.Walks.{Way, Visit, IsGood, IsGoodRow, visits_from, visits_below, Walks, ends, goes_on, first_visit}
 use Rattle.ist_rest.specs.RestingWords.{HoldPairs}
 use Rattle.ist_rest.specs.Steps.{IsRowHere}
 use Rattle.ist_rest.proofs.WordRowLemmas.{row_lengths}
@@ -51,9 +51,7 @@ shape_child words base child word h a e node r = h node (through word a e r)
 -- a slot in good shape that reads as an inner row
 pub good_child : (words : List ℕ) (visit : Visit) (child : ℕ) → IsGood words visit
     → reads_in words visit.word ≡ Some (InnerAt child) → IsGoodRow words visit.node child
-good_child words visit child g e =
-    let same : Some g.ref ≡ Some (InnerAt child) = sym g.reads.is ∙ e in
-    let same : g.ref ≡ InnerAt child = cc in subst (IsGoodAs words visit) same g.good
+good_child words visit child g e = grind arith
 
 -- a good row for a slot is an inner row in good shape
 pub row_here : (words : List ℕ) (node base : ℕ) → IsGoodRow words node base → IsRowHere words base
@@ -90,17 +88,7 @@ visit_of : (words : List ℕ) (base : ℕ) (ways : List Way) (keys : List ℕ) (
     → Among word slots
     → (visit : Visit) × (visit.word ≡ word) × (visit.node ≡ base) × AllGood words visit
 visit_of words base ways keys i place [] h word a = absurd a
-visit_of words base ways keys i place (s ∷ slots) h word (inl e) = (
-  record {
-    place = place;
-    word = s;
-    node = base;
-    ways = record { keys = keys; index = i } ∷ ways;
-  },
-  sym e,
-  refl,
-  h.0,
-)
+visit_of words base ways keys i place (s ∷ slots) h word (inl e) = grind arith
 visit_of words base ways keys i place (s ∷ slots) h word (inr a) = visit_of words base ways keys
     (i + 1) (place + 1) slots h.1 word a
 
@@ -142,12 +130,7 @@ first_good words pairs h = (walk_good words (first_visit words ∷ []) h.rows pa
 
 -- a number below i + 1 other than i is below i
 pub below_more : (k i : ℕ) → k < i + 1 → k ≢ i → k < i
-below_more k i less other = ⊎_elim (λ same. absurd (other same.1)) (λ no. at (leb_tells i k))
-    (eqb_tells k i)
-  where
-    at : ((nat_le i k ≡ true) × (i ≤ k)) ⊎ ((nat_le i k ≡ false) × (k < i)) → k < i
-    at (inl h) = let l = h.1 in absurd (other (omega arith))
-    at (inr h) = h.1
+below_more k i less other = grind (arith, leb_tells, eqb_tells)
 
 -- one row further
 pub reached_on : (words : List ℕ) (base node child word : ℕ) → ReachedFrom words base node
@@ -198,10 +181,7 @@ pub one_more_settled : (words : List ℕ) (base i : ℕ) {word : ℕ}
     → word ≡ get_or (row_slots words base) i 0
     → ((child : ℕ) → reads_in words word ≡ Some (InnerAt child) → AreSettledFrom words child)
     → AreSettledTo words base i → AreSettledTo words base (i + 1)
-one_more_settled words base i e one so_far k child less is = ⊎_elim
-    (λ here. one child (ap (reads_in words) (e ∙ ap (λ n. get_or (row_slots words base) n 0)
-    (sym here.1)) ∙ is))
-    (λ other. so_far k child (below_more k i less other.1) is) (eqb_tells k i)
+one_more_settled words base i e one so_far k child less is = grind (arith, below_more, eqb_tells)
 
 -- a settled row, all of whose slots are
 pub settled_by_slots : (words : List ℕ) (base : ℕ) {degree i : ℕ} → IsRowHere words base

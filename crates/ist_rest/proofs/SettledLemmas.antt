@@ -1,12 +1,12 @@
 -- A table is settled exactly if its words are. Serves `closed.Closed.settled`.
-use Rattle.std.proofs.Common.{◌≡◌, ℕ, zero, suc, ◌+◌, ◌<◌, ◌⊎◌, List, [], ◌∷◌, length, slice_get, Some, refl, sym, ap, ◌∙◌, subst, inl, inr, ⊎_elim, ◌↔◌, arith}
+use Rattle.std.proofs.Common.{◌≡◌, ℕ, zero, suc, ◌+◌, ◌⊎◌, List, [], ◌∷◌, length, slice_get, Some, refl, sym, ap, ◌∙◌, subst, inl, inr, ◌↔◌, arith}
 use Rattle.std.proofs.lemmas.Option.{get_or_from_slice_get}
 use Rattle.ist_core.specs.declared.pairs.Pair.{Pair}
 use Rattle.ist_core.specs.declared.states.InnerRow.{InnerRow}
-use Rattle.ist_core.specs.WordTerms.{limit, anchor, anchor_slot_place, InnerAt, ref_of, Inner, SlotHolds, in_anchor, in_row, logical}
+use Rattle.ist_core.specs.WordTerms.{anchor, anchor_slot_place, InnerAt, ref_of, Inner, SlotHolds, in_anchor, in_row, logical}
 use Rattle.ist_core.specs.LogTerms.{Among, Snapshot, Log, state_of}
 use Rattle.ist_core.specs.TreeTerms.{IsChild, Linked, at_anchor, below, IsSettled}
-use Rattle.ist_rest.specs.Settling.{ReachedFrom, itself, through, IsSettledRow, AreSettled}
+use Rattle.ist_rest.specs.Settling.{ReachedFrom, itself, through, AreSettled}
 use Rattle.ist_rest.proofs.SettleLemmas.{reached_on}
 use Rattle.ist_core.proofs.AllPlaceLemmas.{child_mentioned, no_row, InnerHere, slot_names, mentioned_here}
 use Rattle.ist_rest.specs.WordRows.{word_at, row_size, reads_in}
@@ -109,29 +109,15 @@ module _ {pairs : List Pair} {words : List ℕ} {log : Log} (s : IsStood pairs w
 
   -- the table is settled exactly if its words are
   pub settled_words : AreSettled words ↔ IsSettled t
-  settled_words = (there, back)
-    where
-      row_of : AreSettled words → (node : ℕ) (row : InnerRow) → Linked t node
-          → t.pieces node ≡ Some (Inner row) → IsSettledRow words node
-      row_of all node row l e = ⊎_elim (λ a. absurd (no_row t.pieces node row (free s) a e))
-          (λ up. all up.0 up.1 node up.2) (linked_reached node l)
-
-      there : AreSettled words → IsSettled t
-      there all = record {
-        all_open = λ node row l e. sym (status_there node row e)
-            ∙ (row_of all node row l e).is_open;
-        none_due = λ node row l e. subst (λ n. n < limit row.size) (count_there node row e)
-            (subst (λ z. word_at words (node + 1) < limit z) (size_there node row e)
-            (row_of all node row l e).not_due);
-      }
-
-      back : IsSettled t → AreSettled words
-      back s base e node r = let at = first_linked base e in
-          let it = reached_linked base node r at.0 at.1 in let row = it.1.0 in let there = it.1.1 in
-          record {
-            is_open = status_there node row there ∙ s.all_open node row it.0 there;
-            not_due = subst (λ n. n < limit (row_size words node))
-                (sym (count_there node row there))
-                (subst (λ z. row.count < limit z) (sym (size_there node row there))
-                (s.none_due node row it.0 there));
-          }
+  settled_words =
+      grind (
+        arith,
+        no_row,
+        free,
+        linked_reached,
+        status_there,
+        count_there,
+        size_there,
+        first_linked,
+        reached_linked,
+      )

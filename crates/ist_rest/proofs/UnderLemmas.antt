@@ -1,10 +1,10 @@
 -- Which rows a walk reads below a slot: each hangs below one slot of a node only. Serves the law
 -- that rows lie apart.
-use Rattle.std.proofs.Common.{◌≡◌, ℕ, ◌<◌, ◌⊎◌, List, ◌∷◌, map, Option, Some, None, refl, sym, ap, ◌∙◌, subst, inl, inr, ⊎_elim, arith}
+use Rattle.std.proofs.Common.{◌≡◌, ℕ, ◌<◌, ◌⊎◌, List, ◌∷◌, map, Option, Some, None, refl, sym, ◌∙◌, subst, inl, inr, ⊎_elim, arith}
 use Rattle.ist_core.specs.declared.states.LeafRow.{LeafRow}
 use Rattle.ist_core.specs.declared.states.InnerRow.{InnerRow}
 use Rattle.ist_core.specs.declared.states.RebuildRow.{RebuildRow}
-use Rattle.ist_core.specs.WordTerms.{child_count, anchor, Piece, Leaf, Inner, Rebuild, size_of, IsChildFor, of_anchor, of_row}
+use Rattle.ist_core.specs.WordTerms.{anchor, Piece, Leaf, Inner, Rebuild, size_of, IsChildFor, of_anchor, of_row}
 use Rattle.ist_core.specs.LogTerms.{Among, Each, Distinct, Snapshot}
 use Rattle.ist_core.specs.TreeTerms.{IsChild}
 use Rattle.ist_core.proofs.AllPlaceLemmas.{WordsName, IsRebuildFor, InnerHere, HasOneHome, mentioned_here, child_mentioned, child_above, no_row, LiesIn}
@@ -49,12 +49,7 @@ module _ (t : Snapshot) (o : WordsName t) (home : HasOneHome t) (free : t.pieces
         absurd (rebuild_inner (t.pieces b) h.row it.0 h.published it.1)
     home_once m k n i b (as_rebuild h) (as_child c) = let it = inner_there n i b c in
         absurd (rebuild_inner (t.pieces b) h.row it.0 h.published it.1)
-    home_once m k n i b (as_rebuild h) (as_rebuild g) =
-        let same = same_rebuild (t.pieces b) h.row g.row h.published g.published in (
-          sym h.parent ∙ ap (λ r. r.parent) same ∙ g.parent,
-          sym h.index ∙ ap (λ r. r.index) same
-              ∙ g.index,
-        )
+    home_once m k n i b (as_rebuild h) (as_rebuild g) = grind (arith, same_rebuild)
 
     -- what lies below lies in a greater node
     up_low : (n i m k : ℕ) → Up t n i m k → (n ≡ m) ⊎ (n < m)
@@ -83,8 +78,7 @@ module _ (t : Snapshot) (o : WordsName t) (home : HasOneHome t) (free : t.pieces
     child_once n key i j (of_anchor a z) (of_anchor b y) = z ∙ sym y
     child_once n key i j (of_anchor a z) (of_row r e is) = absurd (no_row t.pieces n r free a e)
     child_once n key i j (of_row r e is) (of_anchor a z) = absurd (no_row t.pieces n r free a e)
-    child_once n key i j (of_row r e is) (of_row s f also) = is ∙ ap (λ x. child_count x.keys key)
-        (same_inner (t.pieces n) r s e f) ∙ sym also
+    child_once n key i j (of_row r e is) (of_row s f also) = grind (arith, same_inner)
 
     -- a row is read below one slot of a node only
     pub one_under : (n i j b : ℕ) → IsReadUnder t n i b → IsReadUnder t n j b → i ≡ j
@@ -95,9 +89,7 @@ module _ (t : Snapshot) (o : WordsName t) (home : HasOneHome t) (free : t.pieces
     one_under n i j b (leaf_under r e lies) (row_under {m = m} {k = k} h u) =
         absurd (no_home m k b r e h)
     one_under n i j b (leaf_under r e lies) (leaf_under s f also) =
-        let same = same_leaf (t.pieces b) r s e f in
-        child_once n r.key i j lies.child_for (subst (λ x. IsChildFor t n x.key j) (sym same)
-        also.child_for)
+        grind (arith, same_leaf, child_once)
 
     -- a row that hangs in a node isn't read below a greater one
     pub not_below : (n i b base m : ℕ) → HasHome t n i b → n < base → IsReadUnder t base m b → ⊥
@@ -135,7 +127,4 @@ pub add_row : (t : Snapshot) (base size : ℕ) (p : Piece) (rows : List Span) �
     p → size ≡ size_of p
     → (Among base (bases rows) → ⊥) → AreRows t rows
     → AreRows t (record { base = base; size = size } ∷ rows)
-add_row t base size p rows e s new h = record {
-  distinct = (new, h.distinct);
-  placed = ((p, e, s), h.placed);
-}
+add_row t base size p rows e s new h = grind arith

@@ -1,12 +1,12 @@
 -- Walks: they are one, they are split between slots, and what is found below a slot lies as its way
 -- says.
-use Rattle.std.proofs.Common.{◌≡◌, ℕ, ◌+◌, List, [], ◌∷◌, ◌++◌, Some, refl, sym, ap, ◌∙◌, subst, inr}
+use Rattle.std.proofs.Common.{◌≡◌, ℕ, ◌+◌, List, [], ◌∷◌, ◌++◌, Some, refl, sym, ap, ◌∙◌, subst, inr, arith}
 use Rattle.std.proofs.lemmas.List.{append_assoc}
 use Rattle.ist_core.specs.declared.pairs.Pair.{Pair}
 use Rattle.ist_core.specs.WordTerms.{Ref, Empty, Unset, LeafAt, InnerAt, ChangeAt, RebuildAt}
 use Rattle.ist_core.specs.LogTerms.{Among, Each}
 use Rattle.ist_core.proofs.AllWordLemmas.{each_append, each-among}
-use Rattle.ist_rest.specs.WordRows.{Span, row_keys, row_slots, row_degree, leaf_key}
+use Rattle.ist_rest.specs.WordRows.{Span}
 use Rattle.ist_rest.specs.Walks.{Way, Visit, LeadsBy, IsGood, IsGoodAs, rows_read, pairs_read, visits_from, visits_below, Walks, ends, goes_on, AreApart}
 use Rattle.ist_rest.specs.RestingWords.{read_on, BreaksFirstAt, breaks, later}
 
@@ -89,8 +89,7 @@ lies_here : (words : List ℕ) (visit : Visit) (way : Way) (ref : Ref) → IsGoo
     → Among way visit.ways → Each (λ pair. LeadsBy pair.key way) (pairs_read words ref)
 lies_here words visit way Empty h a = tt
 lies_here words visit way Unset h a = tt
-lies_here words visit way (LeafAt base) h a =
-    (each-among (LeadsBy (leaf_key words base)) way visit.ways h.lies a, tt)
+lies_here words visit way (LeafAt base) h a = grind (arith, each-among)
 lies_here words visit way (InnerAt base) h a = tt
 lies_here words visit way (ChangeAt base) h a = tt
 lies_here words visit way (RebuildAt base) h a = tt
@@ -105,9 +104,7 @@ below_among way node ways keys i place (s ∷ slots) a =
 
 among_below : (words : List ℕ) (visit : Visit) (way : Way) (ref : Ref) → Among way visit.ways
     → Each (λ v. Among way v.ways) (visits_below words visit ref)
-among_below words visit way (InnerAt base) a =
-    below_among way base visit.ways (row_keys words base) 0 (base + 3 + row_degree words base)
-    (row_slots words base) a
+among_below words visit way (InnerAt base) a = grind (arith, below_among)
 among_below words visit way Empty a = tt
 among_below words visit way Unset a = tt
 among_below words visit way (LeafAt base) a = tt

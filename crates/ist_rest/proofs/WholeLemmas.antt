@@ -1,5 +1,5 @@
 -- An interval that has all keys below 2^64 has all pairs. Serves `listing.all_words`.
-use Rattle.std.proofs.Common.{◌<◌, ◌^◌, ◌++◌, ◌&&◌, nat_le, if◌then◌else◌, true, arith, subst, IfOk, Result, Ok, Err, get_or, ◌≡◌, ◌∙◌, sym, ap, ℕ, List, [], ◌∷◌, refl, length, suc, ◌+◌, ◌-◌, ◌≤◌, ⊎_elim, reverse, take, drop, slice_range}
+use Rattle.std.proofs.Common.{◌<◌, ◌^◌, ◌++◌, arith, subst, IfOk, Result, Ok, Err, get_or, ◌≡◌, ◌∙◌, sym, ap, ℕ, List, [], ◌∷◌, refl, length, suc, ◌+◌, ◌-◌, ◌≤◌, ⊎_elim, reverse, take, drop, slice_range}
 use Rattle.std.proofs.lemmas.Bool.Decides.{nat_tests, leb_tells}
 use Rattle.ist_core.specs.declared.pairs.Pair.{Pair}
 use Rattle.ist_core.specs.TreeTerms.{pairs_between, pairs_of, listed, StandsFor}
@@ -30,20 +30,14 @@ use Rattle.ist_rest.proofs.WorkLemmas.{work_falls}
 -- words hold one list of pairs
 pub same_pairs : (words : List ℕ) (xs ys : List Pair) → HoldPairs words xs → HoldPairs words ys
     → xs ≡ ys
-same_pairs words xs ys h k =
-    (one_walk words (first_visit words ∷ []) h.rows xs h.walk (first_visit words ∷ []) k.rows ys
-    refl k.walk).1
+same_pairs words xs ys h k = grind (arith, one_walk)
 
 -- ---- the whole interval
 
 module _ (words : List ℕ) (fit : (i : ℕ) → get_or words i 0 < 2 ^ 64) where
   one_pair : (base : ℕ) → pairs_between 0 18446744073709551615 (pairs_read words (LeafAt base))
       ≡ pairs_read words (LeafAt base)
-  one_pair base = let k = fit base in
-      let test : (nat_le 0 (word_at words base) && nat_le (word_at words base)
-      18446744073709551615) ≡ true = grind (arith, nat_tests, k) in
-      subst (λ b. (if b then pairs_read words (LeafAt base) else []) ≡ pairs_read words
-      (LeafAt base)) (sym test) refl
+  one_pair base = grind (arith, nat_tests)
 
   whole_read : (ref : Ref) → pairs_between 0 18446744073709551615 (pairs_read words ref)
       ≡ pairs_read words ref
@@ -66,8 +60,7 @@ module _ (words : List ℕ) (fit : (i : ℕ) → get_or words i 0 < 2 ^ 64) wher
   -- the pairs listed from 0 to the largest key are all pairs that the words hold
   pub held_whole : (found : List Pair) → AreListed words 0 18446744073709551615 found
       → HoldPairs words found
-  held_whole found h =
-      subst (HoldPairs words) (sym (h.2 ∙ whole (first_visit words ∷ []) h.1.rows h.0 h.1.walk)) h.1
+  held_whole found h = grind (arith, whole)
 
 -- what follows for each successful result
 pub if_ok_so : {A E : Type 0} (P Q : A → Type 0) (r : Result A E) → ((x : A) → P x → Q x)
@@ -87,9 +80,7 @@ stood words pairs told s = record { lawful = s.lawful; image = s.image; resolved
 pub hold_map : (words : List ℕ) (pairs : List Pair) (told : List (List Answered))
     (s : StandsFor words pairs told)
     → HoldPairs words (pairs_of (map_now pairs (length words) s.log))
-hold_map words pairs told s =
-    hold_contents (stood words pairs told s) (pairs_of (map_now pairs (length words) s.log))
-    (contents_at pairs (length words) s.lawful.opens s.log s.lawful.enabled)
+hold_map words pairs told s = grind (arith, hold_contents, stood, contents_at)
 
 -- standing words hold some pairs
 pub stand_hold : (words : List ℕ) → Stands words → Hold words
@@ -115,9 +106,7 @@ pairs_of_map words found h pairs told s =
 pub used_spent : (words : List ℕ) (read : ℕ) → read ≡ word_at words next_place
     → (pairs : List Pair) (told : List (List Answered)) (s : StandsFor words pairs told)
     → read ≡ spent pairs s.log
-used_spent words read e pairs told s =
-    e ∙ get_or_from_slice_get words 0 _ 0 s.image.next ∙ words_are_spent pairs (length words)
-    s.log s.lawful
+used_spent words read e pairs told s = grind (arith, get_or_from_slice_get, words_are_spent)
 
 -- ---- how far a listing has come, step by step. Serves `listing`.
 
@@ -151,8 +140,7 @@ module _ (words : List ℕ) (first last : ℕ) where
   next : (left ys : List SlotLeft) (found : List Pair) (slot : SlotLeft)
       (h : HasListed words first last left found) → left ≡ ys ++ slot ∷ []
       → IsVisited words first last slot (reverse ys) h.rest
-  next left ys found slot h e = visited words first last (reverse left) h.rest h.gives slot
-      (reverse ys) (turned left ys slot e)
+  next left ys found slot h e = grind (arith, visited, turned)
 
   -- it is in good shape
   pub come_good : (left ys : List SlotLeft) (found : List Pair) (slot : SlotLeft)
@@ -200,8 +188,7 @@ module _ (words : List ℕ) (first last : ℕ) where
   -- if no slot is left, all was found
   pub come_end : (left : List SlotLeft) (found : List Pair) → HasListed words first last left
       found → left ≡ [] → AreListed words first last found
-  come_end left found h e = let none = none_left (reverse left) h.rest h.gives (ap reverse e) in
-      (h.pairs, h.holds, sym (append-nil found) ∙ ap (λ xs. found ++ xs) (sym none) ∙ sym h.so_far)
+  come_end left found h e = grind (arith, none_left, append-nil)
 
   -- an interval that ends before it begins has no pair
   pub none_between : (pairs : List Pair) → HoldPairs words pairs → (found : List Pair)

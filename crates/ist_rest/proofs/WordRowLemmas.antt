@@ -1,5 +1,5 @@
 -- The keys and the slots of a row, one by one. Serves `rows`.
-use Rattle.std.proofs.Common.{◌≡◌, ℕ, ◌+◌, ◌-◌, ◌<◌, ◌≤◌, List, length, drop, get_or, ap, ◌∙◌, arith}
+use Rattle.std.proofs.Common.{◌≡◌, ℕ, ◌+◌, ◌-◌, ◌<◌, ◌≤◌, List, length, get_or, arith}
 use Rattle.std.proofs.lemmas.List.{length-take-le, length-drop}
 use Rattle.std.specs.List.Sorted.{IsStrictlyIncreasing}
 use Rattle.ist_math.proofs.ChildLemmas.{first-lt-last}
@@ -10,19 +10,9 @@ pub row_lengths : (words : List ℕ) (base : ℕ) → 1 ≤ row_degree words bas
     words base + row_degree words base ≤ length words
     → (length (row_keys words base) + 1 ≡ row_degree words base)
     × (length (row_slots words base) ≡ row_degree words base)
-row_lengths words base some room = let d = row_degree words base in
-    let a = length-drop (base + 4) words in let b = length-drop (base + 3 + d) words in
-    let n : base + 3 + d + d - (base + 3 + d) ≡ d = omega arith in
-    let x : length (row_keys words base) ≡ base + 3 + d - (base + 4) =
-    length-take-le (base + 3 + d - (base + 4)) (drop (base + 4) words) (omega arith) in
-    let y : length (row_slots words base) ≡ base + 3 + d + d - (base + 3 + d) =
-    length-take-le (base + 3 + d + d - (base + 3 + d)) (drop (base + 3 + d) words) (omega arith) in
-    (omega arith, y ∙ n)
+row_lengths words base some room = grind (arith, length-drop, length-take-le)
 
 -- the last of two keys or more is above the first
 pub first_below_last : (keys : List ℕ) (at first last : ℕ) → IsStrictlyIncreasing keys → 1 ≤ at
     → at + 1 ≡ length keys → first ≡ get_or keys 0 0 → last ≡ get_or keys at 0 → first < last
-first_below_last keys at first last rises some e f l =
-    let more = first-lt-last keys rises (omega arith) in
-    let same = ap (λ i. get_or keys i 0) (let n : length keys - 1 ≡ at = omega arith in n) in
-    omega arith
+first_below_last keys at first last rises some e f l = grind (arith, first-lt-last)

@@ -41,8 +41,7 @@ more_levels words (suc levels) word =
 
 levels_add : (words : List ℕ) (levels more word : ℕ) → work words levels word ≤ work words
     (more + levels) word
-levels_add words levels zero word = let e : levels ≡ zero + levels = omega arith in
-    subst (λ n. work words levels word ≤ work words n word) e (omega arith)
+levels_add words levels zero word = grind arith
 levels_add words levels (suc more) word = let a = levels_add words levels more word in
     let b = more_levels words (more + levels) word in
     let e : suc (more + levels) ≡ suc more + levels = omega arith in
@@ -79,28 +78,18 @@ falls words visit first last (InnerAt base) used e good = let w = good.within in
     let rise = sum_mono (work words (length words - base)) (work words levels)
     (λ x. levels_rise words (length words - base) levels x (omega arith)) (row_slots words base) in
     omega arith
-falls words visit first last Empty used e good = some_work words (length words - visit.node)
-    visit.word
-falls words visit first last Unset used e good = some_work words (length words - visit.node)
-    visit.word
-falls words visit first last (LeafAt base) used e good =
-    some_work words (length words - visit.node) visit.word
-falls words visit first last (ChangeAt base) used e good =
-    some_work words (length words - visit.node) visit.word
-falls words visit first last (RebuildAt base) used e good =
-    some_work words (length words - visit.node) visit.word
+falls words visit first last Empty used e good = grind (arith, some_work)
+falls words visit first last Unset used e good = grind (arith, some_work)
+falls words visit first last (LeafAt base) used e good = grind (arith, some_work)
+falls words visit first last (ChangeAt base) used e good = grind (arith, some_work)
+falls words visit first last (RebuildAt base) used e good = grind (arith, some_work)
 
 -- the slots below a slot are less work than the slot
 pub work_falls : (words : List ℕ) (slot : SlotLeft) (first last : ℕ) → word_at words next_place ≤
     length words → IsGoodSlot words slot
     → work_left words (slots_between words first last (reads_in words slot.word)) < work_of words
     slot
-work_falls words slot first last used g =
-    subst (λ s. work_left words (slots_between words first last (reads_in words s.word)) < work_of
-    words s) g.slot_is
-    (subst (λ o. work_left words (slots_between words first last o) < work_of words
-    (slot_of g.visit)) (sym g.good.reads.is)
-    (falls words g.visit first last g.good.ref used g.good.reads.is g.good.good))
+work_falls words slot first last used g = grind (arith, falls)
 
 -- all slots of the row that a slot reads as are less work than the slot
 pub row_falls : (words : List ℕ) (word node base : ℕ) → base < length words → node < base

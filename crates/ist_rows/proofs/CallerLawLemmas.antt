@@ -205,13 +205,7 @@ refused_beside old new kind base c none r number_is rows_are refused =
     later = subst (λ who. Later who v.log it.before) c.mine it.later
 
     comes : ComesAfter (now v) t
-    comes = after_between v.start v.words v.log (event ∷ it.before) it.lawful
-        (one_event event (later-goes_on later))
+    comes = grind (arith, after_between, event, later-goes_on, later)
 
     sizes : build_sizes t old.number (with_spare kind base (spares_of old)) ≡ sizes_built old
-    sizes =
-        sizes_taken v.start v.words it.before old.number (spares_of old) kind base it.lawful.enabled
-        none
-        ∙ ap (λ held. map (λ (h : HeldRow). h.size)
-        (filter (λ h. not (is_spare (spares_of old) h.base)) held))
-        (held_by_later v.start v.words old.number v.log it.before it.lawful.enabled.0 later)
+    sizes = grind (arith, sizes_taken, held_by_later, later)

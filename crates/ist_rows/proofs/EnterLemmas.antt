@@ -1,5 +1,5 @@
 -- Entering: when it may be made, and what the new caller is. Serves `enter`.
-use Rattle.std.proofs.Common.{◌≡◌, ◌≢◌, ℕ, ◌+◌, ◌<◌, ◌≤◌, ◌⊎◌, ◌==◌, not, true, false, if◌then◌else◌, List, [], ◌∷◌, map, filter, Some, None, refl, sym, ap, ap₂, ◌∙◌, subst, inl, inr, arith}
+use Rattle.std.proofs.Common.{◌≡◌, ◌≢◌, ℕ, ◌+◌, ◌<◌, ◌≤◌, ◌⊎◌, ◌==◌, not, true, false, List, [], ◌∷◌, map, filter, Some, None, refl, sym, ap, ap₂, ◌∙◌, subst, inl, inr, arith}
 use Rattle.std.proofs.lemmas.Bool.Decides.{eqb_tells, nat_tests}
 use Rattle.ist_core.specs.declared.lists.HeldRow.{HeldRow}
 use Rattle.ist_core.specs.declared.events.Event.TheVariants.{Enter}
@@ -71,8 +71,7 @@ none_held (h ∷ held) number out =
         ⊎ (((h.caller == number) ≡ false) × (h.caller ≢ number))
         → filter (λ h. h.caller == number) (h ∷ held) ≡ []
     at rest (inl k) = absurd (out h (inl refl) k.1)
-    at rest (inr k) = ap (λ b. if b then h ∷ filter (λ g. g.caller == number) held else filter
-        (λ g. g.caller == number) held) k.0 ∙ rest
+    at rest (inr k) = grind arith
 
 -- a caller that was not given a token before holds no row
 pub new_holds_none : (w : View) (number : ℕ) → IsSound w → w.who ≡ Maker → w.given ≤ number

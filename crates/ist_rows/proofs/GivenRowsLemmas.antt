@@ -1,6 +1,6 @@
 -- A caller without rows of some kinds, which it has published or lost. Serves
 -- `laws.given_rows_go`.
-use Rattle.std.proofs.Common.{◌≡◌, ℕ, ◌⊎◌, ◌==◌, ◌||◌, not, Bool, true, false, if◌then◌else◌, List, [], ◌∷◌, map, filter, Some, None, refl, sym, ap, ap₂, ◌∙◌, subst, inl, inr, ⊎_elim, arith}
+use Rattle.std.proofs.Common.{◌≡◌, ℕ, ◌⊎◌, ◌==◌, ◌||◌, not, Bool, true, false, List, [], ◌∷◌, map, filter, Some, None, refl, sym, ap, ◌∙◌, subst, inl, inr, ⊎_elim, arith}
 use Rattle.std.specs.List.{list_any}
 use Rattle.std.proofs.lemmas.Option.{none-some}
 use Rattle.ist_core.specs.declared.events.Event.{Event}
@@ -121,10 +121,7 @@ builds_left kinds own bases a (h ∷ held) =
         ∙ rest
         ∙ sym (filter_here (λ (g : HeldRow). not (is_spare own g.base)) h held false
         (ap not (spare_of k.0 own h.base k.2)))
-    at rest false e = ap (filter (λ g. not (is_spare (without_rows kinds own) g.base)))
-        (filter_here (λ (g : HeldRow). not (list_any (λ x. x == g.base) bases)) h held true
-        (ap not e))
-        ∙ ap₂ (λ v ys. if not v then h ∷ ys else ys) (spare_left kinds own bases a h.base e) rest
+    at rest false e = grind (arith, filter_here, spare_left)
 
 -- ---- a caller that has given rows up
 

@@ -1,6 +1,6 @@
 -- What a caller holds after its own events. Serves `laws.events_move_rows` and
 -- `laws.callers_go_on`.
-use Rattle.std.proofs.Common.{◌≡◌, ℕ, ◌==◌, Bool, true, false, List, [], ◌∷◌, filter, refl, sym, ap, ◌∙◌, inl, inr, arith}
+use Rattle.std.proofs.Common.{◌≡◌, ℕ, ◌==◌, Bool, true, false, List, [], ◌∷◌, filter, refl, ap, ◌∙◌, inl, inr, arith}
 use Rattle.std.proofs.lemmas.Bool.Decides.{eqb_tells}
 use Rattle.std.proofs.lemmas.List.Elements.{filter-append}
 use Rattle.ist_core.specs.declared.events.Event.{Event}
@@ -29,18 +29,10 @@ filter_swap p q (x ∷ xs) = at (filter_swap p q xs) (p x) refl (q x) refl
   where
     at : filter p (filter q xs) ≡ filter q (filter p xs) → (a : Bool) → p x ≡ a → (b : Bool)
         → q x ≡ b → filter p (filter q (x ∷ xs)) ≡ filter q (filter p (x ∷ xs))
-    at rest true e true f =
-        ap (filter p) (filter_here q x xs true f) ∙ filter_here p x (filter q xs) true e
-        ∙ ap (λ ys. x ∷ ys) rest ∙ sym (filter_here q x (filter p xs) true f)
-        ∙ ap (filter q) (sym (filter_here p x xs true e))
-    at rest true e false f =
-        ap (filter p) (filter_here q x xs false f) ∙ rest ∙ sym (filter_here q x (filter p xs) false f)
-        ∙ ap (filter q) (sym (filter_here p x xs true e))
-    at rest false e true f =
-        ap (filter p) (filter_here q x xs true f) ∙ filter_here p x (filter q xs) false e ∙ rest
-        ∙ ap (filter q) (sym (filter_here p x xs false e))
-    at rest false e false f = ap (filter p) (filter_here q x xs false f) ∙ rest
-        ∙ ap (filter q) (sym (filter_here p x xs false e))
+    at rest true e true f = grind (arith, filter_here)
+    at rest true e false f = grind (arith, filter_here)
+    at rest false e true f = grind (arith, filter_here)
+    at rest false e false f = grind (arith, filter_here)
 
 -- ---- one event
 

@@ -8,7 +8,7 @@ use Rattle.ist_core.specs.declared.events.Event.{Event}
 use Rattle.ist_core.specs.declared.events.Event.TheVariants.{Reserve, Install, Resolve, Root, Place, Lose}
 use Rattle.ist_core.specs.declared.events.Who.TheVariants.{Caller}
 use Rattle.ist_core.specs.LogTerms.{GoesOn, Log, Among, Distinct, Snapshot, bases_of, without, Enabled, EachEnabled, state_of, no_more, one_more, whose, Later}
-use Rattle.ist_core.specs.WordTerms.{next_place, as_change, start}
+use Rattle.ist_core.specs.WordTerms.{next_place, start}
 use Rattle.ist_core.proofs.AllLogLemmas.{goes_on_more as prefix_more, rows_holder, lost_holder, held-resolved}
 use Rattle.ist_rule.specs.RuleTerms.{GoesOnTo}
 use Rattle.ist_rule.specs.declared.view.View.{View}
@@ -67,13 +67,10 @@ filter_filter p q (x ∷ xs) h = at (filter_filter p q xs (λ y i. h y (inr i)))
   where
     at : filter p (filter q xs) ≡ filter p xs → (a : Bool) → p x ≡ a → (b : Bool) → q x ≡ b
         → filter p (filter q (x ∷ xs)) ≡ filter p (x ∷ xs)
-    at rest true e true f = ap (filter p) (filter_here q x xs true f) ∙ filter_here p x
-        (filter q xs) true e ∙ ap (λ ys. x ∷ ys) rest ∙ sym (filter_here p x xs true e)
+    at rest true e true f = grind (arith, filter_here)
     at rest true e false f = absurd (cc (sym (h x (inl refl) e) ∙ f))
-    at rest false e true f = ap (filter p) (filter_here q x xs true f) ∙ filter_here p x
-        (filter q xs) false e ∙ rest ∙ sym (filter_here p x xs false e)
-    at rest false e false f = ap (filter p) (filter_here q x xs false f) ∙ rest ∙ sym
-        (filter_here p x xs false e)
+    at rest false e true f = grind (arith, filter_here)
+    at rest false e false f = grind (arith, filter_here)
 
 -- what is made of an element that a filter keeps was made of an element
 filter_out : {A B : Type 0} (f : A → B) (p : A → Bool) (z : B) (ys : List A)
@@ -83,8 +80,7 @@ filter_out f p z (y ∷ ys) i = at (filter_out f p z ys) (p y) refl
   where
     at : (Among z (map f (filter p ys)) → Among z (map f ys)) → (b : Bool) → p y ≡ b
         → Among z (map f (y ∷ ys))
-    at rest true e = ⊎_elim (λ here. inl here) (λ there. inr (rest there))
-        (subst (λ zs. Among z (map f zs)) (filter_here p y ys true e) i)
+    at rest true e = grind (arith, filter_here)
     at rest false e = inr (rest (subst (λ zs. Among z (map f zs)) (filter_here p y ys false e) i))
 
 -- a filter of a list without repetitions has no repetitions
@@ -143,21 +139,11 @@ held_distinct pairs words (event ∷ log) enabled =
         (distinct_more (map (λ h. h.base) (state_of pairs words log).held) base before
         (below (state_of pairs words log).held base
         (λ h i. subst (λ n. h.base < n) (sym can.base_is) (s.held_below h i))))
-    at before (Install caller change rows) can =
-        distinct_filter (λ h. h.base) (λ h. not (list_any (λ base. base == h.base) (bases_of rows)))
-        (state_of pairs words log).held before
-    at before (Root caller rebuild word rows) can =
-        distinct_filter (λ h. h.base) (λ h. not (list_any (λ base. base == h.base) (bases_of rows)))
-        (state_of pairs words log).held before
-    at before (Place caller rebuild i word rows) can =
-        distinct_filter (λ h. h.base) (λ h. not (list_any (λ base. base == h.base) (bases_of rows)))
-        (state_of pairs words log).held before
-    at before (Lose caller bases) can =
-        distinct_filter (λ h. h.base) (λ h. not (list_any (λ base. base == h.base) bases))
-        (state_of pairs words log).held before
-    at before (Resolve caller change) can =
-        subst P (sym (held-resolved (state_of pairs words log)
-        (as_change ((state_of pairs words log).pieces change)))) before
+    at before (Install caller change rows) can = grind (arith, distinct_filter)
+    at before (Root caller rebuild word rows) can = grind (arith, distinct_filter)
+    at before (Place caller rebuild i word rows) can = grind (arith, distinct_filter)
+    at before (Lose caller bases) can = grind (arith, distinct_filter)
+    at before (Resolve caller change) can = grind (arith, P, held-resolved)
     at before _ can = before
 
 -- what others publish or lose is not a row of this caller
@@ -198,12 +184,7 @@ held_by_step pairs words log event number enabled other = at event enabled.1 oth
     new_row : (caller base size : ℕ) → Caller caller ≢ Caller number
         → filter (λ (h : HeldRow). h.caller == number)
         (record { caller = caller; base = base; size = size } ∷ []) ≡ []
-    new_row caller base size differ = ⊎_elim (λ k. absurd (differ (ap Caller k.1)))
-        (λ k. filter_here (λ (h : HeldRow). h.caller == number) record {
-          caller = caller;
-          base = base;
-          size = size;
-        } [] false k.0) (eqb_tells caller number)
+    new_row caller base size differ = grind (arith, filter_here, eqb_tells)
 
     at : (e : Event) → Enabled (start pairs words) log e → whose e ≢ Caller number
         → held_by (state_of pairs words (e ∷ log)) number ≡ held_by (state_of pairs words log)
@@ -228,9 +209,7 @@ held_by_step pairs words log event number enabled other = at event enabled.1 oth
     at (Lose caller bases) can differ = others_without (state_of pairs words log) number bases
         (λ h i b. apart caller differ h
         (lost_holder (state_of pairs words log) log caller bases s can h i b))
-    at (Resolve caller change) can differ = ap (filter (λ (h : HeldRow). h.caller == number))
-        (held-resolved (state_of pairs words log)
-        (as_change ((state_of pairs words log).pieces change)))
+    at (Resolve caller change) can differ = grind (arith, held-resolved)
     at _ can differ = refl
 
 -- what a caller holds stays, along a log that goes on by others

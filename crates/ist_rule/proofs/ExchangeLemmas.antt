@@ -187,5 +187,4 @@ known_low v place s known = let it = known v.log record { later = no_more; lawfu
         let less = get_below (words_of p) k word got in
         let low = next_within v.start v.words s.lawful.opens v.log s.lawful.enabled in
         let all = words_same v.start v.words s.lawful.opens v.log in omega arith
-    at _ _ (shown_free far in_it) = let all =
-        words_same v.start v.words s.lawful.opens v.log in omega arith
+    at _ _ (shown_free far in_it) = grind (arith, words_same)

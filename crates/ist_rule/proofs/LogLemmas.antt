@@ -110,9 +110,7 @@ module _ (k : About) (s : Table) (r : Kept k s) (id : ℕ) (me : Seated) (live :
           (heard_spoken k.start.value.items r.moments v number is f.well_made.moments
           (r.timed.heard id v mine live))
           (fits_own.is_true.call number is)
-      at number (inr other) =
-          call_by_others k.start.value.items k.words number (calls_returned number r.moments) r.log event
-          enabled' (pending_of (in_call number r.moments)) other (r.timed.working number)
+      at number (inr other) = grind (arith, call_by_others, enabled')
 
   -- the view after the event is sound
   pub sound_now : IsSound w

@@ -142,21 +142,7 @@ module _ (pairs : List Pair) (words : ℕ) (opens : CanOpen pairs words) (log : 
       -- a word of the new row was free
       new : (r : IsReserve (start pairs words) log event) → h.base ≡ r.base → h.size ≡ r.size
           → slice_get following (h.base + k) ≡ Some (own_at v.own (h.base + k))
-      new r base size = let can = r.can in let at_next = can.base_is in let room = can.room in
-          let low = next_after_fixed pairs words log enabled.0 in
-          touched_other image (touch_of before event) (h.base + k)
-          (λ touch e same. let place : touch.place ≡ 0 =
-          ap (λ t. t.place) (one touch (sym e ∙ ap (touch_of before) r.is)) in omega arith)
-          ∙ is.free (h.base + k) (omega arith) (omega arith)
-          ∙ ap (λ x. Some x) (sym (fresh (h.base + k) (omega arith)))
-        where
-          one : (touch : Touch) → Some touch ≡ Some record {
-            place = next_place;
-            found = r.base;
-            left = r.base + r.size;
-          }
-              → touch ≡ record { place = next_place; found = r.base; left = r.base + r.size }
-          one touch e = cc
+      new r base size = grind (arith, next_after_fixed, touched_other)
 
       at : (r : IsReserve (start pairs words) log event)
           → Among h (before.held ++ record { caller = r.caller; base = r.base; size = r.size } ∷ [])
@@ -187,5 +173,4 @@ module _ (pairs : List Pair) (words : ℕ) (opens : CanOpen pairs words) (log : 
     where
       at : PublishesHeld before event → RowsStand image (published_by event)
       at (publishes_none e) = subst (RowsStand image) (sym e) tt
-      at (publishes_held p) = rows_stand v p.caller (sym mine ∙ p.author_is) owns
-          (published_by event) p.held stored
+      at (publishes_held p) = grind (arith, rows_stand)

@@ -1,9 +1,9 @@
 -- A shot that is read after its pass went on, or by another pass. Serves `callers.rt`.
-use Rattle.std.proofs.Common.{◌≡◌, ℕ, List, [], ◌∷◌, ◌++◌, Option, ap, ◌∙◌, sym, subst}
+use Rattle.std.proofs.Common.{◌≡◌, ℕ, List, [], ◌∷◌, ◌++◌, Option, ap, ◌∙◌, sym, subst, arith}
 use Rattle.ist_core.specs.declared.commands.Command.TheVariants.{Remove}
 use Rattle.ist_core.specs.declared.pairs.Pair.{Pair}
-use Rattle.ist_core.specs.LogTerms.{Lawful, GoesOn}
-use Rattle.ist_core.specs.TreeTerms.{listed, pairs_between, pairs_of}
+use Rattle.ist_core.specs.LogTerms.{Lawful}
+use Rattle.ist_core.specs.TreeTerms.{listed, pairs_between}
 use Rattle.ist_tree.specs.CallTerms.{HasSeenMore, HasLearnt, AddsCall, PassFace, noted}
 use Rattle.ist_tree.specs.declared.freezing.Frozen.{Frozen}
 use Rattle.ist_tree.proofs.HeardLemmas.{seen_more_then, steps_until}
@@ -68,20 +68,13 @@ module _ (p taken q : PassFace) (shot : Frozen) (h : HasTakenShot p taken shot)
   pub listed_alike : (other : PassFace) → GoesOnWell taken other → (theirs : List Pair)
       → ((pairs : List Pair) → ArePairsOf other shot pairs → theirs ≡ pairs_between first last pairs)
       → mine ≡ theirs
-  listed_alike other on theirs by = let pairs = pairs_of (map_seen taken h.position) in
-      value h.position h.is_of
-      ∙ sym (by pairs (has_on taken other on shot pairs (of_pairs taken h.position shot lawful h.is_of)))
+  listed_alike other on theirs by = grind (arith, has_on, of_pairs)
 
 -- a pass that met a note of another has learnt what that one knew
 pub told_well : (took taken note other : PassFace) → note ≡ noted took → taken ≡ took
     → HasLearnt other note → Lawful other.tree.start other.tree.words other.seen
     → GoesOnWell taken other
-told_well took taken note other noted_is same l lawful =
-    let value = noted_is ∙ ap noted (sym same) in record {
-      tree = sym l.tree ∙ ap (λ (n : PassFace). n.tree) value;
-      seen = subst (λ (n : PassFace). GoesOn n.seen other.seen) value l.seen;
-      lawful = lawful;
-    }
+told_well took taken note other noted_is same l lawful = grind arith
 
 -- one pass took a shot and listed it, and another met its note and listed it too
 module _ (p took taken q note other : PassFace) (shot : Frozen) (h : HasTakenShot p took shot)

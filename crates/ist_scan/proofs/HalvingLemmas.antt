@@ -1,5 +1,5 @@
 -- A search by halving. Serves `looking.count_below`.
-use Rattle.std.proofs.Common.{◌≡◌, ℕ, ◌+◌, ◌*◌, ◌^◌, ◌<◌, ◌≤◌, ◌⊎◌, ◌-◌, zero, suc, List, map, length, slice_get, Some, sym, ap, ◌∙◌, add-one, subst, inl, inr, ⊎_elim, arith}
+use Rattle.std.proofs.Common.{◌≡◌, ℕ, ◌+◌, ◌*◌, ◌^◌, ◌<◌, ◌≤◌, ◌⊎◌, ◌-◌, zero, suc, List, map, length, slice_get, Some, ap, ◌∙◌, add-one, arith}
 use Rattle.std.specs.List.Sorted.{IsStrictlyIncreasing}
 use Rattle.std.proofs.Math.Nat.{mul-le-mul_left, pow-suc}
 use Rattle.std.proofs.lemmas.Option.{slice_get_within}
@@ -11,47 +11,25 @@ use Rattle.ist_scan.proofs.PairLemmas.{rise}
 -- at first the search is between 0 and the number of pairs
 pub between_all : (pairs : List Pair) (key keys : ℕ) → length pairs ≡ keys
     → IsSearchBetween pairs key 0 keys
-between_all pairs key keys long = record {
-  below = λ i pair low at. absurd (omega arith);
-  above = λ i pair high at.
-      (let within = slice_get_within pairs i pair at in absurd (omega arith));
-}
+between_all pairs key keys long = grind (arith, slice_get_within)
 
 -- a number below the next one, and one that isn't below
 at_or_below : (i m : ℕ) → i < m + 1 → (i ≡ m) ⊎ (i < m)
-at_or_below i m low =
-    ⊎_elim (λ t. inl t.1) (λ f. inr (let differ = f.1 in omega arith)) (eqb_tells i m)
+at_or_below i m low = grind (arith, eqb_tells)
 
 at_or_above : (i m : ℕ) → m ≤ i → (i ≡ m) ⊎ (m < i)
-at_or_above i m high =
-    ⊎_elim (λ t. inl t.1) (λ f. inr (let differ = f.1 in omega arith)) (eqb_tells i m)
+at_or_above i m high = grind (arith, eqb_tells)
 
 module _ (pairs : List Pair) (rising : IsStrictlyIncreasing (map (λ p. p.key) pairs))
     (key low high middle : ℕ) (x : Pair) (b : IsSearchBetween pairs key low high)
     (at : slice_get pairs middle ≡ Some x) where
   -- the middle pair has a lower key
   pub go_up : x.key < key → IsSearchBetween pairs key (middle + 1) high
-  go_up less = record {
-    below = λ i pair lower here. ⊎_elim
-        (λ (same : i ≡ middle). (let one : pair ≡ x = cc in
-        subst (λ p. p.key < key) (sym one) less))
-        (λ (before : i < middle). (let rose = rise pairs rising i middle pair x here at before in
-        omega arith))
-        (at_or_below i middle lower);
-    above = b.above;
-  }
+  go_up less = grind (arith, rise, at_or_below)
 
   -- if the bound is at most the key in the middle, the search goes down
   pub go_down : key ≤ x.key → IsSearchBetween pairs key low middle
-  go_down more = record {
-    below = b.below;
-    above = λ i pair higher here. ⊎_elim
-        (λ (same : i ≡ middle). (let one : pair ≡ x = cc in
-        subst (λ p. key ≤ p.key) (sym one) more))
-        (λ (following : middle < i). (let rose = rise pairs rising middle i x pair at here following in
-        omega arith))
-        (at_or_above i middle higher);
-  }
+  go_down more = grind (arith, rise, at_or_above)
 
 -- ---- how many looks it takes
 
@@ -67,9 +45,7 @@ power_above (suc looks) = let before = power_above looks in let next = pow-suc 2
 
 -- the power so far, if something is left
 power_within : (keys looks left : ℕ) → 0 < left → IsHalved keys looks left → 2 ^ looks ≤ keys
-power_within keys looks left some h =
-    let once = mul-le-mul_left {m = 1} {n = left} (2 ^ looks) (omega arith) in
-    let shrunk = h.shrunk in omega (arith, once, shrunk)
+power_within keys looks left some h = grind (arith, mul-le-mul_left)
 
 -- one look more leaves no more than half
 pub one_more : (keys looks low high less : ℕ) → low < high → IsHalved keys looks (high - low)
@@ -82,6 +58,4 @@ one_more keys looks low high less some h half =
 
 -- the number of looks stays below the number of keys
 pub looks_fit : (keys looks low high : ℕ) → low < high → IsHalved keys looks (high - low) → looks + 1 ≤ keys
-looks_fit keys looks low high some h =
-    let within = power_within keys looks (high - low) (omega arith) h in
-    let above = power_above looks in omega (arith, within, above)
+looks_fit keys looks low high some h = grind (arith, power_within, power_above)

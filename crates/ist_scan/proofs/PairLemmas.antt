@@ -16,8 +16,4 @@ key_at (x ∷ pairs) (suc i) pair at = let rest = key_at pairs i pair at in let 
 pub rise : (pairs : List Pair) → IsStrictlyIncreasing (map (λ p. p.key) pairs)
     → (i j : ℕ) (x y : Pair) → slice_get pairs i ≡ Some x → slice_get pairs j ≡ Some y → i < j
     → x.key < y.key
-rise pairs rising i j x y at_i at_j below =
-    let all = AllPairs-from_increasing (map (λ p. p.key) pairs) rising i j 0 below
-    (key_at pairs j y at_j).1 in
-    let here = (key_at pairs i x at_i).0 in let there = (key_at pairs j y at_j).0 in
-    omega (arith, all, here, there)
+rise pairs rising i j x y at_i at_j below = grind (arith, AllPairs-from_increasing, key_at)

@@ -1,9 +1,8 @@
 -- A pass that looked for room, and then took a shot or was refused one. Serves `look_for` and
 -- `take_if_room`.
-use Rattle.std.proofs.Common.{◌≡◌, ℕ, ◌+◌, ◌<◌, ◌≤◌, length, Result, Ok, Err, IfOk, IfErr, OnOk, inl, inr, ⊎_elim, ap, ◌∙◌, sym, subst, arith}
+use Rattle.std.proofs.Common.{◌≡◌, ℕ, ◌+◌, ◌<◌, ◌≤◌, Result, Ok, Err, IfOk, IfErr, OnOk, ap, subst, arith}
 use Rattle.ist_core.specs.declared.ports.Full.{Full}
 use Rattle.ist_core.specs.LogTerms.{state_of, Log, same_log, spent}
-use Rattle.ist_core.specs.TreeTerms.{IsChild, changes_of}
 use Rattle.ist_core.specs.WordTerms.{anchor, change_words, rebuild_words, SlotHolds, InnerAt, word_of}
 use Rattle.ist_core.proofs.AllLogLemmas.{goes_on_more}
 use Rattle.ist_tree.specs.CallTerms.{HasSeenMore, TreeFace, PassFace, FreezesInFew, IsFreezeRefused, StepsIn, HadTooFew, IsTopRefused, KeepsRefusal}
@@ -20,10 +19,7 @@ use Rattle.ist_scan.specs.Shots.{HasTakenShot}
 -- enough words were left
 pub had_room : (p q : PassFace) (left words : ℕ) → HasSeenMore p q → HasLeft q left
     → StepsIn p q q.seen → words ≤ left → HadRoom p q words
-had_room p q left words seen has step enough =
-    let sum : spent p.tree.start q.seen + left ≡ p.tree.words
-    = subst (λ (t : TreeFace). spent t.start q.seen + left ≡ t.words) seen.tree has in
-    record { at = q.seen; step = step; enough = omega arith }
+had_room p q left words seen has step enough = grind arith
 
 -- too few were left
 pub had_no_room : (p q : PassFace) (left words : ℕ) (full : Full) → HasSeenMore p q
@@ -68,22 +64,11 @@ module _ (p m q : PassFace) (look : HasSeenMore p m) (after : HasSeenMore m q) w
 
   -- the room that was found was there in the call
   room_both : (words : ℕ) → HadRoom p m words → HadRoom p q words
-  room_both words h = record {
-    at = h.at;
-    step = steps_until p m q h.at h.step after;
-    enough = h.enough;
-  }
+  room_both words h = grind (arith, steps_until)
 
   -- a shot that was taken after the look was taken in the call
   taken_both : (shot : Frozen) → HasTakenShot m q shot → HasTakenShot p q shot
-  taken_both shot h = record {
-    at = h.at;
-    step = steps_from p m q h.at look h.step;
-    position = h.position;
-    fresh = subst (λ (t : TreeFace). length (changes_of t.start t.words h.at) ≤ h.position)
-        look.tree h.fresh;
-    is_of = h.is_of;
-  }
+  taken_both shot h = grind (arith, steps_from)
 
   -- too few words after the look were too few in the call
   abbrev short_both : {A B : Log → ℕ → Type 0} (full : Full) → HadTooFew A m q full
@@ -117,23 +102,11 @@ module _ (p m q : PassFace) (look : HasSeenMore p m) (after : HasSeenMore m q) w
   }
 
   top_both : (full : Full) → IsTopRefused m q full → IsTopRefused p q full
-  top_both full h = record {
-    row = h.row;
-    at = h.at;
-    since = goes_on_more look.seen h.since;
-    until = h.until;
-    child = subst (λ (t : TreeFace). IsChild (state_of t.start t.words h.at) anchor 0 h.row)
-        look.tree h.child;
-    had = short_both full h.had (λ at for. for);
-  }
+  top_both full h = grind (arith, goes_on_more)
 
   -- the refusal that the pass keeps has its cause in the call
   pub keeps_both : m.refused ≡ p.refused → KeepsRefusal m q → KeepsRefusal p q
-  keeps_both same k = record {
-    stays = λ full e. k.stays full (same ∙ e);
-    cause = λ full e.
-        ⊎_elim (λ kept. inl (sym same ∙ kept)) (λ top. inr (top_both full top)) (k.cause full e);
-  }
+  keeps_both same k = grind (arith, top_both)
 
   -- what the shot after the look returned, it returned in the call
   pub ok_both : (r : Result Frozen Full) → IfOk r (HasTakenShot m q) → IfOk r (HasTakenShot p q)

@@ -24,26 +24,17 @@ pub record GoesOnWell (p q : PassFace) : Type 0 where
 module _ (p q : PassFace) (on : GoesOnWell p q) where
   -- what is frozen stays so
   pub frozen_on : (shot : Frozen) → IsFrozenFor p shot → IsFrozenFor q shot
-  frozen_on shot f = frozen_stays q.tree.start q.tree.words p.seen q.seen on.lawful on.seen shot
-      (subst (λ (t : TreeFace). IsFrozenIn t.start t.words p.seen shot) (sym on.tree) f)
+  frozen_on shot f = grind (arith, frozen_stays)
 
   -- the shot keeps its frozen pairs
   pairs_on : (shot : Frozen) (pairs : List Pair) → IsFrozenFor p shot
       → HasFrozenPairs p.tree.start p.tree.words p.seen shot pairs
       → HasFrozenPairs q.tree.start q.tree.words q.seen shot pairs
-  pairs_on shot pairs f h =
-      frozen_pairs_stay q.tree.start q.tree.words p.seen q.seen on.lawful on.seen shot pairs
-      (subst (λ (t : TreeFace). IsFrozenIn t.start t.words p.seen shot) (sym on.tree) f)
-      (subst (λ (t : TreeFace). HasFrozenPairs t.start t.words p.seen shot pairs) (sym on.tree) h)
+  pairs_on shot pairs f h = grind (arith, frozen_pairs_stay)
 
   -- a shot keeps its pairs
   pub has_on : (shot : Frozen) (pairs : List Pair) → ArePairsOf p shot pairs → ArePairsOf q shot pairs
-  has_on shot pairs h = record {
-    frozen = frozen_on shot h.frozen;
-    has = pairs_on shot pairs h.frozen h.has;
-    number = h.number;
-    rising = h.rising;
-  }
+  has_on shot pairs h = grind (arith, frozen_on, pairs_on)
 
   -- the changes that it had seen come first, so that the map at one of their positions is the same
   pub map_on : (position : ℕ) → position ≤ length (changes_seen p)
@@ -193,12 +184,7 @@ cut_none x pairs key c = record {
 -- if both ends of an interval cut the pairs, its pairs are those between the cuts
 pub cut_is : (pairs : List Pair) (from to low high : ℕ) → from < to → CutsAt pairs from low
     → CutsAt pairs to high → IsCut pairs from to low high
-cut_is [] from to low high some c d = let no = c.within in let none = d.within in record {
-  order = omega arith;
-  within = d.within;
-  between = (let zero_low : low ≡ 0 = omega arith in
-      let zero_high : high ≡ 0 = omega arith in rw zero_low (rw zero_high refl));
-}
+cut_is [] from to low high some c d = grind arith
 cut_is (x ∷ pairs) from to zero zero some c d = let above = d.above 0 x (omega arith) refl in
     let rest = cut_is pairs from to 0 0 some (cut_none x pairs from c) (cut_none x pairs to d) in
     record {
@@ -235,9 +221,7 @@ cut_is (x ∷ pairs) from to (suc low) (suc high) some c d =
 pub between_is : (pairs : List Pair) (first last from to low high : ℕ) → from ≡ first
     → to ≡ last + 1 → IsCut pairs from to low high
     → pairs_between first last pairs ≡ slice_of pairs low high
-between_is pairs first last from to low high begins ends c =
-    let same : to - 1 ≡ last = omega arith in ap (λ n. pairs_between n last pairs) (sym begins)
-    ∙ ap (λ n. pairs_between from n pairs) (sym same) ∙ c.between
+between_is pairs first last from to low high begins ends c = grind arith
 
 outside : (from last key : ℕ) → last < from → (nat_le from key && nat_le key last) ≡ false
 outside from last key h = grind (arith, nat_tests)

@@ -1,5 +1,5 @@
 -- Totals of pairs, one pair more at a time. Serves `shots.total_at` and `shots.list`.
-use Rattle.std.proofs.Common.{◌≡◌, ℕ, ◌+◌, ◌-◌, ◌<◌, ◌≤◌, List, [], ◌∷◌, ◌++◌, zero, suc, length, take, drop, slice_get, slice_set, ◌≢◌, Option, Some, None, refl, sym, ap, ◌∙◌, ⊎_elim, arith}
+use Rattle.std.proofs.Common.{◌≡◌, ℕ, ◌+◌, ◌-◌, ◌<◌, ◌≤◌, List, [], ◌∷◌, ◌++◌, zero, suc, length, take, drop, slice_get, slice_set, ◌≢◌, Option, Some, None, refl, sym, ap, ◌∙◌, arith}
 use Rattle.std.proofs.lemmas.Bool.{cases_lt}
 use Rattle.std.proofs.lemmas.List.Sums.{sum_by_push}
 use Rattle.ist_core.proofs.AllWordLemmas.{slice_get-drop}
@@ -56,15 +56,7 @@ pub total_more : (old new : Total) (pairs : List Pair) (x : Pair) → old ≡ to
     → new.least ≡ least_with x.value old.least → new.greatest ≡ greatest_with x.value old.greatest
     → new ≡ total_of (pairs ++ x ∷ [])
 total_more old new pairs x same keys sum least greatest =
-    same_total new (total_of (pairs ++ x ∷ []))
-    (keys ∙ ap (λ t. t.keys + 1) same ∙ sym (length-append pairs (x ∷ [])))
-    (sum ∙ ap (λ t. t.sum + x.value) same ∙ sym (sum_by_push (λ (p : Pair). p.value) pairs x))
-    (least ∙ ap (λ t. least_with x.value t.least) same ∙ sym (least_more pairs x))
-    (greatest ∙ ap (λ t. greatest_with x.value t.greatest) same ∙ sym (greatest_more pairs x))
-  where
-    same_total : (a b : Total) → a.keys ≡ b.keys → a.sum ≡ b.sum → a.least ≡ b.least
-        → a.greatest ≡ b.greatest → a ≡ b
-    same_total a b k s l g = λ i. record { keys = k i; sum = s i; least = l i; greatest = g i }
+    grind (arith, length-append, sum_by_push, least_more, greatest_more)
 
 -- the total of a part with one pair more
 pub part_total_more : (pairs : List Pair) (low i : ℕ) (x : Pair) (old new : Total) → low ≤ i
@@ -98,8 +90,4 @@ pub totals_more : (f : ℕ → Total) (totals : List Total) (j : ℕ) (x : Total
     → ((k : ℕ) → k < j → slice_get totals k ≡ Some (f k)) → (k : ℕ) → k < j + 1
     → slice_get (slice_set totals j x) k ≡ Some (f k)
 totals_more f totals j x within is before k low =
-    ⊎_elim (λ (h : k < j). get_set_other totals j k x (omega (arith, h)) ∙ before k h)
-    (λ (h : j ≤ k). let same : k ≡ j = omega (arith, h, low) in
-    ap (slice_get (slice_set totals j x)) same ∙ get_set_same totals j x within
-    ∙ ap Some (is ∙ ap f (sym same)))
-    (cases_lt k j)
+    grind (arith, get_set_other, get_set_same, cases_lt)

@@ -1,6 +1,6 @@
 -- A walk: the place of its next pair, and that it stays there. Serves `walks.rt` and
 -- `laws.shots_stay`.
-use Rattle.std.proofs.Common.{◌≡◌, ℕ, ◌+◌, ◌-◌, ◌<◌, ◌≤◌, List, [], ◌∷◌, zero, suc, length, map, drop, slice_get, Some, None, refl, sym, ap, ◌∙◌, subst, ⊎_elim, arith}
+use Rattle.std.proofs.Common.{◌≡◌, ℕ, ◌+◌, ◌-◌, ◌<◌, ◌≤◌, List, [], ◌∷◌, zero, suc, length, map, slice_get, Some, None, refl, sym, ap, ◌∙◌, subst, ⊎_elim, arith}
 use Rattle.std.specs.List.Sorted.{IsStrictlyIncreasing}
 use Rattle.std.proofs.lemmas.Bool.{cases_lt}
 use Rattle.std.proofs.lemmas.List.{length-take}
@@ -37,14 +37,7 @@ some_cut : (pairs : List Pair) (key : ℕ)
     → ((i j : ℕ) (x y : Pair) → slice_get pairs i ≡ Some x → slice_get pairs j ≡ Some y → i < j
     → x.key < y.key)
     → (count : ℕ) × CutsAt pairs key count
-some_cut [] key rises = (
-  0,
-  record {
-    within = omega arith;
-    below = λ i pair low at. absurd (omega arith);
-    above = λ i pair high at. absurd (cc);
-  },
-)
+some_cut [] key rises = grind arith
 some_cut (x ∷ pairs) key rises =
     let rest = some_cut pairs key (λ i j y z at_i at_j low. rises (suc i) (suc j) y z at_i at_j (omega arith)) in
     ⊎_elim (λ (less : x.key < key). (suc rest.0, cut_more x pairs key rest.0 less rest.1))
@@ -53,18 +46,7 @@ some_cut (x ∷ pairs) key rises =
   where
     cut_more : (x : Pair) (pairs : List Pair) (key count : ℕ) → x.key < key → CutsAt pairs key count
         → CutsAt (x ∷ pairs) key (suc count)
-    cut_more x pairs key count less c = let within = c.within in
-        record { within = omega arith; below = below; above = above }
-      where
-        below : (i : ℕ) (pair : Pair) → i < suc count → slice_get (x ∷ pairs) i ≡ Some pair
-            → pair.key < key
-        below zero pair low at = let same : x ≡ pair = cc in subst (λ (p : Pair). p.key < key) same less
-        below (suc i) pair low at = c.below i pair (omega arith) at
-
-        above : (i : ℕ) (pair : Pair) → suc count ≤ i → slice_get (x ∷ pairs) i ≡ Some pair
-            → key ≤ pair.key
-        above zero pair high at = absurd (omega arith)
-        above (suc i) pair high at = c.above i pair (omega arith) at
+    cut_more x pairs key count less c = grind arith
 
     cut_here : (x : Pair) (pairs : List Pair) (key : ℕ) → key ≤ x.key
         → ((i : ℕ) (y : Pair) → slice_get pairs i ≡ Some y → x.key < y.key)
@@ -89,14 +71,12 @@ cut_of pairs rising first last start order c =
 -- a pair of a part, by its number there
 pub get_part : (pairs : List Pair) (low high given : ℕ) → given < high - low
     → slice_get (slice_of pairs low high) given ≡ slice_get pairs (low + given)
-get_part pairs low high given less =
-    slice_get-take (high - low) (drop low pairs) given less ∙ slice_get-drop low pairs given
+get_part pairs low high given less = grind (arith, slice_get-take, slice_get-drop)
 
 -- there is no pair after the end of a part
 pub none_after : (pairs : List Pair) (low high given : ℕ) → high - low ≤ given
     → slice_get (slice_of pairs low high) given ≡ None
-none_after pairs low high given more = let long = length-take (high - low) (drop low pairs) in
-    slice_get_past (slice_of pairs low high) given (omega (arith, long))
+none_after pairs low high given more = grind (arith, length-take, slice_get_past)
 
 module _ (pairs : List Pair) (rising : IsStrictlyIncreasing (map (λ p. p.key) pairs))
     (first last start given : ℕ) (c : CutsAt pairs first start) where
@@ -126,9 +106,7 @@ module _ (pairs : List Pair) (rising : IsStrictlyIncreasing (map (λ p. p.key) p
   -- if a pair is above the interval, no pair comes
   pub none_above : (x : Pair) → slice_get pairs (start + given) ≡ Some x → last < x.key
       → slice_get (pairs_between first last pairs) given ≡ None
-  none_above x at over = none_within
-      (λ high cut. ⊎_elim (λ (l : start + given < high). (let less = cut.below (start + given) x l at in
-      absurd (omega (arith, less, over)))) (λ (h : high ≤ start + given). h) (cases_lt (start + given) high))
+  none_above x at over = grind (arith, none_within, cases_lt)
 
   -- if all pairs were given, no pair comes
   pub none_left : length pairs ≤ start + given
@@ -159,16 +137,13 @@ module _ (p q : PassFace) (shot : Frozen) (v w : WalkFace) (looked : HasOnlyLook
 
   as_it_was : slice_get (pairs_between w.first w.last pairs) w.given
       ≡ slice_get (pairs_between v.first v.last pairs) v.given
-  as_it_was = ap (λ n. slice_get (pairs_between n w.last pairs) w.given) one.first
-      ∙ ap (λ n. slice_get (pairs_between v.first n pairs) w.given) one.last
-      ∙ ap (slice_get (pairs_between v.first v.last pairs)) given
+  as_it_was = grind arith
 
   -- the pair that was looked at is the one that the walk has reached
   reached : (u : WalkFace) (now : Frozen) (x : Pair) → u ≡ w → now ≡ shot
       → ((found : List Pair) → ArePairsOf q now found → slice_get found u.next ≡ Some x)
       → slice_get pairs (these.start + w.given) ≡ Some x
-  reached u now x is same at = ap (slice_get pairs) (sym (ap (λ v. v.next) is ∙ these.next_is))
-      ∙ at pairs (subst (λ s. ArePairsOf q s pairs) (sym same) (looked.pairs shot pairs before))
+  reached u now x is same at = grind arith
 
   -- if the pair is in the interval, it is the next one
   pub comes : (u : WalkFace) (now : Frozen) (x : Pair) → u ≡ w → now ≡ shot

@@ -1,6 +1,6 @@
 -- Attempts to rebuild a row, and what several come to. Serves `help_own`, `help_other`, `try_due` and
 -- `rebuild_due`.
-use Rattle.std.proofs.Common.{◌≡◌, ◌⊎◌, ◌↔◌, ℕ, Bool, true, not, IsTrue, Some, Result, Ok, Err, IsErrAnd, inl, inr, sym, ap, subst}
+use Rattle.std.proofs.Common.{◌≡◌, ◌⊎◌, ◌↔◌, ℕ, Bool, true, not, IsTrue, Some, Result, Ok, Err, IsErrAnd, inl, inr, sym, ap, subst, arith}
 use Rattle.ist_core.specs.declared.ports.Full.{Full}
 use Rattle.ist_core.specs.LogTerms.{Happened, Resolves, Snapshot}
 use Rattle.ist_core.specs.TreeTerms.{IsReplaced}
@@ -113,13 +113,7 @@ pub tried_short : {old new : Caller} {due : Due} {words : ℕ} {full : Full} (an
     → IsDueRefused (now old.token.view) new.token.view due words full
     → TriesOnce old new due words answer
 tried_short (Ok a) same on refused = absurd same
-tried_short {old} {new} {due} {words} {full} (Err e) same on refused = record {
-  on = on;
-  last = tt;
-  further = λ is. absurd (cc);
-  done = tt;
-  full = subst (IsDueRefused (now old.token.view) new.token.view due words) (sym same) refused;
-}
+tried_short {old} {new} {due} {words} {full} (Err e) same on refused = grind arith
 
 -- the same, after a start that wasn't refused
 pub later_short : {a b c : Caller} {due : Due} {words : ℕ} {full : Full} (answer : Result Bool Full)

@@ -1,20 +1,18 @@
 -- What a caller counted in a log, by what it counted in the parts of it. Serves `apply_in_call` and
 -- `run_rounds`.
-use Rattle.std.proofs.Common.{◌≡◌, ◌-◌, ℕ, ◌+◌, ◌<◌, ◌≤◌, length, Option, sym, ap, subst, arith, ◌≢◌, ◌⊎◌, [], ◌∷◌, refl, inl, inr, ⊎_elim, Some, None, ◌∙◌}
-use Rattle.ist_core.specs.TreeTerms.{changes_of}
+use Rattle.std.proofs.Common.{◌≡◌, ◌-◌, ℕ, ◌+◌, ◌<◌, ◌≤◌, length, Option, sym, ap, subst, arith, ◌⊎◌, ◌∷◌, refl, inl, inr, ⊎_elim, Some, None, ◌∙◌}
 use Rattle.ist_core.specs.declared.commands.Command.{Command}
 use Rattle.ist_core.specs.declared.events.Event.TheVariants.{Count}
 use Rattle.ist_core.specs.declared.events.Who.TheVariants.{Caller as CallerOf}
 use Rattle.ist_core.specs.declared.ports.Full.{Full}
 use Rattle.ist_core.specs.declared.commands.Command.TheVariants.{Get}
-use Rattle.ist_core.specs.declared.events.Who.{Who}
 use Rattle.ist_core.specs.WordTerms.{place_limit, start}
 use Rattle.laws_histories.proofs.ChangeLemmas.{changes_rise, position_on}
 use Rattle.laws_stability.proofs.OwnLemmas.{never_falls}
 use Rattle.ist_rule.specs.RuleTerms.{TurnedAt, beginning, TokenFace, CanGiveUp, moment_seen, giving_up, IsSound}
 use Rattle.ist_rule.specs.declared.view.View.{View}
 use Rattle.ist_find.specs.Searches.{HasSearched}
-use Rattle.ist_tree.specs.CallTerms.{BeginsFewWalks, HasSeenMore, PassFace, TreeFace, changes_seen, BeginsFewRounds, PaysForWalks, CountsNowhere, face_as, pass_face, KeepsRowRefusal, HasNoEffect, HadValue, HasStartedNone, IsPass, IsPassWith}
+use Rattle.ist_tree.specs.CallTerms.{BeginsFewWalks, HasSeenMore, PassFace, changes_seen, BeginsFewRounds, PaysForWalks, CountsNowhere, face_as, pass_face, KeepsRowRefusal, HasNoEffect, HadValue, HasStartedNone, IsPass, IsPassWith}
 use Rattle.ist_core.specs.LogTerms.{Later, whose, GoesOn, Log, same_log}
 use Rattle.laws_calls.proofs.ClosedLemmas.{others_count_nothing, others_start_nothing}
 use Rattle.ist_rule.proofs.LaterLemmas.{goes_on_more, later-goes_on, later_more}
@@ -37,9 +35,7 @@ use Rattle.ist_tree.proofs.FinishLemmas as way
 -- a pass that has seen more has seen no fewer changes
 pub changes_more : (p q : PassFace) → HasSeenMore p q
     → length (changes_seen p) ≤ length (changes_seen q)
-changes_more p q m =
-    subst (λ (t : TreeFace). length (changes_seen p) ≤ length (changes_of t.start t.words q.seen))
-    (sym m.tree) (changes_rise (start p.tree.start p.tree.words) p.seen q.seen m.seen)
+changes_more p q m = grind (arith, changes_rise)
 
 -- before the first round no walk began
 pub pays_none : (p : PassFace) → PaysForWalks p p
@@ -50,8 +46,7 @@ pub pays_on : (p m n q : PassFace) → PaysForWalks p m → BeginsFewWalks m n �
     → q.searches ≡ n.searches + 1
     → place_limit - length (changes_seen q) < place_limit - length (changes_seen m)
     → PaysForWalks p q
-pays_on p m n q paid few more one fewer = let on = never_falls n.seen q.seen more.seen in
-    omega arith
+pays_on p m n q paid few more one fewer = grind (arith, never_falls)
 
 -- a last round that took effect
 pub few_taken : (p m q : PassFace) → PaysForWalks p m → BeginsFewWalks m q → HasSeenMore m q
@@ -61,16 +56,13 @@ few_taken p m q paid few more = let rise = changes_more m q more in omega arith
 -- a last round that found another value
 pub few_found : (p m n q : PassFace) → PaysForWalks p m → BeginsFewWalks m n → HasSeenMore m n
     → HasSeenMore n q → q.searches ≡ n.searches + 1 → BeginsFewRounds p q
-few_found p m n q paid few first more one = let on = never_falls n.seen q.seen more.seen in
-    let rise = changes_more m n first in let rest = changes_more n q more in omega arith
+few_found p m n q paid few first more one = grind (arith, never_falls, changes_more)
 
 -- a find in a call of its own begins one walk
 pub one_search : (v b w x : View) (n : ℕ) {command : Option Command}
     → TurnedAt v (beginning v command) b → HasSearched b w → x.searches ≡ w.searches
     → v.searches ≡ n → x.searches ≡ n + 1
-one_search v b w x n begun seen last first =
-    let before : b.searches ≡ v.searches = ap (λ (y : View). y.searches) begun.view in
-    let one = seen.searches in omega arith
+one_search v b w x n begun seen last first = grind (arith, before)
 
 module _ (number : ℕ) where
   -- if the caller counted nowhere in two parts of a log, it did so nowhere in both together
@@ -91,10 +83,7 @@ module _ (number : ℕ) where
 
   -- what others do is no Count of the caller
   pub others_counted : (a b : Log) → Later (CallerOf number) a b → CountedNowhere a b number
-  others_counted a b l node k =
-      ⊎_elim (λ e. not_before [] 0 number (Count number node) a k.at k.since e)
-      (λ p. others_count_nothing number (Count number node) p node (refl, refl))
-      (event_since (λ event. whose event ≢ CallerOf number) (Count number node) a k.at b l k.until)
+  others_counted a b l node k = grind (arith, not_before, others_count_nothing, event_since)
 
 -- a call whose work counted nowhere counted nowhere
 pub way_counted : (who began new : Caller) (token : TokenFace) (command : Command)
@@ -138,18 +127,7 @@ module _ (who : Caller) (key : ℕ) (value : Option ℕ) (b w : View) (s : IsSou
 
   -- it may give its call up
   pub can_leave : CanGiveUp w
-  can_leave =
-      let between = between_after v who.number s p.caller.mine p.in_none w.log
-      (lawful who key value b w s p begun seen has) (later_more (before who key value b w s p begun seen has) (later who key value b w s p begun seen has)) in
-      subst CanGiveUp (sym is_w)
-      record {
-        number = who.number;
-        mine = p.caller.mine;
-        pending = record { command = Some (Get key); length = length b.log };
-        in_call = refl;
-        resolved = between.resolved;
-        none = between.made;
-      }
+  can_leave = grind (arith, between_after, lawful, later_more, before, later, is_w)
 
   -- and gave it up
   module _ (token : TokenFace) (refused : Option Full) (all : IsPassWith who refused)
@@ -169,21 +147,13 @@ module _ (who : Caller) (key : ℕ) (value : Option ℕ) (b w : View) (s : IsSou
     x_is = given.view ∙ ap (λ (y : View). giving_up y x.log given.before) is_w
 
     w_to_x : Later (CallerOf who.number) w.log x.log
-    w_to_x =
-        subst (λ (a : Who). Later a w.log x.log) (ap (λ (y : View). y.who) is_w ∙ p.caller.mine)
-        given.later
+    w_to_x = grind arith
 
     all_later : Later (CallerOf who.number) v.log x.log
     all_later = later_more (later_more (before who key value b w s p begun seen has) (later who key value b w s p begun seen has)) w_to_x
 
     later_view : IsLaterView v x
-    later_view = record {
-      who_is = ap (λ (y : View). y.who) x_is;
-      start_is = ap (λ (y : View). y.start) x_is;
-      words_is = ap (λ (y : View). y.words) x_is;
-      later = subst (λ a. Later a v.log x.log) (sym p.caller.mine) all_later;
-      sound = given.sound;
-    }
+    later_view = grind (arith, x_is, later, all_later)
 
     -- a find that is given up results in this
     pub find_leaves : (old : PassFace) → pass_face who refused ≡ old
@@ -218,22 +188,10 @@ module _ (who : Caller) (key : ℕ) (value : Option ℕ) (b w : View) (s : IsSou
 
 -- what had no effect keeps the refusal that there was
 pub idle_keeps : (p q : PassFace) → HasNoEffect p q → KeepsRowRefusal p q
-idle_keeps p q i =
-    record { stays = λ full e. i.refused ∙ e; cause = λ full e. inl (sym i.refused ∙ e) }
+idle_keeps p q i = grind arith
 
 -- a pass that only saw more had no effect
 pub only_saw : (p q : PassFace) → HasSeenMore p q → q.refused ≡ p.refused
     → Later (CallerOf p.number) p.seen q.seen → HasStartedNone p q → HasNoEffect p q
-only_saw p q s r l none = record {
-  seen = s;
-  refused = r;
-  uncounted = others_counted p.number p.seen q.seen l;
-  none_came = λ row c.
-      ⊎_elim (λ before. not_before p.tree.start p.tree.words p.number (Count p.number row) p.seen c.at c.since before)
-      (λ other. other refl)
-      (event_since (λ event. whose event ≢ CallerOf p.number) (Count p.number row) p.seen c.at
-      q.seen l c.until);
-  starts = none_due p.tree.start p.tree.words p.number
-      (λ event. whose event ≢ CallerOf p.number) (others_start_nothing p.number) p.seen q.seen l;
-  unstarted = none;
-}
+only_saw p q s r l none =
+    grind (arith, before, not_before, event_since, none_due, others_start_nothing)

@@ -1,5 +1,5 @@
 -- What an attempt to rebuild a row results in. Serves `try_due` and `rebuild_due`.
-use Rattle.std.proofs.Common.{◌≡◌, ℕ, ◌⊎◌, Result, Ok, refl, sym, subst, inl, inr, ⊎_elim, Some, ap, ◌∙◌}
+use Rattle.std.proofs.Common.{◌≡◌, ℕ, ◌⊎◌, Result, Ok, refl, sym, subst, inl, inr, ⊎_elim, Some, ap, ◌∙◌, arith}
 use Rattle.ist_core.specs.declared.events.Event.{Event}
 use Rattle.ist_core.specs.declared.ports.Full.{Full}
 use Rattle.ist_core.specs.declared.states.InnerRow.{InnerRow}
@@ -44,11 +44,7 @@ use Rattle.ist_build.specs.Calls.{IsBuildable}
 pub begins_on : (old new : Caller) → IsReady old → IsCaller new → (HasRefused old → HasRefused new)
     → IsQuiet new → WentOn Begins old.token.view new.token.view → new.number ≡ old.number
     → StaysReady Rebuilds old new
-begins_on old new r c refused quiet went number =
-    ready_all Begins Rebuilds begins_rebuild old new record {
-      gone = record { caller = c; number = number; refused = refused r.refused; went = went };
-      quiet = quiet;
-    }
+begins_on old new r c refused quiet went number = grind (arith, ready_all, begins_rebuild)
 
 -- so did one that helped one
 pub serves_on : (old new : Caller) → HasHelped old new → StaysReady Rebuilds old new
@@ -59,26 +55,18 @@ pub begins_for : (old new : Caller) (target : ℕ) → IsReady old → IsCaller 
     → (HasRefused old → HasRefused new) → IsQuiet new → WentOn Begins old.token.view new.token.view
     → new.number ≡ old.number → WentOn (StartsAt target) old.token.view new.token.view
     → GoesFor old new target
-begins_for old new target r c refused quiet went number aims =
-    record { on = begins_on old new r c refused quiet went number; aims = aims }
+begins_for old new target r c refused quiet went number aims = grind (arith, begins_on)
 
 -- a caller that helped a rebuild started none
 pub helped_for : (old new : Caller) (target : ℕ) → HasHelped old new → GoesFor old new target
-helped_for old new target h = record {
-  on = serves_on old new h;
-  aims = went_all ServesRebuild (StartsAt target) (serves_aims target) old.token.view new.token.view
-      h.on.gone.went;
-}
+helped_for old new target h = grind (arith, serves_on, went_all, serves_aims)
 
 -- nor did one that made only plain steps of help
 pub plain_for : (P : Event → Type 0) → ((event : Event) → P event → IsPlainHelp event)
     → (target : ℕ) → ((event : Event) → P event → StartsAt target event) → (who : Caller)
     → (token : TokenFace) → IsReady who → WentOn P who.token.view token.view
     → GoesFor who (record who { token = token }) target
-plain_for P all target aims who token r went = record {
-  on = plain_on P all who token r went;
-  aims = went_all P (StartsAt target) aims who.token.view token.view went;
-}
+plain_for P all target aims who token r went = grind (arith, plain_on, went_all)
 
 -- nor one that loaded a word
 pub loaded_for : (who : Caller) (token : TokenFace) (target : ℕ) → IsReady who
@@ -90,10 +78,7 @@ loaded_for who token target r seen =
 -- nor one that did nothing
 pub goes_none : (who : Caller) (target : ℕ) → IsSound who.token.view → IsReady who
     → GoesFor who who target
-goes_none who target s r = record {
-  on = ready_same Rebuilds who s r;
-  aims = went_same (StartsAt target) who.token.view s;
-}
+goes_none who target s r = grind (arith, ready_same, went_same)
 
 -- two such steps are one
 pub goes_more : (a b c : Caller) (target : ℕ) → GoesFor a b target → GoesFor b c target
@@ -113,14 +98,12 @@ started answer = Ok answer
 pub yes_leaves : (first t : Snapshot) (number : ℕ) (answer : Started) (rebuild : ℕ)
     → answer ≡ Yes rebuild → LeavesDone first t number (Ok answer)
     → StartsDoneBut first t number rebuild
-yes_leaves first t number answer rebuild is done =
-    subst (λ a. LeavesDone first t number (Ok a)) is done
+yes_leaves first t number answer rebuild is done = grind arith
 
 -- if the slot held another word, all starts are done
 pub other_leaves : (first t : Snapshot) (number : ℕ) (answer : Started) (word : ℕ)
     → answer ≡ Other word → LeavesDone first t number (Ok answer) → StartsDoneSince first t number
-other_leaves first t number answer word is done =
-    subst (λ a. LeavesDone first t number (Ok a)) is done
+other_leaves first t number answer word is done = grind arith
 
 -- if the parent was marked, all starts are done
 pub marked_leaves : (first t : Snapshot) (number : ℕ) (answer : Started) → answer ≡ Marked
@@ -173,8 +156,7 @@ may_start_linked : (v : View) → IsSound v → (parent index target : ℕ) → 
 may_start_linked v s parent index target m = ⊎_elim when_due below_anchor m.due
   where
     when_due : IsDue m.row → WasLinked (start v.start v.words) v.log target
-    when_due = due_was_linked v.start v.words s.lawful.opens v.log s.lawful.enabled target m.row
-        m.published
+    when_due = grind (arith, due_was_linked)
 
     below_anchor : parent ≡ anchor → WasLinked (start v.start v.words) v.log target
     below_anchor e = let t = state_of v.start v.words m.prefix in

@@ -68,29 +68,22 @@ some_of_one n x xs false le = le
 owned_some : (number : ℕ) (xs : List Entry) (i : ℕ) → is_owned number (slice_get xs i) ≡ true
     → 1 ≤ length (entries_by number xs)
 owned_some number [] i e = absurd (cc)
-owned_some number (x ∷ xs) zero e =
-    subst (λ b. 1 ≤ length (if b then x ∷ entries_by number xs else entries_by number xs)) (sym e)
-    (omega arith)
+owned_some number (x ∷ xs) zero e = grind arith
 owned_some number (x ∷ xs) (suc i) e =
     some_of_one 1 x (entries_by number xs) (x.owner == number) (owned_some number xs i e)
 
 -- and one more before them makes two
 two : (number : ℕ) (x : Entry) (xs : List Entry) → length (entries_by number (x ∷ xs)) ≤ 1
     → (x.owner == number) ≡ true → 1 ≤ length (entries_by number xs) → ⊥
-two number x xs few e some =
-    let long = subst (λ b. length (if b then x ∷ entries_by number xs else entries_by number xs) ≤ 1)
-    e few in
-    omega arith
+two number x xs few e some = grind arith
 
 -- if there is at most one, it is at one place
 one_owned : (number : ℕ) (xs : List Entry) → length (entries_by number xs) ≤ 1 → (i j : ℕ)
     → is_owned number (slice_get xs i) ≡ true → is_owned number (slice_get xs j) ≡ true → i ≡ j
 one_owned number [] few i j e f = absurd (cc)
 one_owned number (x ∷ xs) few zero zero e f = refl
-one_owned number (x ∷ xs) few zero (suc j) e f =
-    absurd (two number x xs few e (owned_some number xs j f))
-one_owned number (x ∷ xs) few (suc i) zero e f =
-    absurd (two number x xs few f (owned_some number xs i e))
+one_owned number (x ∷ xs) few zero (suc j) e f = grind (arith, two, owned_some)
+one_owned number (x ∷ xs) few (suc i) zero e f = grind (arith, two, owned_some)
 one_owned number (x ∷ xs) few (suc i) (suc j) e f =
     ap suc (one_owned number xs
     (fewer (length (entries_by number xs))
@@ -210,42 +203,5 @@ module _ (v : View) (call : Call) (c : CanEnd v call)
 
   -- so the call that is picked may end
   pub can_end_so : CanEnd v (ended_call v call.reply)
-  can_end_so = subst (λ x. CanEnd v x) (sym picked) (by_kind (is_change call) refl)
-    where
-      picked : ended_call v call.reply ≡ moved (place_of v c.seen call.command call.reply)
-      picked = ap (λ p. ending_in v p call.reply) c.in_call
-          ∙ ap (λ (o : Option Command). record {
-            command = command_in o;
-            reply = call.reply;
-            position = place_of v (log_at v.log c.pending.length) (command_in o) call.reply;
-            stamp = v.stamp + 1;
-          }) c.command_is
-          ∙ ap (λ n. record {
-            command = call.command;
-            reply = call.reply;
-            position = place_of v (log_at v.log n) call.command call.reply;
-            stamp = v.stamp + 1;
-          }) c.length_is
-          ∙ ap (λ (l : Log). record {
-            command = call.command;
-            reply = call.reply;
-            position = place_of v l call.command call.reply;
-            stamp = v.stamp + 1;
-          }) (at_prefix c.seen v.log c.goes_on)
-          ∙ ap (λ n. record {
-            command = call.command;
-            reply = call.reply;
-            position = place_of v c.seen call.command call.reply;
-            stamp = n;
-          }) (sym c.stamp_is)
-
-      by_kind : (b : Bool) → is_change call ≡ b
-          → CanEnd v (moved (place_of v c.seen call.command call.reply))
-      by_kind true e = subst (λ p. CanEnd v (moved p))
-          (sym (ap (λ b. if b then first_from (owned_at entries v.who) (length old)
-          (length entries + 1) else position_of v.start v.words c.seen v.log (key_of call.command)
-          call.reply) e ∙ found_entry e)) c
-      by_kind false e = subst (λ p. CanEnd v (moved p))
-          (sym (ap (λ b. if b then first_from (owned_at entries v.who) (length old)
-          (length entries + 1) else position_of v.start v.words c.seen v.log (key_of call.command)
-          call.reply) e)) (moved_reading e)
+  can_end_so =
+      grind (arith, command_in, at_prefix, first_from, position_of, found_entry, moved_reading)

@@ -37,8 +37,7 @@ begins_rebuild _ p = tt
 
 -- a step of helping a rebuild is one of rebuilding
 pub serves_rebuild : (event : Event) → ServesRebuild event → Rebuilds event
-serves_rebuild (Install caller base rows) p =
-    λ change is. finish_no_update change.kind (p change is)
+serves_rebuild (Install caller base rows) p = grind (arith, finish_no_update)
 serves_rebuild (Enter caller) p = p
 serves_rebuild (Count caller node) p = p
 serves_rebuild _ p = tt
@@ -66,8 +65,7 @@ none_starts_none number _ p = tt
 
 -- helping a rebuild starts none, so that no start is out of place
 pub serves_aims : (target : ℕ) (event : Event) → ServesRebuild event → StartsAt target event
-serves_aims target (Install caller base rows) p =
-    λ change is start. absurd (finish_no_start change.kind (p change is) start)
+serves_aims target (Install caller base rows) p = grind (arith, finish_no_start)
 serves_aims target _ p = tt
 
 -- helping a change starts none, so that no start is out of place
@@ -79,8 +77,7 @@ help_aims target base _ p = absurd p
 
 -- helping a rebuild starts none
 pub serves_start_none : (number : ℕ) (event : Event) → ServesRebuild event → InstallsNoStart number event
-serves_start_none number (Install caller base rows) p =
-    λ mine change is. finish_no_start change.kind (p change is)
+serves_start_none number (Install caller base rows) p = grind (arith, finish_no_start)
 serves_start_none number _ p = tt
 
 -- an update starts no rebuild

@@ -2,7 +2,7 @@
 -- of them. Serves `run_rounds`.
 use Rattle.std.proofs.Common.{◌≡◌, ◌≢◌, ◌⊎◌, ◌-◌, ℕ, ◌<◌, ◌≤◌, zero, suc, List, [], ◌∷◌, length, slice_get, Option, Some, refl, sym, ap, ◌∙◌, subst, ⊎_elim, arith, ◌+◌, if◌then◌else◌, map, inl, inr}
 use Rattle.ist_core.specs.declared.pairs.Pair.{Pair}
-use Rattle.ist_core.specs.TreeTerms.{Entry, changes_of, map_at, map_of, AllStandIn, StandsIn}
+use Rattle.ist_core.specs.TreeTerms.{Entry, changes_of, AllStandIn, StandsIn}
 use Rattle.ist_core.specs.LogTerms.{Distinct, Each, EachEnabled, CanOpen, Lawful, GoesOn, Log, Among, PassCalls, caller_limit}
 use Rattle.ist_core.specs.WordTerms.{Change, place_limit, start}
 use Rattle.ist_core.proofs.AllWordLemmas.{each-among}
@@ -86,19 +86,7 @@ pub changed_between : (pairs : List Pair) (words : ℕ) (a b c : Log) → GoesOn
     (had value : Option ℕ) → had ≢ value → HasPosition pairs words a b key had
     → HasPosition pairs words b c key value
     → length (changes_of pairs words a) < length (changes_of pairs words c)
-changed_between pairs words a b c on key had value differs x y =
-    ⊎_elim (λ few. absurd (differs (same few))) (λ more. more)
-    (either (length (changes_of pairs words a)) (length (changes_of pairs words c)))
-  where
-    either : (m n : ℕ) → (n ≤ m) ⊎ (m < n)
-    either m n = grind arith
-
-    same : length (changes_of pairs words c) ≤ length (changes_of pairs words a) → had ≡ value
-    same few = let x_from = x.from in let x_to = x.to in let y_from = y.from in let y_to = y.to in
-        let one : x.position ≡ y.position = omega arith in x.value_is
-        ∙ sym (ap (λ m. fin.get m key) (map_at_on pairs words b c x.position on x.to))
-        ∙ ap (λ n. fin.get (map_at (map_of pairs) (changes_of pairs words c) n) key) one
-        ∙ sym y.value_is
+changed_between pairs words a b c on key had value differs x y = grind (arith, map_at_on)
 
 -- so fewer changes are left
 pub fewer_left : (pairs : List Pair) (words : ℕ) (a c : Log) → Lawful pairs words c

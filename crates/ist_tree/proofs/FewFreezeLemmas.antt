@@ -57,18 +57,12 @@ few_unless (Err full) n old new f = f
 -- the target of a started rebuild, once it is finished
 pub told_of : (t : Snapshot) (rebuild target keys : ℕ) → IsRebuildOf t rebuild target
     → IsFinishedWith t target keys → IsTold t rebuild keys
-told_of t rebuild target keys r f = record {
-  row = r.target_is.row;
-  published = r.target_is.published;
-  started = r.started;
-  finished = subst (λ n. IsFinishedWith t n keys) (sym r.target_is.target_is) f;
-}
+told_of t rebuild target keys r f = grind arith
 
 -- what was met as it is
 pub few_still : (a c : Caller) (keys : ℕ) → HasTakenFew (needed a) 0 a c
     → HasTakenFew (words_of_freeze keys) 0 a c
-few_still a c keys f = let most = needed_most a in
-    few_low (needed a) 0 (words_of_freeze keys) 0 a c (omega arith) (omega arith) f
+few_still a c keys f = grind (arith, needed_most, few_low)
 
 -- the help of a rebuild after it was met
 pub few_helped : (a b c : Caller) (o : Option Full) (keys : ℕ) → StaysReady Rebuilds a b
@@ -78,10 +72,7 @@ pub few_helped : (a b c : Caller) (o : Option Full) (keys : ℕ) → StaysReady 
 few_helped a b c o keys on next f g = by o g
   where
     met : HasTakenFew (words_of_freeze keys) (sum (shape keys) + change_words) a b
-    met = let most = needed_most a in
-        few_low (needed a + (sum (shape keys) + change_words)) (0 + (sum (shape keys) + change_words))
-        (words_of_freeze keys) (sum (shape keys) + change_words) a b (omega arith) (omega arith)
-        (few_wider (needed a) 0 (sum (shape keys) + change_words) a b f)
+    met = grind (arith, needed_most, few_low, few_wider)
 
     by : (o : Option Full) → HasTakenFewUnless o (sum (shape keys) + change_words) b c
         → HasTakenFewUnless o (words_of_freeze keys) a c
@@ -101,17 +92,7 @@ pub leaf_numbered : (v : View) → IsSound v → (ref : Ref) (keys target i base
     → ((leaves : List PlacedLeaf) → HasLeaves (now v).pieces (Some (InnerAt target)) leaves
     → IsLeafAmong leaves i found)
     → ((b : ℕ) → found ≡ LeafAt b → base ≡ b) → IsLeafNumber (now v) ref i base
-leaf_numbered v s ref keys target i base found still is told based =
-    let all = still_leaves v.start v.words v.log s.lawful ref keys still in
-    let it = told all.leaves (subst (λ r. HasLeaves (now v).pieces (Some r) all.leaves) is all.below)
-    in
-    record {
-      leaves = all.leaves;
-      reached = all.below;
-      leaf = it.leaf;
-      there = it.there;
-      base_is = sym (based it.leaf.base it.ref_is);
-    }
+leaf_numbered v s ref keys target i base found still is told based = grind (arith, still_leaves)
 
 -- only an inner row means one
 inner_meant : (root : layouts.Ref) (base : ℕ) → ref_meant root ≡ InnerAt base → root ≡ Inner base

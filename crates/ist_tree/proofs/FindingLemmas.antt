@@ -80,8 +80,7 @@ module _ (v : View) (number key : ℕ) (s : IsSound v) (mine : v.who ≡ CallerO
   pub found_is : (loads : Loads) (loaded searches : ℕ) (moments : Moments)
       → found_call (searched_view v key earlier log loads loaded searches moments) value
       ≡ get_call v key earlier log value
-  found_is loads loaded searches moments =
-      ap (λ (l : Log). get_call v key l log value) (at_prefix earlier log (later-goes_on later))
+  found_is loads loaded searches moments = grind (arith, at_prefix, later-goes_on)
 
   -- and the view may end it
   pub may_end : (loads : Loads) (loaded searches : ℕ) (moments : Moments)

@@ -1,6 +1,6 @@
 -- The rebuilds that a pass started in a call: each was finished, or one was refused. Serves
 -- `apply_in_call`, `run_rounds` and `freeze`.
-use Rattle.std.proofs.Common.{◌≡◌, ℕ, Option, Some, None, refl, sym, ap, ◌∙◌, subst, inl, inr, ⊎_elim, ◌≤◌, ap₂}
+use Rattle.std.proofs.Common.{◌≡◌, ℕ, Option, Some, None, refl, sym, ap, ◌∙◌, subst, inl, inr, ⊎_elim, ◌≤◌, ap₂, arith}
 use Rattle.std.specs.Option.{option_or}
 use Rattle.ist_core.specs.declared.ports.Full.{Full}
 use Rattle.ist_core.specs.declared.commands.Command.{Command}
@@ -38,11 +38,7 @@ finishes IsMet p q (Some full) is done cause =
 
 -- a call without effect has nothing to finish
 pub idle_finishes : (p q : PassFace) → HasNoEffect p q → FinishesUpdate p q
-idle_finishes p q i =
-    all_done (since_none (state_of p.tree.start p.tree.words p.seen)
-    (state_of q.tree.start q.tree.words q.seen) q.number
-    (subst (StartsNone (state_of p.tree.start p.tree.words p.seen)
-    (state_of q.tree.start q.tree.words q.seen)) (sym i.seen.number) i.unstarted))
+idle_finishes p q i = grind (arith, since_none)
 
 -- what a call finished after another without effect was finished since the beginning of that
 pub finish_from : (p m q : PassFace) → HasNoEffect p m → q.number ≡ m.number
@@ -126,8 +122,7 @@ module _ (who began new : Caller) (token : TokenFace) (command : Command)
 
   -- it is the view of one table
   x_table : x.table ≡ v.table
-  x_table = way.table ∙ ap (λ (y : View). y.table) way.went.went.same
-      ∙ ap (λ (y : View). y.table) way.begun.view
+  x_table = grind arith
 
   -- the log goes on while the call begins
   pub v_to_b : GoesOn v.log b.log
@@ -147,15 +142,11 @@ module _ (who began new : Caller) (token : TokenFace) (command : Command)
 
   -- the log after the call is lawful
   pub lawful_x : Lawful v.start v.words x.log
-  lawful_x = subst (λ pairs. Lawful pairs v.words x.log) x_start
-      (subst (λ words. Lawful x.start words x.log) x_words way.last.sound.lawful)
+  lawful_x = grind (arith, x_start, x_words)
 
   -- the log after the work is lawful
   pub lawful_w : Lawful v.start v.words w.log
-  lawful_w = record {
-    opens = lawful_x.opens;
-    enabled = enabled_before (start v.start v.words) w.log x.log w_to_x lawful_x.enabled;
-  }
+  lawful_w = grind (arith, enabled_before, w_to_x)
 
   -- the view is still the caller's after the work
   pub w_mine : w.who ≡ CallerOf who.number
@@ -183,19 +174,12 @@ module _ (who began new : Caller) (token : TokenFace) (command : Command)
 
   -- of its tree
   pub same_tree : tree_of token ≡ tree_of who.token
-  same_tree = ap₂ (λ t words. record { table = t; start = x.start; words = words }) x_table x_words
-      ∙ ap (λ pairs. record { table = v.table; start = pairs; words = v.words }) x_start
+  same_tree = grind (arith, x_table, x_words, x_start)
 
   -- which has seen more
   pub seen_more : (r q : Option Full) → v.stamp ≤ x.stamp
       → HasSeenMore (pass_face who r) (face_as token new.number q)
-  seen_more r q up = record {
-    tree = same_tree;
-    number = number_is;
-    seen = v_to_x;
-    heard = v_to_x_heard;
-    stamp = up;
-  }
+  seen_more r q up = grind (arith, same_tree, number_is, v_to_x, v_to_x_heard)
 
   -- if the work started no rebuild, none was started in the call
   pub none_started : IsResolved w new.number → StartsNone (now b) (now w) began.number

@@ -4,7 +4,6 @@ use Rattle.std.specs.List.{sum_by}
 use Rattle.ist_core.specs.declared.calls.Call.{Call}
 use Rattle.ist_core.specs.declared.commands.Command.TheVariants.{Get}
 use Rattle.ist_core.specs.declared.ports.Full.{Full}
-use Rattle.ist_core.specs.declared.events.Who.{Who}
 use Rattle.ist_core.specs.declared.events.Who.TheVariants.{Caller as CallerOf}
 use Rattle.ist_core.specs.LogTerms.{Log, GoesOn, Lawful, state_of, Later}
 use Rattle.ist_core.specs.TreeTerms.{IsFresh}
@@ -14,7 +13,7 @@ use Rattle.laws_histories.specs.Calls.{HasCalls}
 use Rattle.laws_histories.specs.Searching.{HasPosition, Searched}
 use Rattle.laws_histories.proofs.ChangeLemmas.{end_on, position_on}
 use Rattle.laws_histories.proofs.WovenLemmas.{learnt_first}
-use Rattle.ist_rule.specs.RuleTerms.{TokenFace, IsSound, number_of, MomentsLater, moment_seen, TurnedAt, beginning, ending, CanEnd}
+use Rattle.ist_rule.specs.RuleTerms.{TokenFace, IsSound, moment_seen, TurnedAt, beginning, ending, CanEnd}
 use Rattle.ist_rule.specs.declared.view.View.{View}
 use Rattle.ist_rule.specs.declared.view.Loads.{Loads}
 use Rattle.laws_real_time.specs.declared.moments.Deed.TheVariants.{Begins, Returns}
@@ -69,9 +68,7 @@ module _ (who : Caller) (key : ℕ) (value : Option ℕ) (b w : View) (s : IsSou
   seen_moments = moment_seen v b.log (Begins (Some (Get key))) ∷ begun.before
 
   pub w_is : w ≡ searched_view v key b.log w.log w.loads w.loaded w.searches seen_moments
-  w_is =
-      seen.same ∙ ap (λ (y : View). record y { log = w.log; loads = w.loads; loaded = w.loaded; searches = w.searches })
-      begun.view
+  w_is = grind arith
 
   -- others made the events up to the beginning of the find
   pub before : Later (CallerOf who.number) v.log b.log
@@ -102,13 +99,10 @@ module _ (who : Caller) (key : ℕ) (value : Option ℕ) (b w : View) (s : IsSou
 
   -- it may end its call
   pub can_end : CanEnd w (found_call w value)
-  can_end = subst (λ y. CanEnd y (found_call y value)) (sym w_is)
-      (may_end v who.number key s p.caller.mine p.in_none b.log w.log before later lawful value
-      its_position w.loads w.loaded w.searches seen_moments)
+  can_end = grind (arith, found_call, w_is, may_end, before, later, lawful, its_position)
 
   fresh : IsFresh v.start v.words v.log v.stamp call
-  fresh = its_fresh v who.number key s p.caller.mine p.in_none b.log w.log before later lawful value
-      its_position v.log (later-goes_on before)
+  fresh = grind (arith, its_fresh, before, later, lawful, its_position, later-goes_on)
 
   -- and ended it
   module _ (token : TokenFace) (refused : Option Full) (all : IsPassWith who refused)
@@ -122,19 +116,11 @@ module _ (who : Caller) (key : ℕ) (value : Option ℕ) (b w : View) (s : IsSou
     x_is = ended.view ∙ ap₂ (λ (y : View) (c : Call). ending y c x.log ended.before) w_is call_is
 
     all_later : Later (CallerOf who.number) v.log x.log
-    all_later = later_more (later_more before later)
-        (subst (λ (a : Who). Later a w.log x.log)
-        (ap (λ (y : View). y.who) w_is ∙ p.caller.mine) ended.later)
+    all_later = grind (arith, later_more)
 
     -- the view after the find is a later one
     pub later_view : IsLaterView v x
-    later_view = record {
-      who_is = ap (λ (y : View). y.who) x_is;
-      start_is = ap (λ (y : View). y.start) x_is;
-      words_is = ap (λ (y : View). y.words) x_is;
-      later = subst (λ a. Later a v.log x.log) (sym p.caller.mine) all_later;
-      sound = ended.sound;
-    }
+    later_view = grind (arith, x_is, all_later)
 
     -- it is a pass still
     pub ended_pass : IsPassWith (record who { token = token }) refused
@@ -143,24 +129,7 @@ module _ (who : Caller) (key : ℕ) (value : Option ℕ) (b w : View) (s : IsSou
 
     -- its call was made in real time
     pub in_time : ReturnsInTime (pass_face who refused) (face_as token who.number refused) (Get key) value
-    in_time = record {
-      before = begun.before;
-      since = subst (λ a. MomentsLater a v.moments begun.before) p.caller.mine begun.since;
-      began = moment_seen v b.log (Begins (Some (Get key)));
-      began_by = ap number_of p.caller.mine;
-      begins = refl;
-      meanwhile = ended.before;
-      during = subst (λ (y : View). MomentsLater (CallerOf who.number) y.moments ended.before) w_is
-          (subst (λ a. MomentsLater a w.moments ended.before)
-          (ap (λ (y : View). y.who) w_is ∙ p.caller.mine) ended.since);
-      returned = moment_seen v x.log (Returns call);
-      returned_by = ap number_of p.caller.mine;
-      call = call;
-      returns = refl;
-      command_is = refl;
-      reply_is = refl;
-      now_is = ap (λ (y : View). y.moments) x_is;
-    }
+    in_time = grind (arith, x_is)
 
     -- which has seen more
     pub has_seen_more : HasSeenMore (pass_face who refused) (face_as token who.number refused)
@@ -177,14 +146,10 @@ module _ (who : Caller) (key : ℕ) (value : Option ℕ) (b w : View) (s : IsSou
     }
       where
         tree_same : (face_as token who.number refused).tree ≡ (pass_face who refused).tree
-        tree_same =
-            ap (λ (y : View). record { table = y.table; start = y.start; words = y.words }) x_is
+        tree_same = grind (arith, x_is)
 
     its_calls_now : HasCalls v.start v.words x.log who.number (v.stamp + 1) (v.calls ++ call ∷ [])
-    its_calls_now =
-        subst (λ (y : View). HasCalls y.start y.words x.log who.number y.stamp y.calls) x_is
-        (has_its_calls x who.number ended.sound (later_view.who_is ∙ p.caller.mine)
-        (ap (λ (y : View). y.pending) x_is))
+    its_calls_now = grind (arith, x_is, has_its_calls)
 
     -- and has one more call
     pub adds_call : AddsCall (pass_face who refused) (face_as token who.number refused) (Get key) value
@@ -205,14 +170,10 @@ module _ (who : Caller) (key : ℕ) (value : Option ℕ) (b w : View) (s : IsSou
 
     -- the reply is the map's at a position that is no lower than what the pass had seen
     pub has_position : HasPosition v.start v.words v.log x.log key value
-    has_position = position_on v.start v.words v.log b.log w.log x.log (later-goes_on before)
-        (later-goes_on (subst (λ (a : Who). Later a w.log x.log)
-        (ap (λ (y : View). y.who) w_is ∙ p.caller.mine) ended.later)) key value its_position
+    has_position = grind (arith, position_on, later-goes_on)
 
     longer : GoesOn w.log x.log
-    longer =
-        later-goes_on (subst (λ (a : Who). Later a w.log x.log)
-        (ap (λ (y : View). y.who) w_is ∙ p.caller.mine) ended.later)
+    longer = grind (arith, later-goes_on)
 
     -- and few loads were made
     pub has_loaded_few : (node index : ℕ) → HasFound w key node index value → HasFewLoads b w key node

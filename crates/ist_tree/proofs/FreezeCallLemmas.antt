@@ -1,12 +1,12 @@
 -- A freeze from the beginning of its call to its end, and the pass after it. Serves `begin` and
 -- `freeze`.
-use Rattle.std.proofs.Common.{◌≡◌, ℕ, List, length, Option, None, sym, ap, ap₂, ◌∙◌, subst, arith}
+use Rattle.std.proofs.Common.{◌≡◌, ℕ, List, length, Option, None, sym, ap, ◌∙◌, subst, arith}
 use Rattle.ist_core.specs.declared.pairs.Pair.{Pair}
 use Rattle.ist_core.specs.declared.ports.Full.{Full}
 use Rattle.ist_core.specs.TreeTerms.{AllResolvedOf}
 use Rattle.ist_core.specs.LogTerms.{Lawful, state_of, GoesOn, Log, Later}
 use Rattle.ist_core.specs.WordTerms.{start}
-use Rattle.ist_rule.specs.RuleTerms.{CanGiveUp, IsResolved, TokenFace, TurnedAt, beginning, giving_up, moment_seen, IsSound, HasMade, IsBetween, MomentsGoOn, number_of}
+use Rattle.ist_rule.specs.RuleTerms.{IsResolved, TokenFace, TurnedAt, beginning, giving_up, moment_seen, IsSound, IsBetween, MomentsGoOn, number_of}
 use Rattle.ist_rule.specs.declared.view.View.{View}
 use Rattle.ist_rule.proofs.LaterLemmas.{goes_on_more, later-goes_on}
 use Rattle.ist_rule.proofs.WentOnLemmas.{later_by-goes_on}
@@ -15,7 +15,6 @@ use Rattle.ist_rows.specs.declared.callers.Caller.{Caller}
 use Rattle.laws_calls.specs.Settling.{DueRowsAreClosed}
 use Rattle.ist_tree.specs.CallTerms.{HasSeenMore, HasSettled, IsPass, IsPassWith, face_as, pass_face, KeepsDone, Rebuilds, StepsIn}
 use Rattle.ist_tree.proofs.GoingLemmas.{between_after, IsLaterView, caller_on, lawful_after, settled_later, keeps_all}
-use Rattle.ist_tree.proofs.UpdateKeptLemmas.{rebuilt_no_entry}
 use Rattle.ist_tree.proofs.EventLemmas.{rebuilds_count_none}
 use Rattle.laws_real_time.specs.declared.moments.Deed.TheVariants.{Begins}
 use Rattle.laws_real_time.specs.Moments.{Moments}
@@ -32,19 +31,11 @@ beginning_as v n = beginning (record v { searches = n }) None
 module _ (who : Caller) (token : TokenFace) (s : IsSound who.token.view) (p : IsPass who)
     (n : ℕ) (begun : TurnedAt who.token.view (beginning_as who.token.view n) token.view) where
   begun_view : IsLaterView who.token.view token.view
-  begun_view = record {
-    who_is = ap (λ (y : View). y.who) begun.view;
-    start_is = ap (λ (y : View). y.start) begun.view;
-    words_is = ap (λ (y : View). y.words) begun.view;
-    later = begun.later;
-    sound = begun.sound;
-  }
+  begun_view = grind arith
 
   begun_between : IsBetween who.token.view.start who.token.view.words token.view.log who.number
       who.token.view.calls
-  begun_between = between_after who.token.view who.number s p.caller.mine p.in_none token.view.log
-      (lawful_after who.token.view token.view begun_view)
-      (subst (λ x. Later x who.token.view.log token.view.log) p.caller.mine begun.later)
+  begun_between = grind (arith, between_after, lawful_after, begun_view)
 
   -- the caller has all its changes resolved
   pub begun_ready : IsReady (record who { token = token })
@@ -60,12 +51,6 @@ module _ (who : Caller) (token : TokenFace) (s : IsSound who.token.view) (p : Is
     };
   }
 
-  -- and its entries are its calls' entries
-  pub begun_made : HasMade token.view.start token.view.words token.view.log who.number token.view.calls
-  begun_made =
-      subst (λ (y : View). HasMade y.start y.words token.view.log who.number y.calls) (sym begun.view)
-      begun_between.made
-
 -- ---- the way of a freeze
 
 -- the pass began a call, worked in it by steps of rebuilding, and gave it up. It is told as if all the
@@ -79,27 +64,6 @@ pub record IsFreezeCall (who began new : Caller) (token : TokenFace) : Type 0 wh
   pub ready : IsReady began
   pub on : StaysReady Rebuilds began new
   pub given : TurnedAt new.token.view (giving_up new.token.view) token.view
-
--- its call may be given up: nothing of it is an entry
-pub may_give_up : (who began new : Caller) → IsSound who.token.view → IsPass who
-    → began.number ≡ who.number → (n : ℕ)
-    → TurnedAt who.token.view (beginning_as who.token.view n) began.token.view → IsReady began
-    → StaysReady Rebuilds began new → CanGiveUp new.token.view
-may_give_up who began new s p number n begun ready on = let b = began.token.view in
-    let w = new.token.view in let mine_b = ready.caller.mine in
-    let none = rebuilt_no_entry b w began.number mine_b ready.quiet.resolved on.gone.went in
-    let made = subst (λ n. HasMade b.start b.words b.log n b.calls) (sym number)
-    (begun_made who began.token s p n begun) in
-    record {
-      number = new.number;
-      mine = on.gone.caller.mine;
-      pending = on.quiet.pending;
-      in_call = on.quiet.in_call;
-      resolved = on.quiet.resolved;
-      none = subst (λ n. HasMade w.start w.words w.log n w.calls) (sym on.gone.number)
-          (subst (λ (y : View). HasMade y.start y.words w.log began.number y.calls)
-          (sym on.gone.went.same) (none ∙ made));
-    }
 
 module _ (who began new : Caller) (token : TokenFace) (it : IsFreezeCall who began new token) where
   -- the view before the call
@@ -124,13 +88,7 @@ module _ (who began new : Caller) (token : TokenFace) (it : IsFreezeCall who beg
 
   -- the last view is later than the view after the work
   pub x_view : IsLaterView w x
-  x_view = record {
-    who_is = ap (λ (y : View). y.who) it.given.view;
-    start_is = ap (λ (y : View). y.start) it.given.view;
-    words_is = ap (λ (y : View). y.words) it.given.view;
-    later = it.given.later;
-    sound = it.given.sound;
-  }
+  x_view = grind arith
 
   -- the start pairs are the same after the work
   pub w_start : w.start ≡ v.start
@@ -150,9 +108,7 @@ module _ (who began new : Caller) (token : TokenFace) (it : IsFreezeCall who beg
 
   -- it is the view of one table
   x_table : x.table ≡ v.table
-  x_table =
-      ap (λ (y : View). y.table) it.given.view ∙ ap (λ (y : View). y.table) it.on.gone.went.same
-      ∙ ap (λ (y : View). y.table) it.begun.view
+  x_table = grind arith
 
   -- the log goes on while the call begins
   pub v_to_b : GoesOn v.log b.log
@@ -249,8 +205,7 @@ module _ (who began new : Caller) (token : TokenFace) (it : IsFreezeCall who beg
       }
     where
       trees : (face_as token new.number q).tree ≡ (pass_face who r).tree
-      trees = ap₂ (λ t pairs. record { table = t; start = pairs; words = x.words }) x_table x_start
-          ∙ ap (λ words. record { table = v.table; start = v.start; words = words }) x_words
+      trees = grind (arith, x_table, x_start, x_words)
 
   -- since the step at which its call began
   pub begin_step : (r q : Option Full) → StepsIn (pass_face who r) (face_as token new.number q) b.log
@@ -270,6 +225,4 @@ module _ (who began new : Caller) (token : TokenFace) (it : IsFreezeCall who beg
 
   -- with the same calls
   pub calls_are : x.calls ≡ v.calls
-  calls_are =
-      ap (λ (y : View). y.calls) it.given.view ∙ ap (λ (y : View). y.calls) it.on.gone.went.same
-      ∙ ap (λ (y : View). y.calls) it.begun.view
+  calls_are = grind arith

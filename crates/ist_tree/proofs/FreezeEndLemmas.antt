@@ -2,7 +2,7 @@
 use Rattle.std.proofs.Common.{◌≡◌, ℕ, ◌+◌, ◌≤◌, ◌⊎◌, length, Option, Some, None, IfSome, sym, ap, subst, inl, inr, arith}
 use Rattle.std.specs.Option.{option_or}
 use Rattle.ist_core.specs.declared.ports.Full.{Full}
-use Rattle.ist_core.specs.LogTerms.{Later, state_of, Log, same_log, Snapshot}
+use Rattle.ist_core.specs.LogTerms.{state_of, Log, same_log, Snapshot}
 use Rattle.ist_core.specs.TreeTerms.{changes_of, AllGrow, IsChild, HasTarget, IsFinishedWith, IsStarted}
 use Rattle.ist_core.specs.WordTerms.{anchor, change_words, rebuild_words}
 use Rattle.ist_core.proofs.AllLogLemmas.{grow_between}
@@ -64,10 +64,7 @@ module _ (who began new : Caller) (token : TokenFace) (it : IsFreezeCall who beg
   -- the tree is frozen by the table that the pass has then
   pub frozen_for : (q : Option Full) (frozen : Frozen) → IsFrozenIn v.start v.words x.log frozen
       → IsFrozenFor (face_as token new.number q) frozen
-  frozen_for q frozen f =
-      subst (λ pairs. IsFrozenIn pairs x.words x.log frozen) (sym (way.x_start who began new token it))
-      (subst (λ words. IsFrozenIn v.start words x.log frozen)
-      (sym (way.x_words who began new token it)) f)
+  frozen_for q frozen f = grind arith
 
   -- ---- refusals
 
@@ -85,16 +82,7 @@ module _ (who began new : Caller) (token : TokenFace) (it : IsFreezeCall who beg
   -- the call took at most the rows of a start
   took_needed : (asked : ℕ) → TakesNeeded began new → asked ≤ needed new
       → taken_by who.number x.log + asked ≤ taken_by who.number v.log + (rebuild_words + change_words)
-  took_needed asked few needs =
-      let first = taken_later who.number
-      (subst (λ y. Later y v.log b.log) it.pass.caller.mine it.begun.later) in
-      let work : taken_by who.number w.log + needed new ≤ taken_by who.number b.log + needed began
-      = subst (λ n. taken_by n w.log + needed new ≤ taken_by n b.log + needed began) it.began_number few in
-      let last : taken_by who.number x.log ≡ taken_by who.number w.log
-      = subst (λ n. taken_by n x.log ≡ taken_by n w.log) (way.number_is who began new token it)
-      (taken_later new.number
-      (subst (λ y. Later y w.log x.log) it.on.gone.caller.mine it.given.later)) in
-      let most = needed_most began in omega arith
+  took_needed asked few needs = grind (arith, taken_later, needed_most)
 
   -- a start that was refused in the work was refused in the call
   pub freeze_refused : (r q : Option Full) (words : ℕ) (full : Full) → words ≡ v.words

@@ -1,11 +1,11 @@
 -- A caller that looks below the anchor, and what it has met there over further steps. Serves the
 -- functions that freeze a tree.
-use Rattle.std.proofs.Common.{◌≡◌, ℕ, List, Option, Some, None, Result, Ok, Err, IfOk, IfErr, refl, sym, ap, ◌∙◌, subst, inr}
+use Rattle.std.proofs.Common.{◌≡◌, ℕ, List, Option, Some, None, Result, Ok, Err, IfOk, IfErr, refl, sym, subst, inr, arith}
 use Rattle.ist_core.specs.declared.events.Event.{Event}
 use Rattle.ist_core.specs.declared.pairs.Pair.{Pair}
 use Rattle.ist_core.specs.declared.ports.Full.{Full}
-use Rattle.ist_core.specs.LogTerms.{LaterBy, Lawful, state_of, Log, same_log, Snapshot}
-use Rattle.ist_core.specs.TreeTerms.{IsChild, AllGrow}
+use Rattle.ist_core.specs.LogTerms.{LaterBy, Lawful, Log, same_log, Snapshot}
+use Rattle.ist_core.specs.TreeTerms.{AllGrow}
 use Rattle.ist_core.specs.WordTerms.{anchor}
 use Rattle.ist_core.proofs.AllLogLemmas.{rebuild_there}
 use Rattle.laws_links.proofs.FinishedLemmas.{target_grows}
@@ -39,21 +39,14 @@ use Rattle.ist_rows.proofs.GoneLemmas.{ready_more, ready_same}
 -- what is true by the table of a view that went on is true by the first view's table
 pub by_table : (P : Event → Type 0) (v w : View) → WentOn P v w → (Q : List Pair → ℕ → Type 0)
     → Q w.start w.words → Q v.start v.words
-by_table P v w g Q h = subst (λ pairs. Q pairs v.words) (ap (λ (x : View). x.start) g.same)
-    (subst (λ words. Q w.start words) (ap (λ (x : View). x.words) g.same) h)
+by_table P v w g Q h = grind arith
 
 -- ---- what was met
 
 -- a row that was the anchor's child since the second view was its child since the first
 pub top_more : (P : Event → Type 0) (u v : View) (log : Log) → WentOn P u v → (target : ℕ)
     → WasTop v log target → WasTop u log target
-top_more P u v log g target t = record {
-  at = t.at;
-  since = goes_on_more (later_by-goes_on g.later) t.since;
-  until = t.until;
-  child = by_table P u v g (λ pairs words. IsChild (state_of pairs words t.at) anchor 0 target)
-      t.child;
-}
+top_more P u v log g target t = grind (arith, goes_on_more, later_by-goes_on, by_table)
 
 -- what was frozen since the second view was frozen since the first
 pub frozen_more : (P : Event → Type 0) (u v : View) (log : Log) → WentOn P u v → (frozen : Frozen)
@@ -80,12 +73,7 @@ all_but a c rebuild done = λ first was base change e own kind said other to.
 
 -- a caller goes on without a start to itself
 pub idle_same : (who : Caller) → IsSound who.token.view → IsReady who → GoesIdle who who
-idle_same who s r = record {
-  on = ready_same Rebuilds who s r;
-  done = λ first done. done;
-  none = λ base change e own kind said. e;
-  few = takes_none who who refl refl;
-}
+idle_same who s r = grind (arith, ready_same, takes_none)
 
 -- two such parts, one after the other, are one
 pub idle_more : (a b c : Caller) → GoesIdle a b → GoesIdle b c → GoesIdle a c
@@ -122,8 +110,7 @@ begins_idle old new on done none own = record { on = on; done = done; none = non
 pub other_unstarted : (v w : View) (number : ℕ) (answer : Started) (word : ℕ)
     → answer ≡ Other word → LeavesUnstarted (now v) (now w) number (Ok answer)
     → StartsNone (now v) (now w) number
-other_unstarted v w number answer word is left =
-    subst (λ a. LeavesUnstarted (now v) (now w) number (Ok a)) is left
+other_unstarted v w number answer word is left = grind arith
 
 -- and it only made reservings
 pub other_reserved : (old new : Caller) (answer : Started) (word : ℕ) → answer ≡ Other word
@@ -146,13 +133,8 @@ met_more a b c site on done few m = record {
     lawful = went_lawful Rebuilds b.token.view c.token.view m.on.gone.went
 
     here : (s : Site) → IsSite b.token.view c.token.view s → IsSite a.token.view c.token.view s
-    here (Still frozen) w = (
-      frozen_more Rebuilds a.token.view b.token.view c.token.view.log on.gone.went frozen
-          lawful w.0,
-      w.1,
-    )
-    here (Rebuilt rebuild target) w =
-        (w.0, top_more Rebuilds a.token.view b.token.view c.token.view.log on.gone.went target w.1)
+    here (Still frozen) w = grind (arith, frozen_more, lawful)
+    here (Rebuilt rebuild target) w = grind (arith, top_more)
 
 -- what may be met after idle steps may be met from the beginning
 pub may_have_met_more : (a b c : Caller) (o : Option Site) → GoesIdle a b → MayHaveMet b c o
@@ -195,9 +177,7 @@ start_stopped old new words full g held r lacks = record {
 -- a rebuild below the anchor stays there
 pub below_grows : (t u : Snapshot) → AllGrow t.pieces u.pieces → (rebuild : ℕ)
     → IsBelowAnchor t rebuild → IsBelowAnchor u rebuild
-below_grows t u grow rebuild b =
-    let it = rebuild_there t.pieces u.pieces grow rebuild b.row b.published in
-    record { row = it.0; published = it.1; parent_is = it.2.parent ∙ b.parent_is }
+below_grows t u grow rebuild b = grind (arith, rebuild_there)
 
 -- a rebuild of this target stays one
 pub rebuild_on : (P : Event → Type 0) (v w : View) → WentOn P v w → (rebuild target : ℕ)
@@ -211,11 +191,7 @@ rebuild_on P v w g rebuild target r = let grow = went_grow P v w g in record {
 -- the one that was started
 pub begun_of : {t : Snapshot} {rebuild index target : ℕ}
     → IsStartedAt t rebuild anchor index target → IsRebuildOf t rebuild target
-begun_of s = record {
-  started = s.started;
-  target_is = record { row = s.row; published = s.published; target_is = s.target_is };
-  below = record { row = s.row; published = s.published; parent_is = s.parent_is };
-}
+begun_of s = grind arith
 
 -- ---- results
 

@@ -5,7 +5,7 @@ use Rattle.ist_rows.specs.declared.callers.Caller.{Caller}
 use Rattle.ist_core.specs.declared.states.RebuildRow.{RebuildRow}
 use Rattle.ist_core.specs.TreeTerms.{Linked, at_anchor, HasTarget, IsStarted}
 use Rattle.ist_core.specs.LogTerms.{same_log}
-use Rattle.ist_core.specs.WordTerms.{ChangeAt, Empty, InnerAt, LeafAt, RebuildAt, Ref, ref_of, anchor, SlotHolds, in_anchor, in_row, logical, past_change, past_rebuild, rebuild_reads, start}
+use Rattle.ist_core.specs.WordTerms.{ChangeAt, Empty, InnerAt, LeafAt, RebuildAt, Ref, ref_of, anchor, SlotHolds, logical, past_change, start}
 use Rattle.ist_core.proofs.AllLogLemmas.{rebuild_there, ever_now}
 use Rattle.ist_core.proofs.AllPlaceLemmas.{SlotNames, slot_names, names, anchor_free, no_row}
 use Rattle.ist_core.proofs.AllWordLemmas.{word_of-ref_of, same_rebuild}
@@ -27,13 +27,7 @@ use Rattle.ist_tree.proofs.FurtherLemmas.{load_plain, plain_done, plain_on}
 module _ (v : View) (s : IsSound v) (word : ℕ) (holds : SlotHolds (now v) anchor 0 word) where
   -- the word is in the anchor's slot
   anchor_is : (now v).anchor ≡ word
-  anchor_is = at holds
-    where
-      at : SlotHolds (now v) anchor 0 word → (now v).anchor ≡ word
-      at (in_anchor a b e) = e
-      at (in_row r p g) =
-          absurd (no_row (now v).pieces anchor r
-          (anchor_free v.start v.words v.log s.lawful.enabled) refl p)
+  anchor_is = grind (arith, no_row, anchor_free)
 
   -- a row that it reads as is the anchor's child
   child_top : (target : ℕ) → logical (now v).pieces word ≡ Some (InnerAt target)
@@ -49,8 +43,7 @@ module _ (v : View) (s : IsSound v) (word : ℕ) (holds : SlotHolds (now v) anch
 
   -- an inner row that the word names was the anchor's child
   pub row_top : (target : ℕ) → ref_of word ≡ Some (InnerAt target) → WasTop v v.log target
-  row_top target is =
-      child_top target (ap (λ o. past_rebuild (now v).pieces (past_change (now v).pieces o)) is)
+  row_top target is = grind (arith, child_top)
 
   -- a rebuild of an inner row that the word names may be started
   pub row_may_start : (target : ℕ) → ref_of word ≡ Some (InnerAt target) → MayStart v anchor 0 target
@@ -102,9 +95,7 @@ module _ (v : View) (s : IsSound v) (word : ℕ) (holds : SlotHolds (now v) anch
   -- the target of a rebuild that the word names was the anchor's child
   pub rebuild_top : (rebuild : ℕ) → ref_of word ≡ Some (RebuildAt rebuild) → (target : ℕ)
       → HasTarget (now v) rebuild target → WasTop v v.log target
-  rebuild_top rebuild is target h = child_top target
-      (ap (λ o. past_rebuild (now v).pieces (past_change (now v).pieces o)) is
-      ∙ ap rebuild_reads h.published ∙ ap (λ n. Some (InnerAt n)) h.target_is)
+  rebuild_top rebuild is target h = grind (arith, child_top)
 
   -- ---- a change
 
@@ -120,19 +111,15 @@ module _ (v : View) (s : IsSound v) (word : ℕ) (holds : SlotHolds (now v) anch
 
   still_reads : (ref : Ref) (keys : ℕ) → IsStill (now v) ref keys → ref_of word ≡ Some ref
       → logical (now v).pieces (now v).anchor ≡ Some ref
-  still_reads _ _ no_key is = ap (logical (now v).pieces) anchor_is
-      ∙ ap (λ o. past_rebuild (now v).pieces (past_change (now v).pieces o)) is
-  still_reads _ _ (one_key base row e) is = ap (logical (now v).pieces) anchor_is
-      ∙ ap (λ o. past_rebuild (now v).pieces (past_change (now v).pieces o)) is
-  still_reads _ _ (all_keys base keys f) is = ap (logical (now v).pieces) anchor_is
-      ∙ ap (λ o. past_rebuild (now v).pieces (past_change (now v).pieces o)) is
+  still_reads _ _ no_key is = grind (arith, anchor_is)
+  still_reads _ _ (one_key base row e) is = grind (arith, anchor_is)
+  still_reads _ _ (all_keys base keys f) is = grind (arith, anchor_is)
 
   -- a tree that the word names is frozen now if no step changes it
   pub still_top : (frozen : Frozen) → ref_of word ≡ Some (ref_meant frozen.root)
       → IsStill (now v) (ref_meant frozen.root) frozen.keys
       → WasFrozen v.start v.words v.log v.log frozen
-  still_top frozen is still = top_was_frozen v.start v.words v.log s.lawful frozen
-      (still_reads (ref_meant frozen.root) frozen.keys still is) still
+  still_top frozen is still = grind (arith, top_was_frozen, still_reads)
 
   -- a leaf that the word names is a frozen tree with one key
   pub leaf_still : (base : ℕ) → ref_of word ≡ Some (LeafAt base) → IsStill (now v) (LeafAt base) 1
@@ -181,20 +168,7 @@ empty_no_row row e = cc
 pub begun_met : (old new : Caller) (target rebuild : ℕ)
     → WasTop old.token.view old.token.view.log target → HasStarted old new target (Some rebuild)
     → HasMet old new (Rebuilt rebuild target)
-begun_met old new target rebuild top b = record {
-  on = b.0;
-  is = (
-    b.1,
-    record {
-      at = top.at;
-      since = top.since;
-      until = goes_on_more top.until (later_by-goes_on b.0.gone.went.later);
-      child = top.child;
-    },
-  );
-  done = b.2;
-  few = b.3;
-}
+begun_met old new target rebuild top b = grind (arith, goes_on_more, later_by-goes_on)
 
 -- one that stood there
 pub stood_met : (who : Caller) (token : TokenFace) (rebuild target : ℕ) → IsSound who.token.view

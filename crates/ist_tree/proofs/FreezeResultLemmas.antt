@@ -1,5 +1,5 @@
 -- What a freeze returns, put together: if it returns a tree, and if it is refused. Serves `freeze`.
-use Rattle.std.proofs.Common.{◌≡◌, ℕ, ◌⊎◌, Option, Some, None, IfSome, refl, sym, ap, subst, inl, inr}
+use Rattle.std.proofs.Common.{◌≡◌, ℕ, ◌⊎◌, Option, Some, None, IfSome, refl, sym, ap, subst, inl, inr, arith}
 use Rattle.std.specs.Option.{option_or}
 use Rattle.ist_core.specs.declared.ports.Full.{Full}
 use Rattle.ist_core.specs.TreeTerms.{HasTarget, IsReplaced, IsStarted}
@@ -176,8 +176,7 @@ pub record BeginsFreeze (who began : Caller) (r : Option Full) : Type 0 where
 pub begins_freeze : {who began : Caller} {r : Option Full} → IsSound who.token.view
     → IsPassWith who r → TurnedAt who.token.view (beginning who.token.view None) began.token.view
     → began.number ≡ who.number → IsReady began → BeginsFreeze who began r
-begins_freeze s pass begun number ready =
-    record { sound = s; pass = pass; begun = begun; number = number; ready = ready }
+begins_freeze s pass begun number ready = grind arith
 
 module _ {who began : Caller} {r : Option Full} (b : BeginsFreeze who began r) (new : Caller) where
   -- the caller that began, as if it had begun all the searches then
@@ -186,25 +185,13 @@ module _ {who began : Caller} {r : Option Full} (b : BeginsFreeze who began r) (
 
   -- the call may be given up
   pub freeze_may_stop : StaysReady Rebuilds was new → CanGiveUp new.token.view
-  freeze_may_stop on =
-      way.may_give_up who was new b.sound b.pass.pass b.number new.token.view.searches
-      (turned_counted who.token.view began.token.view new.token.view.searches b.begun)
-      (ready_counted began new.token.view.searches b.ready) on
+  freeze_may_stop on = grind (arith, turned_counted, ready_counted)
 
   module _ (token : TokenFace)
       (given : TurnedAt new.token.view (giving_up new.token.view) token.view)
       (few : HasWalkedFew began.token.view new.token.view) where
     its_way : StaysReady Rebuilds was new → IsFreezeCall who was new token
-    its_way on = record {
-      sound = b.sound;
-      pass = b.pass.pass;
-      began_number = b.number;
-      n = new.token.view.searches;
-      begun = turned_counted who.token.view began.token.view new.token.view.searches b.begun;
-      ready = ready_counted began new.token.view.searches b.ready;
-      on = on;
-      given = given;
-    }
+    its_way on = grind (arith, turned_counted, ready_counted)
 
     few_walks : (q : Option Full) (old : PassFace) → pass_face who r ≡ old
         → BeginsFewWalks old (face_as token new.number q)

@@ -36,9 +36,7 @@ still_stays t u g _ _ (all_keys base keys f) =
 pub frozen_stays : (pairs : List Pair) (words : ℕ) (earlier log : Log) → Lawful pairs words log
     → GoesOn earlier log → (frozen : Frozen) → IsFrozenIn pairs words earlier frozen
     → IsFrozenIn pairs words log frozen
-frozen_stays pairs words earlier log l on frozen f =
-    still_stays (state_of pairs words earlier) (state_of pairs words log)
-    (grow_between pairs words earlier log l.enabled on) (ref_meant frozen.root) frozen.keys f
+frozen_stays pairs words earlier log l on frozen f = grind (arith, still_stays, grow_between)
 
 -- with its leaves
 still_leaves_stay : (pairs : List Pair) (words : ℕ) (earlier log : Log) → Lawful pairs words log
@@ -62,12 +60,8 @@ pub frozen_pairs_stay : (pairs : List Pair) (words : ℕ) (earlier log : Log)
     → Lawful pairs words log → GoesOn earlier log → (frozen : Frozen) (found : List Pair)
     → IsFrozenIn pairs words earlier frozen → HasFrozenPairs pairs words earlier frozen found
     → HasFrozenPairs pairs words log frozen found
-frozen_pairs_stay pairs words earlier log l on frozen found f h = record {
-  leaves = h.leaves;
-  reached = still_leaves_stay pairs words earlier log l on (ref_meant frozen.root) frozen.keys f
-      h.leaves h.reached;
-  pairs_are = h.pairs_are;
-}
+frozen_pairs_stay pairs words earlier log l on frozen found f h =
+    grind (arith, reached, still_leaves_stay)
 
 -- ---- its pairs
 
@@ -111,8 +105,7 @@ still_leaves pairs words log l _ _ (all_keys base keys f) =
 pub pairs_rise : (leaves : List PlacedLeaf)
     → IsStrictlyIncreasing (map (λ leaf. leaf.row.key) leaves)
     → IsStrictlyIncreasing (map (λ (pair : Pair). pair.key) (map pair_of leaves))
-pairs_rise leaves rise = subst (λ keys. IsStrictlyIncreasing keys)
-    (sym (map_twice pair_of (λ (pair : Pair). pair.key) leaves)) rise
+pairs_rise leaves rise = grind (arith, map_twice)
 
 -- a frozen tree has pairs
 pub has_its_pairs : (pairs : List Pair) (words : ℕ) (log : Log) → Lawful pairs words log
@@ -129,10 +122,7 @@ has_its_pairs pairs words log l frozen f =
 pub frozen_pairs_are_one : (pairs : List Pair) (words : ℕ) (log : Log) (frozen : Frozen)
     (found others : List Pair) → HasFrozenPairs pairs words log frozen found
     → HasFrozenPairs pairs words log frozen others → found ≡ others
-frozen_pairs_are_one pairs words log frozen found others a b = a.pairs_are ∙ ap (map pair_of)
-    (same_leaves (state_of pairs words log).pieces (Some (ref_meant frozen.root)) a.leaves b.leaves
-    a.reached b.reached)
-    ∙ sym b.pairs_are
+frozen_pairs_are_one pairs words log frozen found others a b = grind (arith, same_leaves)
 
 -- ---- what was frozen
 
@@ -141,20 +131,7 @@ pub was_frozen_on : (pairs : List Pair) (words : ℕ) (first earlier log longer 
     → Lawful pairs words longer → GoesOn first earlier → GoesOn log longer → (frozen : Frozen)
     → WasFrozen pairs words earlier log frozen → WasFrozen pairs words first longer frozen
 was_frozen_on pairs words first earlier log longer l before following frozen w =
-    let low = changes_rise pairs words first earlier before in
-    let high = changes_rise pairs words log longer following in let from = w.were.from in
-    let to = w.were.to in record {
-      frozen_is = frozen_stays pairs words log longer l following frozen w.frozen_is;
-      found = w.found;
-      has = frozen_pairs_stay pairs words log longer l following frozen w.found w.frozen_is w.has;
-      were = record {
-        position = w.were.position;
-        from = omega arith;
-        to = omega arith;
-        pairs_are = w.were.pairs_are
-            ∙ ap pairs_of (sym (map_at_on pairs words log longer w.were.position following w.were.to));
-      };
-    }
+    grind (arith, changes_rise, frozen_stays, frozen_pairs_stay, map_at_on)
 
 -- what the anchor's slot reads as, and no step changes, has the pairs of the map
 pub top_was_frozen : (pairs : List Pair) (words : ℕ) (log : Log) → Lawful pairs words log

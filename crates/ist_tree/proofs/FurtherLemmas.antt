@@ -1,13 +1,13 @@
 -- Each further look below the anchor has seen the table come further. Serves `look_below`.
-use Rattle.std.proofs.Common.{◌≡◌, ◌≢◌, ℕ, ◌≤◌, Some, None, ap, sym, ◌∙◌, subst, ⊎_elim, ◌⊎◌, inl, inr, refl, Bool, true, false, not, IsTrue, ◌↔◌}
+use Rattle.std.proofs.Common.{◌≡◌, ◌≢◌, ℕ, ◌≤◌, Some, None, ap, sym, ◌∙◌, subst, ⊎_elim, ◌⊎◌, inl, inr, refl, Bool, true, false, not, IsTrue, ◌↔◌, arith}
 use Rattle.std.proofs.lemmas.Bool.Decides.{leb_tells}
 use Rattle.ist_core.specs.declared.events.Event.{Event}
 use Rattle.ist_core.specs.declared.states.InnerRow.{InnerRow}
 use Rattle.ist_core.specs.declared.events.Who.TheVariants.{Caller as CallerOf}
 use Rattle.ist_core.specs.declared.states.RebuildRow.{RebuildRow}
 use Rattle.ist_core.specs.TreeTerms.{at_anchor, InnerGrows, Linked, WasLinked, IsDue, IsStarted, IsReplaced}
-use Rattle.ist_core.specs.WordTerms.{InnerAt, Unset, ref_of, anchor, SlotHolds, past_change, past_rebuild, limit, word_of, start, Rebuild, ChangeAt, RebuildAt, IsOpen}
-use Rattle.ist_core.specs.LogTerms.{Snapshot, state_of, whose, LaterBy}
+use Rattle.ist_core.specs.WordTerms.{InnerAt, Unset, ref_of, anchor, SlotHolds, past_change, past_rebuild, word_of, start, Rebuild, ChangeAt, RebuildAt, IsOpen}
+use Rattle.ist_core.specs.LogTerms.{Snapshot, state_of, LaterBy}
 use Rattle.ist_core.proofs.AllPlaceLemmas.{SlotNames, slot_names, names, anchor_free, slot_once, root_set}
 use Rattle.ist_core.proofs.AllWordLemmas.{word_of-ref_of, same_rebuild}
 use Rattle.laws_links.proofs.ContentLemmas.{linked_set}
@@ -96,10 +96,7 @@ module _ (P : Event → Type 0) (number : ℕ) (v w : View) (mine : v.who ≡ Ca
   pub due_went : ((event : Event) → P event → CountsNothing number event)
       → DueRowsAreClosed (start v.start v.words) v.log number
       → DueRowsAreClosed (start v.start v.words) w.log number
-  due_went none closed = let lawful = went_lawful P v w went in
-      due_stay v.start v.words lawful.opens (λ event. (whose event ≢ CallerOf number) ⊎ P event)
-      v.log w.log number (λ event. ⊎_elim (others_count_nothing number event) (none event))
-      by_caller lawful.enabled closed
+  due_went none closed = grind (arith, went_lawful, due_stay, others_count_nothing, by_caller)
 
 -- ---- what may be started, over steps
 
@@ -126,8 +123,7 @@ may_start_went P v w went parent index target m = let on = later_by-goes_on went
     }
   where
     still : (old new : InnerRow) → InnerGrows old new → IsDue old → IsDue new
-    still old new g d = let size = g.size in let count = g.count in
-        subst (λ s. limit s ≤ new.count) (sym size) (le_trans d count)
+    still old new g d = grind (arith, le_trans)
 
 -- ---- steps that leave rows and install nothing
 

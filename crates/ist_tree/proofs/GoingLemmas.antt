@@ -1,5 +1,5 @@
 -- A pass goes on while others make events. Serves `find` and `meet`.
-use Rattle.std.proofs.Common.{ℕ, List, [], arith, refl, ◌≡◌, ◌≢◌, Some, ◌==◌, not, Option, None, map, filter, sym, ap, ap₂, ◌∙◌, subst, ◌⊎◌, inl, inr, ⊎_elim}
+use Rattle.std.proofs.Common.{ℕ, List, [], arith, ◌≡◌, ◌≢◌, Some, ◌==◌, not, Option, None, map, filter, sym, ap₂, ◌∙◌, subst, ◌⊎◌, inl, inr, ⊎_elim}
 use Rattle.ist_core.specs.declared.pairs.Pair.{Pair}
 use Rattle.ist_core.specs.declared.states.ChangeRow.{ChangeRow}
 use Rattle.ist_core.specs.declared.events.Who.TheVariants.{Caller as CallerOf}
@@ -12,10 +12,10 @@ use Rattle.laws_links.proofs.StartingLemmas.{owner_known}
 use Rattle.ist_rule.proofs.CallLemmas.{resolved_later, between_later}
 use Rattle.ist_rule.proofs.LaterLemmas.{later_idle, later-goes_on}
 use Rattle.ist_rule.proofs.SplitLemmas.{empty_prefix}
-use Rattle.laws_calls.specs.Settling.{MadeDue, due_now, due_before, InstallsNoStart, IsDoneStart, StartsAreDone}
+use Rattle.laws_calls.specs.Settling.{MadeDue, InstallsNoStart, IsDoneStart, StartsAreDone}
 use Rattle.laws_calls.proofs.ClosedLemmas.{due_stay, others_count_nothing, others_start_nothing, starts_stay, done_stays, own_start_stays}
 use Rattle.ist_tree.specs.CallTerms.{HasSettled, TreeFace, PassFace, pass_face, IsPass, IsPassWith, KeepsDone}
-use Rattle.ist_rule.specs.RuleTerms.{TokenFace, IsSound, now, GoesOnTo, IsResolved, WentOn, KeepsCalls, its_own, IsBetween, CallStands}
+use Rattle.ist_rule.specs.RuleTerms.{TokenFace, IsSound, now, GoesOnTo, IsResolved, WentOn, KeepsCalls, its_own, IsBetween}
 use Rattle.ist_rule.specs.declared.view.View.{View}
 use Rattle.ist_rows.specs.RowTerms.{spares_of, is_spare, IsCaller, AreStuck, HasRefused}
 use Rattle.ist_rows.specs.declared.callers.Caller.{Caller}
@@ -56,11 +56,7 @@ module _ (pairs : List Pair) (words : ℕ) where
       none base change e = let low = owner_known pairs words [] tt base change e in omega arith
 
       no_count : (node : ℕ) → MadeDue (start pairs words) number node [] → ⊥
-      no_count node made = at made refl
-        where
-          at : {log : Log} → MadeDue (start pairs words) number node log → log ≡ [] → ⊥
-          at (due_now r e d) is = cc
-          at (due_before event m) is = cc
+      no_count node made = grind arith
 
   -- so a caller that made no event has settled all
   pub idle_settled : (log : Log) → Lawful pairs words log → (number : ℕ)
@@ -79,18 +75,11 @@ pub record IsLaterView (v w : View) : Type 0 where
 
 -- it is one after loads
 pub goes_later : (v w : View) → GoesOnTo v w → IsLaterView v w
-goes_later v w g = record {
-  who_is = ap (λ (y : View). y.who) g.same;
-  start_is = ap (λ (y : View). y.start) g.same;
-  words_is = ap (λ (y : View). y.words) g.same;
-  later = g.later;
-  sound = g.sound;
-}
+goes_later v w g = grind arith
 
 -- its log is lawful by the table of the first
 pub lawful_after : (v w : View) → IsLaterView v w → Lawful v.start v.words w.log
-lawful_after v w l = subst (λ p. Lawful p v.words w.log) l.start_is
-    (subst (λ n. Lawful w.start n w.log) l.words_is l.sound.lawful)
+lawful_after v w l = grind arith
 
 -- a caller, with the fact that its builds were refused
 pub record IsCallerWith (who : Caller) : Type 0 where
@@ -153,22 +142,19 @@ pass_with_later who token refused p l none = let v = who.token.view in let w = t
 -- a pass steps on the table of its tree
 pub table_is : (who : Caller) (refused : Option Full) (p : PassFace) (t u : TreeFace)
     → pass_face who refused ≡ p → p.tree ≡ t → u ≡ t → who.token.view.table ≡ u.table
-table_is who refused p t u view same tree =
-    ap (λ (x : PassFace). x.tree.table) view ∙ ap (λ (x : TreeFace). x.table) (same ∙ sym tree)
+table_is who refused p t u view same tree = grind arith
 
 -- the tree has as many words as its pass knows
 pub words_are : (who : Caller) (refused : Option Full) (p : PassFace) (t u : TreeFace)
     → pass_face who refused ≡ p → p.tree ≡ t → u ≡ t → u.words ≡ who.token.view.words
-words_are who refused p t u view same tree =
-    sym (ap (λ (x : PassFace). x.tree.words) view ∙ ap (λ (x : TreeFace). x.words) (same ∙ sym tree))
+words_are who refused p t u view same tree = grind arith
 
 -- ---- a caller that starts no rebuild: its starts were there before. Serves `rebuild_due` and `freeze`.
 
 -- two parts in which the caller started none, one after the other, are one such part
 pub starts_none_more : (t u w : Snapshot) (number : ℕ) → StartsNone t u number
     → StartsNone u w number → StartsNone t w number
-starts_none_more t u w number one two base x e own kind said =
-    one base x (two base x e own kind said) own kind said
+starts_none_more t u w number one two base x e own kind said = grind arith
 
 module _ (P : Event → Type 0) (number : ℕ)
     (none : (event : Event) → P event → InstallsNoStart number event) (v w : View)
@@ -205,8 +191,7 @@ keeps_all old new keeps done base change e own kind said rebuild to =
 
 -- a start that was decided yes before isn't one since
 pub since_none : (t u : Snapshot) (number : ℕ) → StartsNone t u number → StartsDoneSince t u number
-since_none t u number none base change e own kind said rebuild to =
-    inl (none base change e own kind said)
+since_none t u number none base change e own kind said rebuild to = grind arith
 
 -- the caller has started none if only others made events
 pub starts_none_later : (v w : View) → IsLaterView v w → (number : ℕ) → v.who ≡ CallerOf number
@@ -245,8 +230,7 @@ module _ (v : View) (number : ℕ) (s : IsSound v) (mine : v.who ≡ CallerOf nu
     (none : v.pending ≡ None) where
   -- the entries of the caller are its calls' entries, and its changes are resolved
   pub between_calls : IsBetween v.start v.words v.log number v.calls
-  between_calls =
-      subst (CallStands v.start v.words v.log number v.calls) none (s.is_true.call number mine)
+  between_calls = grind arith
 
   -- this stays so in a log that goes on by others
   pub between_after : (log : Log) → Lawful v.start v.words log → Later (CallerOf number) v.log log

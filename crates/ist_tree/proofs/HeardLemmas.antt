@@ -24,13 +24,7 @@ heard_turned {v = v} t moment is =
 
 -- a pass that saw more twice saw more
 pub seen_more_then : (p m q : PassFace) → HasSeenMore p m → HasSeenMore m q → HasSeenMore p q
-seen_more_then p m q a b = let low = a.stamp in let high = b.stamp in record {
-  tree = b.tree ∙ a.tree;
-  number = b.number ∙ a.number;
-  seen = goes_on_more a.seen b.seen;
-  heard = go_on_more p.moments m.moments q.moments a.heard b.heard;
-  stamp = omega arith;
-}
+seen_more_then p m q a b = grind (arith, goes_on_more, go_on_more)
 
 -- a pass has seen what it has seen
 pub seen_same : (p : PassFace) → HasSeenMore p p
@@ -70,13 +64,4 @@ steps_from p m q at seen s = record {
 
 -- so is a step of an earlier part
 pub steps_until : (p m q : PassFace) (at : Log) → StepsIn p m at → HasSeenMore m q → StepsIn p q at
-steps_until p m q at s seen = record {
-  before = s.before;
-  since = s.since;
-  step = s.step;
-  step_by = s.step_by;
-  heard = go_on_more (s.step ∷ s.before) m.moments q.moments s.heard seen.heard;
-  seen = s.seen;
-  until = goes_on_more s.until seen.seen;
-  placed = s.placed;
-}
+steps_until p m q at s seen = grind (arith, go_on_more, goes_on_more)

@@ -8,7 +8,7 @@ use Rattle.ist_core.specs.declared.ports.Full.{Full}
 use Rattle.ist_core.specs.declared.states.InnerRow.{InnerRow}
 use Rattle.ist_core.specs.declared.events.Who.TheVariants.{Caller as CallerOf}
 use Rattle.ist_core.specs.declared.states.RebuildRow.{RebuildRow}
-use Rattle.ist_core.specs.LogTerms.{GoesOnBy, LaterBy, whose, EachEnabled, state_of, GoesOn, Log, same_log}
+use Rattle.ist_core.specs.LogTerms.{GoesOnBy, LaterBy, whose, EachEnabled, state_of, GoesOn, Log}
 use Rattle.ist_core.specs.WordTerms.{Inner, InnerAt, word_of, start, anchor_is, change_words, shape}
 use Rattle.ist_core.specs.TreeTerms.{IsDue, as_target, IsFinishedWith, IsReplaced}
 use Rattle.ist_core.proofs.AllLogLemmas.{enabled_before, grow_between, inner_there, due_later}
@@ -53,29 +53,19 @@ module _ (pairs : List Pair) (words caller : ℕ) where
   -- an event after a log isn't in it
   pub not_before : (event : Event) (earlier at : Log) → GoesOn earlier at
       → ¬ (GoesOn (event ∷ at) earlier)
-  not_before event earlier at a b = let x = goes_on_length a in let y = goes_on_length b in
-      omega arith
+  not_before event earlier at a b = grind (arith, goes_on_length)
 
   -- if no start was installed, each start was of a due row: there is none
   pub none_due : (Q : Event → Type 0) → ((event : Event) → Q event → InstallsNoStart caller event)
       → (earlier log : Log) → GoesOnBy Q earlier log → InstallsDue pairs words earlier log caller
   none_due Q none earlier log g at base rows change since until is kind =
-      ⊎_elim (λ e. absurd (not_before (Install caller base rows) earlier at since e))
-      (λ q. absurd (none (Install caller base rows) q refl change is kind))
-      (event_since Q (Install caller base rows) earlier at log g until)
+      grind (arith, not_before, event_since)
 
   -- if this holds of two parts of a log, one after the other, it holds of both together
   pub due_more : (a b c : Log) → GoesOn b c → InstallsDue pairs words a b caller
       → InstallsDue pairs words b c caller → InstallsDue pairs words a c caller
   due_more a b c g one two at base rows change since until is kind =
-      ⊎_elim (λ k. one at base rows change since k is kind)
-      (λ k. following (whole_or_before b (Install caller base rows) at k)) (prefixes _ _ _ until g)
-    where
-      following : (b ≡ Install caller base rows ∷ at) ⊎ GoesOn b at
-          → IsDueAt (state_of pairs words at) change.from
-      following (inl e) = one at base rows change since
-          (subst (GoesOn (Install caller base rows ∷ at)) (sym e) same_log) is kind
-      following (inr k) = two at base rows change k until is kind
+      grind (arith, whole_or_before, prefixes)
 
   -- if all starts are of one row that was due before, each was of a due row
   pub aimed_due : (earlier log : Log) → EachEnabled (start pairs words) log → (target : ℕ)
@@ -89,8 +79,7 @@ module _ (pairs : List Pair) (words caller : ℕ) where
       (Install caller base rows) earlier at log g until)
     where
       before : EachEnabled (start pairs words) at
-      before =
-          (enabled_before (start pairs words) (Install caller base rows ∷ at) log until enabled).0
+      before = grind (arith, enabled_before)
 
       there : change.from ≡ word_of (InnerAt target) → IsDueAt (state_of pairs words at) change.from
       there word_is =
@@ -110,8 +99,7 @@ module _ (pairs : List Pair) (words caller : ℕ) where
 unstarted : (P : Event → Type 0) (number : ℕ)
     → ((event : Event) → P event → InstallsNoStart number event) → (event : Event)
     → (whose event ≢ CallerOf number) ⊎ P event → InstallsNoStart number event
-unstarted P number none event either = ⊎_elim (others_start_nothing number event) (none event)
-    either
+unstarted P number none event either = grind (arith, others_start_nothing)
 
 -- an update by itself starts nothing
 pub applied_starts : (old mid : Caller) → old.token.view.who ≡ CallerOf old.number
@@ -168,11 +156,8 @@ module _ (who began new : Caller) (token : TokenFace) (command : Command)
 
 -- a step of marking installs nothing and leaves all rows
 pub marks_plain : (v : View) (node : ℕ) (event : Event) → Marks v node event → IsPlainHelp event
-marks_plain v node event is = let keeps = marks_keep v node event is in record {
-  rebuilds = serves_rebuild event (marks_serve v node event is);
-  keeps = keeps;
-  installs = keeping_installs_none event keeps;
-}
+marks_plain v node event is =
+    grind (arith, marks_keep, serves_rebuild, marks_serve, keeping_installs_none)
 
 -- the target of a started rebuild may be marked
 pub target_may_mark : (who : Caller) (rebuild target : ℕ) → IsReady who
@@ -187,8 +172,7 @@ target_may_mark who rebuild target ready r = record {
 pub marked : (old : Caller) (token : TokenFace) (target : ℕ) → IsReady old
     → WentOn (Marks token.view target) old.token.view token.view
     → StaysReady Rebuilds old (record old { token = token })
-marked old token target ready went =
-    plain_on (Marks token.view target) (marks_plain token.view target) old token ready went
+marked old token target ready went = grind (arith, plain_on, marks_plain)
 
 -- the target is finished, and its rebuild was helped
 pub target_froze : (old : Caller) (token : TokenFace) (new : Caller) (words rebuild target keys : ℕ)
@@ -247,8 +231,7 @@ target_froze old token new words rebuild target keys ready of went f on serves a
 
     helped : (r : Result Helped Full) → answer ≡ r → result_err r ≡ None
         → IsReplaced (now new.token.view) rebuild ⊎ IsLeftToParent (now new.token.view) rebuild
-    helped (Ok h) e none =
-        helped_either h (now new.token.view) rebuild (λ k. replaced (e ∙ k)) (λ k. left (e ∙ k))
+    helped (Ok h) e none = grind (arith, helped_either)
     helped (Err full) e none = absurd (cc)
 
     cause : (r : Result Helped Full)

@@ -1,5 +1,5 @@
 -- What a word names instead of a row, and that it was helped. Serves `help_other`.
-use Rattle.std.proofs.Common.{◌≡◌, ◌≢◌, ℕ, Option, Some, None, ap, sym, ◌∙◌, subst}
+use Rattle.std.proofs.Common.{◌≡◌, ◌≢◌, ℕ, Option, Some, None, arith}
 use Rattle.ist_core.specs.LogTerms.{Happened, Resolves}
 use Rattle.ist_core.specs.WordTerms.{ChangeAt, Empty, InnerAt, LeafAt, RebuildAt, Ref, Unset, ref_of}
 use Rattle.ist_rule.specs.RuleTerms.{now}
@@ -35,28 +35,13 @@ no_change_here a b e = cc
 -- a rebuild was helped
 pub rebuild_helped : (w : View) (word base : ℕ) → ref_of word ≡ Some (RebuildAt base)
     → IsBuildable (now w) base → IsHelpedWord w word
-rebuild_helped w word base is done = record {
-  change = λ other e. absurd (no_change_here base other (sym is ∙ e));
-  rebuild = λ other e. subst (IsBuildable (now w)) (cc (sym is ∙ e)) done;
-}
+rebuild_helped w word base is done = grind (arith, no_change_here)
 
 -- a change was helped
 pub change_helped : (w : View) (word base : ℕ) → ref_of word ≡ Some (ChangeAt base)
     → Happened (Resolves base) w.log → IsHelpedWord w word
-change_helped w word base is done = record {
-  change = λ other e. subst (λ n. Happened (Resolves n) w.log) (cc (sym is ∙ e)) done;
-  rebuild = λ other e. absurd (no_change_here other base (sym e ∙ is));
-}
+change_helped w word base is done = grind (arith, no_change_here)
 
 -- neither stood there
 pub none_helped : (w : View) (word : ℕ) → instead_of (ref_of word) ≡ Other → IsHelpedWord w word
-none_helped w word other = record {
-  change = λ base e. absurd (clash_change base (sym (ap instead_of e) ∙ other));
-  rebuild = λ base e. absurd (clash_rebuild base (sym (ap instead_of e) ∙ other));
-}
-  where
-    clash_change : (base : ℕ) → Change base ≢ Other
-    clash_change base e = cc
-
-    clash_rebuild : (base : ℕ) → Rebuild base ≢ Other
-    clash_rebuild base e = cc
+none_helped w word other = grind arith

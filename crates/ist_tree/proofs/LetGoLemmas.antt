@@ -1,6 +1,6 @@
 -- A put or a remove that took no effect, from its beginning to its end, in the words of its steps.
 -- Serves `apply_in_call`.
-use Rattle.std.proofs.Common.{◌≡◌, ℕ, Option, Some, sym, ap, ◌∙◌, subst, arith}
+use Rattle.std.proofs.Common.{◌≡◌, ℕ, Option, Some, ap, ◌∙◌, subst, arith}
 use Rattle.ist_core.specs.declared.commands.Command.{Command}
 use Rattle.ist_core.specs.declared.ports.Full.{Full}
 use Rattle.ist_rule.specs.RuleTerms.{IsResolved, TokenFace, TurnedAt, beginning, giving_up, IsSound}
@@ -51,8 +51,7 @@ module _ (who began new : Caller) (token : TokenFace) (command : Command) (s : I
 
     -- each change of the caller is resolved
     resolved : IsResolved new.token.view new.number
-    resolved =
-        subst (IsResolved new.token.view) (cc (sym d.can.mine ∙ d.caller.mine)) d.can.resolved
+    resolved = grind arith
 
     -- the caller is a pass again
     pub stopped_pass : IsPassWith (record new { token = token }) r
@@ -63,9 +62,7 @@ module _ (who began new : Caller) (token : TokenFace) (command : Command) (s : I
     }
 
     stopped_stamp : token.view.stamp ≡ who.token.view.stamp
-    stopped_stamp =
-        ap (λ (y : View). y.stamp) given.view ∙ ap (λ (y : View). y.stamp) d.went.went.same
-        ∙ ap (λ (y : View). y.stamp) begun.view
+    stopped_stamp = grind arith
 
     -- the pass has seen more
     pub stopped_seen : (old : PassFace) → pass_face who r ≡ old
@@ -97,9 +94,7 @@ module _ (who began new : Caller) (token : TokenFace) (command : Command) (s : I
 
     -- its calls are placed in what it has seen then
     pub stopped_placed : HasItsCalls (face_as token new.number r)
-    stopped_placed = has_its_calls token.view new.number given.sound
-        (ap (λ (y : View). y.who) given.view ∙ d.caller.mine)
-        (ap (λ (y : View). y.pending) given.view)
+    stopped_placed = grind (arith, has_its_calls)
 
     -- for a pass with this face: it is let go
     pub stopped : StartsDue began new → (old : PassFace) → pass_face who r ≡ old

@@ -36,9 +36,7 @@ pub chain_on : (pairs : List Pair) (words : ℕ) (log longer : Log) → Lawful p
     → GoesOn log longer → (node : ℕ) (rows : List ℕ) → IsChainOf pairs words log node rows
     → IsChainOf pairs words longer node rows
 chain_on pairs words log longer lawful g node rows is =
-    let it = ever_from (start pairs words) (λ t. Chain t node rows) log is.was in
-    walked_chain pairs words lawful.opens longer it.0 lawful.enabled (goes_on_more it.1 g) node rows
-    (chain_walks pairs words it.0 node rows it.2)
+    grind (arith, ever_from, walked_chain, goes_on_more, chain_walks)
 
 -- ---- costs
 
@@ -57,11 +55,7 @@ row_rises t u g key row = at (t.pieces row) refl
   where
     least : (p : Option Piece) → t.pieces row ≡ p → as_inner p ≡ None
         → row_loads t key row ≤ row_loads u key row
-    least p e none =
-        let few : row_loads t key row ≡ 12 =
-        ap (λ (q : Option Piece). keys_cost key (keys_in (as_inner q))) e
-        ∙ ap (λ o. keys_cost key (keys_in o)) none ∙ none_cost key in
-        omega arith
+    least p e none = grind (arith, none_cost)
 
     at : (p : Option Piece) → t.pieces row ≡ p → row_loads t key row ≤ row_loads u key row
     at (Some (Inner r)) e = let on = inner_there t.pieces u.pieces g row r e in

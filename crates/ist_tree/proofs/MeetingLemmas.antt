@@ -3,7 +3,6 @@ use Rattle.std.proofs.Common.{◌≡◌, ℕ, max, [], ◌∷◌, Option, None, 
 use Rattle.ist_core.specs.declared.ports.Full.{Full}
 use Rattle.ist_core.specs.LogTerms.{same_log, Lawful, StandInPrefixes, Later}
 use Rattle.ist_core.specs.TreeTerms.{StandsIn, IsFinishedWith}
-use Rattle.laws_histories.specs.Calls.{HasCalls}
 use Rattle.laws_histories.proofs.ContentLemmas.{told_at}
 use Rattle.laws_histories.proofs.WovenLemmas.{woven_legal}
 use Rattle.laws_histories.proofs.PlacedLemmas.{has_places}
@@ -12,7 +11,7 @@ use Rattle.ist_rule.specs.declared.view.View.{View}
 use Rattle.ist_rule.proofs.LaterLemmas.{later-goes_on, goes_on_more}
 use Rattle.ist_rows.specs.RowTerms.{StaysReady}
 use Rattle.ist_rows.specs.declared.callers.Caller.{Caller}
-use Rattle.ist_tree.specs.CallTerms.{TreeFace, PassFace, calls_in, HasItsCalls, HasSeenMore, HasLearnt, WeavesWith, tree_of, face_as, pass_face, note_face, noted_number, IsPassWith, IsNote, Frozen, FreezeOutcome, Rebuilt, Still, Freezes, FreezesTarget, HasMet, IsHelpShort, IsRebuiltIn, IsTargetShort, IsTopShort, Rebuilds}
+use Rattle.ist_tree.specs.CallTerms.{TreeFace, PassFace, calls_in, HasItsCalls, HasSeenMore, HasLearnt, WeavesWith, tree_of, face_as, pass_face, note_face, IsPassWith, IsNote, Frozen, FreezeOutcome, Rebuilt, Still, Freezes, FreezesTarget, HasMet, IsHelpShort, IsRebuiltIn, IsTargetShort, IsTopShort, Rebuilds}
 use Rattle.ist_tree.proofs.GoingLemmas.{has_its_calls, IsLaterView, pass_with_later}
 use Rattle.ist_layout.specs.Meanings.{ref_meant}
 use Rattle.ist_rebuild.specs.Starting.{StartsDoneBut, StartsDoneSince}
@@ -74,13 +73,7 @@ module _ (who : Caller) (n token : TokenFace) (refused : Option Full)
   x_is = l.view
 
   later_view : IsLaterView v x
-  later_view = record {
-    who_is = ap (λ (y : View). y.who) x_is;
-    start_is = ap (λ (y : View). y.start) x_is;
-    words_is = ap (λ (y : View). y.words) x_is;
-    later = later;
-    sound = l.sound;
-  }
+  later_view = grind (arith, x_is)
 
   tree_same : tree_of token ≡ tree_of who.token
   tree_same = ap (λ (y : View). record { table = y.table; start = y.start; words = y.words }) x_is
@@ -89,19 +82,13 @@ module _ (who : Caller) (n token : TokenFace) (refused : Option Full)
   none = ap (λ (y : View). y.pending) x_is ∙ p.pass.in_none
 
   learns : HasLearnt (face_as token who.number refused) (note_face n)
-  learns = let up : x.stamp ≡ max v.stamp n.view.stamp = ap (λ (y : View). y.stamp) x_is in record {
-    tree = one_tree ∙ sym tree_same;
-    seen = later-goes_on other_later;
-    stamp = omega arith;
-  }
+  learns = grind (arith, x_is, tree_same, later-goes_on)
 
   mine : HasItsCalls (face_as token who.number refused)
   mine = has_its_calls x who.number l.sound (later_view.who_is ∙ p.pass.caller.mine) none
 
   theirs : HasItsCalls (note_face n)
-  theirs =
-      subst (λ number. HasCalls n.view.start n.view.words n.view.log number n.view.stamp n.view.calls)
-      (sym (ap noted_number note.of_pass)) note.calls
+  theirs = grind arith
 
   meet_here : MeetEnds (pass_face who refused) (note_face n) who refused token
   meet_here = let up : x.stamp ≡ max v.stamp n.view.stamp = ap (λ (y : View). y.stamp) x_is in
@@ -122,9 +109,7 @@ module _ (who : Caller) (n token : TokenFace) (refused : Option Full)
   -- all of this together
   pub meet_ends : (old other : PassFace) → pass_face who refused ≡ old → note_face n ≡ other
       → MeetEnds old other who refused token
-  meet_ends old other as_old as_other =
-      subst (λ (o : PassFace). MeetEnds o other who refused token) as_old
-      (subst (λ (o : PassFace). MeetEnds (pass_face who refused) o who refused token) as_other meet_here)
+  meet_ends old other as_old as_other = grind (arith, meet_here)
 
 -- ---- what is frozen below the anchor: what was met there as it is, or the target of a rebuild. Serves
 -- `freeze_below`.
@@ -132,14 +117,7 @@ module _ (who : Caller) (n token : TokenFace) (refused : Option Full)
 -- what was met as it is
 pub still_frozen : (a c : Caller) (words : ℕ) (frozen : Frozen) → HasMet a c (Still frozen)
     → Freezes a c words record { frozen = frozen; refused = None }
-still_frozen a c words frozen m = record {
-  on = m.on;
-  frozen = m.is.0;
-  done = λ unrefused. m.done;
-  rebuilt = λ row e. absurd (m.is.1 row e);
-  refused = tt;
-  few = few_still a c frozen.keys m.few;
-}
+still_frozen a c words frozen m = grind (arith, few_still)
 
 -- the target of a rebuild that was met, and finished
 pub target_frozen : (a b c : Caller) (words rebuild target : ℕ) (outcome : FreezeOutcome)

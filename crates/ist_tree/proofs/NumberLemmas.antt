@@ -1,6 +1,6 @@
 -- The calls of passes in the order of their numbers. Serves `tele_run::run_on_tree` and
 -- `Map::run`.
-use Rattle.std.proofs.Common.{◌≡◌, ℕ, zero, suc, ◌+◌, ◌<◌, ◌==◌, ◌≢◌, ◌⊎◌, true, false, List, [], ◌∷◌, length, map, refl, arith, inl, inr}
+use Rattle.std.proofs.Common.{◌≡◌, ℕ, zero, suc, ◌+◌, ◌<◌, ◌==◌, true, false, List, [], ◌∷◌, length, map, refl, arith}
 use Rattle.std.proofs.lemmas.Bool.Decides.{eqb_tells}
 use Rattle.std.specs.List.{range_with_len}
 use Rattle.std.proofs.lemmas.Bool.{ne_eqb}
@@ -9,11 +9,7 @@ use Rattle.ist_tree.specs.CallTerms.{calls_from}
 
 -- a test of two numbers that are the same
 equal : (i j : ℕ) → i ≡ j → (i == j) ≡ true
-equal i j same = at (eqb_tells i j)
-  where
-    at : (((i == j) ≡ true) × (i ≡ j)) ⊎ (((i == j) ≡ false) × (i ≢ j)) → (i == j) ≡ true
-    at (inl t) = t.0
-    at (inr f) = absurd (f.1 same)
+equal i j same = grind (arith, eqb_tells)
 
 -- a pass with a lower number is passed over
 from_after : (from count : ℕ) (pass : PassCalls) (more : List PassCalls) → pass.number < from

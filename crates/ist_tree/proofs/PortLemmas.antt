@@ -1,12 +1,10 @@
 -- A port keeps its last refusal, which is one of its pass. Serves the `call` of a port.
-use Rattle.std.proofs.Common.{◌≡◌, ◌≢◌, ℕ, ◌+◌, ◌≤◌, length, Option, Some, None, Result, Ok, Err, IfErr, IfSome, sym, ap, ◌∙◌, subst, inl, inr, ⊎_elim, arith}
+use Rattle.std.proofs.Common.{◌≡◌, ◌≢◌, ℕ, Option, Result, Ok, Err, IfErr, inl, inr, ⊎_elim, arith}
 use Rattle.ist_core.specs.declared.commands.Command.{Command}
 use Rattle.ist_core.specs.declared.commands.Command.TheVariants.{Get, Put, Remove}
 use Rattle.ist_core.specs.declared.ports.Full.{Full}
 use Rattle.ist_core.specs.LogTerms.{Log, Refused, refusal}
 use Rattle.ist_rule.proofs.LaterLemmas.{goes_on_more}
-use Rattle.laws_calls.specs.Finishing.{puts_in}
-use Rattle.ist_core.specs.TreeTerms.{changes_of}
 use Rattle.ist_updates.specs.Asking.{command_for}
 use Rattle.ist_tree.proofs.HeardLemmas.{seen_more_then, seen_same}
 use Rattle.ist_tree.specs.CallTerms.{HasSeenMore, PassFace, TreeFace, IsPort, IsTurnedAway, IsAskedIn, IsForSomeNode, IsRefused, IsRefusedCall, MayBeAsked, PassWasRefused, for_leaf, for_pair, for_put, for_rebuild, for_remove}
@@ -16,22 +14,13 @@ use Rattle.ist_tree.proofs.ShortLemmas.{puts_rise, left_same}
 -- the size of a node is still one for a pass that has seen more
 node_more : (p q : PassFace) (asked : ℕ) → HasSeenMore p q → IsForSomeNode p asked
     → IsForSomeNode q asked
-node_more p q asked m n = let rise = puts_rise p.tree.start p.tree.words p.seen q.seen m.seen in
-    let most = n.most in record {
-      some = n.some;
-      least = n.least;
-      most =
-          subst (λ (t : TreeFace). n.some ≤ length t.start + puts_in (changes_of t.start t.words
-          q.seen)) (sym m.tree) (omega arith);
-      asked_is = n.asked_is;
-    }
+node_more p q asked m n = grind (arith, puts_rise)
 
 -- too few words were left in the table of a pass that has seen more, since it is the same table
 left_in : {A B : ℕ → Type 0} (p q : PassFace) {at : Log} (full : Full) → HasSeenMore p q
     → LeavesTooFew A p.tree.start p.tree.words at full → (A full.asked → B full.asked)
     → LeavesTooFew B q.tree.start q.tree.words at full
-left_in p q full m l to = left_same full (ap (λ (t : TreeFace). t.start) (sym m.tree))
-    (ap (λ (t : TreeFace). t.words) (sym m.tree)) l to
+left_in p q full m l to = grind (arith, left_same)
 
 -- a refusal that was met before was met by a pass that has seen more
 pub refused_more : (p q : PassFace) (said : Refused) → HasSeenMore p q → PassWasRefused p said
@@ -58,8 +47,7 @@ asked_then p q at key _ asked (for_leaf e lacked) = inl e
 asked_then p q at key _ asked (for_pair e lacked met) = inr (inl e)
 asked_then p q at key _ asked (for_put e lacked) = inr (inr (inl e))
 asked_then p q at key _ asked (for_remove found has e lacked) = inr (inr (inl e))
-asked_then p q at key value asked (for_rebuild met way a help) =
-    inr (inr (⊎_elim (λ e. inl e) (λ n. inr n) a))
+asked_then p q at key value asked (for_rebuild met way a help) = grind arith
 
 -- a refusal of this call
 pub refused_now : (p q : PassFace) (key : ℕ) (value : Option ℕ) (command : Command) (full : Full)
@@ -88,11 +76,7 @@ remove_no_get key k e = cc
 -- a port whose pass has seen more is one still
 pub port_more : (tree : TreeFace) (p q : PassFace) (said : Option Refused) → HasSeenMore p q
     → IsPort tree p said → IsPort tree q said
-port_more tree p q said m i = record { same_tree = m.tree ∙ i.same_tree; cause = keep said i.cause }
-  where
-    keep : (o : Option Refused) → IfSome o (PassWasRefused p) → IfSome o (PassWasRefused q)
-    keep None c = c
-    keep (Some r) c = refused_more p q r m c
+port_more tree p q said m i = grind (arith, refused_more)
 
 -- a result that is such a refusal
 pub answer_refused : {A : Type 0} (answer : Result A Full) (p q : PassFace) (key : ℕ)
@@ -100,13 +84,11 @@ pub answer_refused : {A : Type 0} (answer : Result A Full) (p q : PassFace) (key
     → command ≡ command_for key value → IfErr answer (IsTurnedAway p q key value)
     → IfErr answer (λ full. PassWasRefused q (refusal command full))
 answer_refused (Ok a) p q key value command m update is r = tt
-answer_refused (Err full) p q key value command m update is r =
-    refused_now p q key value command full m update is r.cause
+answer_refused (Err full) p q key value command m update is r = grind (arith, refused_now)
 
 -- a refusal of the call with this command
 pub answer_cause : {A : Type 0} (answer : Result A Full) (p q : PassFace) (key : ℕ)
     (value : Option ℕ) (command : Command) → command ≡ command_for key value
     → IfErr answer (IsTurnedAway p q key value) → IfErr answer (IsRefusedCall p q command)
 answer_cause (Ok a) p q key value command is r = tt
-answer_cause (Err full) p q key value command is r =
-    record { key = key; value = value; command_is = is; cause = r.cause }
+answer_cause (Err full) p q key value command is r = grind arith

@@ -1,6 +1,6 @@
 -- The first position at which a map replies so: the position that a call gets if it changes
 -- nothing. Serves `find`.
-use Rattle.std.proofs.Common.{◌≡◌, ℕ, ◌+◌, ◌<◌, ◌≤◌, ◌==◌, ◌⊎◌, Bool, true, false, if◌then◌else◌, List, length, Option, Some, None, refl, sym, ap, ◌∙◌, subst, ⊎_elim, zero, suc, arith}
+use Rattle.std.proofs.Common.{◌≡◌, ℕ, ◌+◌, ◌<◌, ◌≤◌, ◌==◌, ◌⊎◌, Bool, true, false, if◌then◌else◌, List, length, Option, Some, None, refl, subst, ⊎_elim, zero, suc, arith}
 use Rattle.std.specs.FinMap as fin
 use Rattle.std.proofs.lemmas.Bool.Decides.{eqb_tells}
 use Rattle.std.proofs.lemmas.Bool.{false≢true}
@@ -36,14 +36,8 @@ first_or_more : (test : ℕ → Bool) (from more last : ℕ) (b : Bool) → test
     → test last ≡ true → (from + 1 ≤ last → IsFirst test (from + 1)
     (first_from test (from + 1) more) last)
     → IsFirst test from (if b then from else first_from test (from + 1) more) last
-first_or_more test from more last true is low t rest =
-    record { low = omega arith; high = low; passes = is }
-first_or_more test from more last false is low t rest =
-    let above : from + 1 ≤ last =
-    ⊎_elim (λ e. absurd (false≢true (sym is ∙ ap test e ∙ t))) (λ lt. lt)
-    (at_or_above from last low) in
-    let it = rest above in let least = it.low in
-    record { low = omega arith; high = it.high; passes = it.passes }
+first_or_more test from more last true is low t rest = grind arith
+first_or_more test from more last false is low t rest = grind (arith, false≢true, at_or_above)
 
 -- if a number passes the test, the first that passes is no greater
 pub first_is : (test : ℕ → Bool) (from more last : ℕ) → from ≤ last → last < from + more
@@ -73,8 +67,7 @@ same_reply_of a b e = subst (λ x. same_reply a x ≡ true) e (same_itself a)
 -- replies that are the same are equal
 pub reply_is_same : (a b : Option ℕ) → same_reply a b ≡ true → a ≡ b
 reply_is_same None None e = refl
-reply_is_same (Some a) (Some b) e =
-    ⊎_elim (λ k. ap Some k.1) (λ k. absurd (false≢true (sym k.0 ∙ e))) (eqb_tells a b)
+reply_is_same (Some a) (Some b) e = grind (arith, false≢true, eqb_tells)
 reply_is_same None (Some b) e = absurd (false≢true e)
 reply_is_same (Some a) None e = absurd (false≢true e)
 

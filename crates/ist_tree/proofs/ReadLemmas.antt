@@ -4,7 +4,7 @@ use Rattle.ist_core.specs.declared.ports.Full.{Full}
 use Rattle.ist_core.specs.declared.pairs.Pair.{Pair}
 use Rattle.ist_core.specs.LogTerms.{Later}
 use Rattle.laws_real_time.specs.declared.moments.Deed.TheVariants.{Begins, GivesUp}
-use Rattle.ist_rule.specs.RuleTerms.{TokenFace, GoesOnTo, TurnedAt, moment_seen, beginning_read, MomentsGoOn, number_of, one_moment, same_moments, now}
+use Rattle.ist_rule.specs.RuleTerms.{TokenFace, GoesOnTo, TurnedAt, moment_seen, beginning_read, MomentsGoOn, one_moment, same_moments, now}
 use Rattle.ist_rule.specs.declared.view.View.{View}
 use Rattle.ist_rule.proofs.LaterLemmas.{later-goes_on, later_more}
 use Rattle.ist_rule.proofs.SpeakLemmas.{later_goes_on}
@@ -37,23 +37,15 @@ module _ (who : Caller) (refused : Option Full) (b : View) (token : TokenFace)
     loads = w.loads;
     loaded = w.loaded;
   }
-  w_is = on.same ∙ ap (λ (y : View). record y { log = w.log; loads = w.loads; loaded = w.loaded })
-      turned.view
+  w_is = grind arith
 
   -- others made the events
   pub read_later : Later v.who v.log w.log
-  read_later = later_more turned.later
-      (subst (λ a. Later a b.log w.log) (ap (λ (y : View). y.who) turned.view) on.later)
+  read_later = grind (arith, later_more)
 
   -- it is the view of the same caller, later
   pub read_view : IsLaterView v w
-  read_view = record {
-    who_is = ap (λ (y : View). y.who) w_is;
-    start_is = ap (λ (y : View). y.start) w_is;
-    words_is = ap (λ (y : View). y.words) w_is;
-    later = read_later;
-    sound = on.sound;
-  }
+  read_view = grind (arith, w_is, read_later)
 
   -- it is a pass still
   pub read_pass : IsPassWith (record who { token = token }) refused
@@ -95,16 +87,7 @@ module _ (who : Caller) (refused : Option Full) (b : View) (token : TokenFace)
 
   -- since a step in this call
   pub read_step : StepsIn (pass_face who refused) following b.log
-  read_step = record {
-    before = turned.before;
-    since = later_goes_on turned.since;
-    step = moment_seen v b.log (Begins None);
-    step_by = ap number_of all.pass.caller.mine;
-    heard = w_heard;
-    seen = later-goes_on turned.later;
-    until = later-goes_on on.later;
-    placed = turned.placed;
-  }
+  read_step = grind (arith, later_goes_on, w_heard, later-goes_on)
 
 -- ---- a pass that searched, in no call of its own. Serves `span`.
 

@@ -28,12 +28,7 @@ use Rattle.ist_tree.proofs.FewChangesLemmas.{all_below, each_number, numbers_lon
 -- the calls that a pass has heard of are linearizable
 pub pass_linear : (who : Caller) (refused : Option Full) → IsSound who.token.view → IsPass who
     → IsLinearizableFor (pass_face who refused)
-pass_linear who refused s p = let m = s.well_made.moments in
-    let own = m.spoken who.number p.caller.mine in record {
-      linear = m.linear;
-      calls = own.calls_are;
-      over = out_of_call (in_call who.number who.token.view.moments) (own.pending_is ∙ p.in_none);
-    }
+pass_linear who refused s p = grind (arith, out_of_call)
 
 -- a number that no caller has whose token was taken back has no calls
 pub none_numbered : (number bound : ℕ) (ts : List Taken) → bound ≤ number
@@ -102,9 +97,7 @@ module _ (token : TokenFace) (image : List ℕ) (refused : Bool) (is : IsMakerWi
   known : (base : ℕ) (change : ChangeRow)
       → (state_of v.start v.words last.log).pieces base ≡ Some (Change change)
       → change.owner < v.made
-  known base change e =
-      let low = owner_known v.start v.words last.log last.lawful.enabled base change e in
-      let made = made_is in omega arith
+  known base change e = grind (arith, owner_known, made_is)
 
   -- all of its own is settled, if none met a refused rebuild
   own_settled : refused ≡ false → (number : ℕ) → number < v.made

@@ -1,5 +1,5 @@
 -- Refusals, in the words of a pass. Serves `update`.
-use Rattle.std.proofs.Common.{◌≡◌, ℕ, ◌+◌, ◌≤◌, ◌⊎◌, length, Option, Some, None, sym, ap, ap₂, ◌∙◌, subst, inl, inr, arith}
+use Rattle.std.proofs.Common.{◌≡◌, ℕ, ◌+◌, ◌≤◌, length, Option, Some, sym, subst, inl, inr, arith}
 use Rattle.std.specs.Option.{option_or}
 use Rattle.ist_core.specs.declared.commands.Command.{Command}
 use Rattle.ist_core.specs.declared.ports.Full.{Full}
@@ -67,8 +67,7 @@ module _ (who began new : Caller) (token : TokenFace) (command : Command)
 
   -- the state after the work, by the pass's table
   now_w : now w ≡ state_of v.start v.words w.log
-  now_w = ap₂ (λ pairs words. state_of pairs words w.log) (w_start who began new token command it)
-      (w_words who began new token command it)
+  now_w = grind (arith, w_start, w_words)
 
   -- what helping a rebuild took
   asked_for_rebuild : (rebuild asked : ℕ) → IsAskedFor (LacksNow w) (now w) rebuild asked
@@ -129,8 +128,7 @@ module _ (who began new : Caller) (token : TokenFace) (command : Command)
       (v_to_b who began new token command it)) rebuild k))
     where
       now_b : now began.token.view ≡ state_of v.start v.words began.token.view.log
-      now_b = ap₂ (λ pairs words. state_of pairs words began.token.view.log)
-          (b_start who began new token command it) (b_words who began new token command it)
+      now_b = grind (arith, b_start, b_words)
 
   -- a rebuild that was started in the slot of the due row
   in_slot : (due : Due)
@@ -254,12 +252,4 @@ module _ (who began new : Caller) (token : TokenFace) (command : Command)
   pub keeps_first : (met : Option Full) → q ≡ option_or r met
       → ((full : Full) → met ≡ Some full → (row : ℕ) × IsRowRefused before following row full)
       → KeepsRowRefusal before following
-  keeps_first met is cause = record {
-    stays = λ full e. is ∙ ap (λ o. option_or o met) e;
-    cause = λ full e. from r (sym is ∙ e);
-  }
-    where
-      from : {full : Full} (o : Option Full) → option_or o met ≡ Some full
-          → (o ≡ Some full) ⊎ ((row : ℕ) × IsRowRefused before following row full)
-      from (Some first) e = inl e
-      from {full = full} None e = inr (cause full e)
+  keeps_first met is cause = grind arith

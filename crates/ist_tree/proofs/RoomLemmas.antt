@@ -132,8 +132,7 @@ takes_less number _ = omega arith
 -- an event of the caller takes all that it reserves for it
 own_all : (number : ℕ) (event : Event) → whose event ≡ CallerOf number
     → taken_at number event ≡ reserved_by event
-own_all number (Reserve caller base size) mine =
-    subst (λ n. taken_at n (Reserve caller base size) ≡ size) (cc) (own_takes caller base size)
+own_all number (Reserve caller base size) mine = grind (arith, own_takes)
 own_all number _ mine = refl
 
 -- ---- logs
@@ -161,8 +160,7 @@ spent_alone pairs number (one_more event g (inr none)) = let before = spent_alon
 pub few_before : (p m : PassFace) → m.number ≡ p.number → HasMadeNone p m → (at : Log)
     (asked n : ℕ) → taken_by m.number at + asked ≤ taken_by m.number m.seen + n
     → taken_by p.number at + asked ≤ taken_by p.number p.seen + n
-few_before p m number none at asked n few = let same = taken_later p.number none in
-    let mine = subst (λ k. taken_by k at + asked ≤ taken_by k m.seen + n) number few in omega arith
+few_before p m number none at asked n few = grind (arith, taken_later)
 
 -- if there was room for the two rows of a start at a step of the call, and since then only the pass
 -- took words, a freeze isn't refused
@@ -194,11 +192,7 @@ lone_whole p q frozen (ran_short r) at since enough alone =
 pub freezes_before : (p m q : PassFace) (frozen : Frozen) → m.number ≡ p.number → m.tree ≡ p.tree
     → GoesOn p.seen m.seen → HasMadeNone p m → m.refused ≡ p.refused → FreezesInFew m q frozen
     → FreezesInFew p q frozen
-freezes_before p m q frozen number tree seen none same (froze_few w) =
-    let n = words_of_freeze frozen.keys in let taken = taken_later p.number none in
-    let few : taken_by p.number q.seen ≤ taken_by p.number m.seen + n
-    = subst (λ k. taken_by k q.seen ≤ taken_by k m.seen + n) number w.few in
-    froze_few record { rebuilt = w.rebuilt; unrefused = w.unrefused ∙ same; few = omega arith }
+freezes_before p m q frozen number tree seen none same (froze_few w) = grind (arith, taken_later)
 freezes_before p m q frozen number tree seen none same (ran_short r) = let full = r.0 in
     let start = ap (λ (t : TreeFace). t.start) tree in
     let all = ap (λ (t : TreeFace). t.words) tree in

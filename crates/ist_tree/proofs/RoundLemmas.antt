@@ -1,6 +1,6 @@
 -- A pass that has let calls go: what its next call does holds since the beginning too. Serves
 -- `run_rounds`.
-use Rattle.std.proofs.Common.{◌≡◌, ℕ, ◌∷◌, Option, sym, ap, ◌∙◌, subst, refl, ⊎_elim}
+use Rattle.std.proofs.Common.{◌≡◌, ℕ, ◌∷◌, Option, sym, ◌∙◌, subst, refl, ⊎_elim, arith}
 use Rattle.std.proofs.Math.Nat.{le_trans}
 use Rattle.ist_core.specs.declared.commands.Command.{Command}
 use Rattle.ist_core.specs.declared.events.Event.TheVariants.{Count, Install}
@@ -33,29 +33,7 @@ module _ (p : PassFace) (seen : Log) (loaded searches : ℕ) (moments : Moments)
 
   adds_since : MomentsGoOn p.moments moments → (command : Command) (reply : Option ℕ)
       → AddsCall m q command reply → AddsCall p q command reply
-  adds_since heard command reply a = record {
-    call = a.call;
-    command_is = a.command_is;
-    reply_is = a.reply_is;
-    stamp_is = a.stamp_is;
-    calls_are = a.calls_are;
-    timed = record {
-      tried = a.timed.tried;
-      goes_on = go_on_more p.moments moments a.timed.tried heard a.timed.goes_on;
-      unreturned = a.timed.unreturned;
-      returns = a.timed.returns;
-    };
-    added = record {
-      has_calls = a.added.has_calls;
-      fresh = record {
-        position = le_trans (changes_rise (start p.tree.start p.tree.words) p.seen seen g)
-            a.added.fresh.position;
-        later = a.added.fresh.later;
-      };
-    };
-    learnt = λ other l h. a.learnt other
-        record { tree = l.tree; seen = goes_on_more l.seen g; stamp = l.stamp } h;
-  }
+  adds_since heard command reply a = grind (arith, go_on_more, le_trans, changes_rise, goes_on_more)
 
   counted_since : Lawful p.tree.start p.tree.words seen → (command : Command)
       → HasCountedInCall m q command → HasCountedInCall p q command
@@ -92,33 +70,16 @@ module _ (p : PassFace) (seen : Log) (loaded searches : ℕ) (moments : Moments)
         (prefixes _ _ _ c.until longer)
       where
         early : GoesOn (Count p.number row ∷ c.at) seen → CameDue p m row
-        early before = record {
-          at = c.at;
-          since = c.since;
-          until = before;
-          row = c.row;
-          published = c.published;
-          reached = c.reached;
-        }
+        early before = grind arith
 
     came_since : (row : ℕ) → CameDue m q row → CameDue p q row
-    came_since row c = record {
-      at = c.at;
-      since = goes_on_more g c.since;
-      until = c.until;
-      row = c.row;
-      published = c.published;
-      reached = c.reached;
-    }
+    came_since row c = grind (arith, goes_on_more)
 
     none_since : ((row : ℕ) → ¬ (CameDue m q row)) → (row : ℕ) → ¬ (CameDue p q row)
     none_since quiet row c = quiet row (came_then row c)
 
     top_since : (row : ℕ) → IsTopmostDue m q row → IsTopmostDue p q row
-    top_since row t = record {
-      came = came_since row t.came;
-      above = λ other c. t.above other (came_then other c);
-    }
+    top_since row t = grind (arith, came_since, came_then)
 
     due_since : Lawful p.tree.start p.tree.words seen → LeavesNoneDue m q → LeavesNoneDue p q
     due_since lawful (none_came quiet) = none_came (none_since quiet)
@@ -127,8 +88,7 @@ module _ (p : PassFace) (seen : Log) (loaded searches : ℕ) (moments : Moments)
         was_refused row full (top_since row t) (row_since p seen loaded searches moments g q lawful row full r) e
 
   starts_since : StartsOnlyDue p m → GoesOn seen q.seen → StartsOnlyDue m q → StartsOnlyDue p q
-  starts_since before longer then =
-      due_more p.tree.start p.tree.words p.number p.seen seen q.seen longer before then
+  starts_since before longer then = grind (arith, due_more)
 
 -- ---- in the words of what was let go
 
@@ -138,13 +98,7 @@ module _ (p m : PassFace) (h : HasLetGo p m) where
 
   -- the pass differs by its log, its loads and its walks only
   pub is_let_go : m ≡ let_go_at p m.seen m.loaded m.searches m.moments
-  is_let_go = ap (λ t. record m { tree = t }) h.idle.seen.tree
-      ∙ ap (λ n. record m { tree = p.tree; number = n }) h.idle.seen.number
-      ∙ ap (λ n. record m { tree = p.tree; number = p.number; stamp = n }) h.stamp
-      ∙ ap (λ calls. record m { tree = p.tree; number = p.number; stamp = p.stamp; calls = calls })
-      h.calls
-      ∙ ap (λ r. record m { tree = p.tree; number = p.number; stamp = p.stamp; calls = p.calls; refused = r })
-      h.idle.refused
+  is_let_go = grind arith
 
   back : (Q : PassFace → Type 0) → Q m → Q (let_go_at p m.seen m.loaded m.searches m.moments)
   back Q = subst Q is_let_go
@@ -195,9 +149,7 @@ module _ (p m : PassFace) (h : HasLetGo p m) where
     -- a refusal of a rebuild is kept since the first part
     pub keeps_from : Lawful m.tree.start m.tree.words m.seen → KeepsRowRefusal m q
         → KeepsRowRefusal p q
-    keeps_from lawful k = keeps_since p m.seen m.loaded m.searches m.moments g q
-        (back (λ (x : PassFace). Lawful x.tree.start x.tree.words m.seen) lawful)
-        (back (λ (x : PassFace). KeepsRowRefusal x q) k)
+    keeps_from lawful k = grind (arith, keeps_since)
 
     -- a refusal to rebuild a row in the second part is one since the first part
     pub row_from : Lawful m.tree.start m.tree.words m.seen → (row : ℕ) (full : Full)
@@ -229,11 +181,7 @@ module _ (p m : PassFace) (h : HasLetGo p m) where
 
     -- if the second part is given up too, nothing took effect since the first part
     pub let_go_from : HasLetGo m q → HasLetGo p q
-    let_go_from l = record {
-      idle = idle_from l.idle;
-      calls = l.calls ∙ h.calls;
-      stamp = l.stamp ∙ h.stamp;
-    }
+    let_go_from l = grind (arith, idle_from)
 
 -- a pass that did nothing has let go
 pub let_go_none : (p : PassFace) → HasLetGo p p

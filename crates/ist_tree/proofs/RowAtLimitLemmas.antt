@@ -1,6 +1,6 @@
 -- The rows that reached their limits by the counts of a call, and the closed rows above them.
 -- Serves `update`.
-use Rattle.std.proofs.Common.{◌≡◌, ℕ, ◌⊎◌, List, [], ◌∷◌, ◌++◌, refl, sym, ◌∙◌, subst, inl, inr, ⊎_elim, arith}
+use Rattle.std.proofs.Common.{◌≡◌, ℕ, ◌⊎◌, List, [], ◌∷◌, ◌++◌, refl, sym, subst, inl, inr, ⊎_elim, arith}
 use Rattle.ist_core.specs.declared.events.Event.{Event}
 use Rattle.ist_core.specs.declared.events.Event.TheVariants.{Count}
 use Rattle.ist_core.specs.declared.pairs.Pair.{Pair}
@@ -37,9 +37,7 @@ event_since P event w at _ (one_more {log = log} other later p) on =
 -- a prefix of a log with one event more that doesn't have that event is one of the log
 up_to : (event : Event) (at before : Log) → GoesOn before (event ∷ at)
     → ¬ (GoesOn (event ∷ at) before) → GoesOn before at
-up_to event at before on never =
-    ⊎_elim (λ e. absurd (never (subst (GoesOn (event ∷ at)) (sym e) same_log))) (λ k. k)
-    (whole_or_before before event at on)
+up_to event at before on never = grind (arith, whole_or_before)
 
 -- ---- rows that reached their limits
 
@@ -48,14 +46,7 @@ module _ (pairs : List Pair) (words number : ℕ) where
   pub came_within : (earlier before log longer : Log) → GoesOn earlier before → GoesOn log longer
       → (node : ℕ) → CameToLimit pairs words before log number node
       → CameToLimit pairs words earlier longer number node
-  came_within earlier before log longer g h node c = record {
-    at = c.at;
-    since = goes_on_more g c.since;
-    until = goes_on_more c.until h;
-    row = c.row;
-    published = c.published;
-    reached = c.reached;
-  }
+  came_within earlier before log longer g h node c = grind (arith, goes_on_more)
 
   -- and the other way round, if nothing was counted before and after
   pub came_inside : (P Q : Event → Type 0) → ((event : Event) → P event → CountsNothing number event)
@@ -125,9 +116,7 @@ module _ (pairs : List Pair) (words number : ℕ) where
       → HasClosedAbove (start pairs words) log node)
       → DueRowsAreClosed (start pairs words) earlier number
       → DueRowsAreClosed (start pairs words) log number
-  due_since earlier log l on came closed node made = ⊎_elim
-      (λ m. closed_above_stays pairs words l.opens earlier log on l.enabled node (closed node m))
-      (came node) (made_or_came earlier log on node made)
+  due_since earlier log l on came closed node made = grind (arith, closed_above_stays, made_or_came)
 
 -- ---- the row above
 
@@ -170,9 +159,7 @@ module _ (pairs : List Pair) (words : ℕ) (l : CanOpen pairs words) (log : Log)
           (subst (λ n. IsChild (state_of pairs words p) parent index n) e d)
 
       top : above ≡ parent → (parent ≡ anchor) ⊎ Among parent (rows ++ child ∷ [])
-      top e = ⊎_elim (λ a. inl (sym e ∙ a))
-          (λ b. inr (among_left parent rows (child ∷ []) (subst (λ n. Among n rows) e b)))
-          (on_own_chain (state_of pairs words m) above rows chain)
+      top e = grind (arith, among_left, on_own_chain)
 
   -- so if a row on a chain or its parent isn't open, some row on the chain isn't
   pub closed_above : (node row parent index : ℕ) → WasOnChain (start pairs words) log node row

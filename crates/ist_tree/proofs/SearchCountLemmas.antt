@@ -32,81 +32,21 @@ use Rattle.ist_tree.proofs.CountedLemmas.{changes_more}
 
 -- a view is as sound whatever the number
 sound_counted : (v : View) (n : ℕ) → IsSound v → IsSound (record v { searches = n })
-sound_counted v n s = let m = s.well_made in let t = s.is_true in record {
-  lawful = s.lawful;
-  live = s.live;
-  well_made = record {
-    stands = m.stands;
-    stamps = m.stamps;
-    recalls = m.recalls;
-    in_order = m.in_order;
-    since = m.since;
-    olds = m.olds;
-    taken_stand = m.taken_stand;
-    taken_seen = m.taken_seen;
-    taken_once = m.taken_once;
-    taken_given = m.taken_given;
-    maker_takes = m.maker_takes;
-    in_none = m.in_none;
-    moments = m.moments;
-  };
-  is_true = record {
-    low = t.low;
-    made = t.made;
-    idle = t.idle;
-    fresh = t.fresh;
-    call = t.call;
-    taken = t.taken;
-  };
-}
+sound_counted v n s = grind arith
 
 -- a call begins in the same way
 pub turned_counted : (v b : View) (n : ℕ) → TurnedAt v (beginning v None) b
     → TurnedAt v (beginning (record v { searches = n }) None) (record b { searches = n })
-turned_counted v b n t = record {
-  later = t.later;
-  before = t.before;
-  since = t.since;
-  placed = t.placed;
-  view = ap (λ (y : View). record y { searches = n }) t.view;
-  sound = sound_counted b n t.sound;
-}
+turned_counted v b n t = grind (arith, sound_counted)
 
 -- a caller is as ready
 pub ready_counted : (who : Caller) (n : ℕ) → IsReady who → IsReady (counted_as who n)
-ready_counted who n r = record {
-  caller = record { mine = r.caller.mine; rows = r.caller.rows; builds = r.caller.builds };
-  refused = r.refused;
-  quiet = record {
-    pending = r.quiet.pending;
-    in_call = r.quiet.in_call;
-    resolved = r.quiet.resolved;
-  };
-}
+ready_counted who n r = grind arith
 
 -- and goes on in the same way
 idle_counted : (a b : Caller) (n : ℕ) → GoesIdle (counted_as a b.token.view.searches) b
     → GoesIdle (counted_as a n) (counted_as b n)
-idle_counted a b n g = let ready = ready_counted b n (still_ready g.on) in
-    let went = g.on.gone.went in record {
-      on = record {
-        gone = record {
-          caller = ready.caller;
-          number = g.on.gone.number;
-          refused = ready.refused;
-          went = record {
-            later = went.later;
-            sound = sound_counted b.token.view n went.sound;
-            same = ap (λ (y : View). record y { searches = n }) went.same;
-            loaded = went.loaded;
-          };
-        };
-        quiet = ready.quiet;
-      };
-      done = g.done;
-      none = g.none;
-      few = g.few;
-    }
+idle_counted a b n g = grind (arith, ready_counted, still_ready, sound_counted)
 
 -- ---- a search begins
 
@@ -127,8 +67,7 @@ none_begun b c on = sym (ap (λ (y : View). y.searches) on.gone.went.same)
 pub froze_begun : (a b c : Caller) (words : ℕ) (outcome : FreezeOutcome) → StaysReady Rebuilds b c
     → Freezes (counted_as a b.token.view.searches) c words outcome
     → Freezes (counted_as a c.token.view.searches) c words outcome
-froze_begun a b c words outcome on f =
-    subst (λ n. Freezes (counted_as a n) c words outcome) (none_begun b c on) f
+froze_begun a b c words outcome on f = grind (arith, none_begun)
 
 -- ---- how many searches
 
@@ -168,10 +107,8 @@ module _ (a : Caller) {b : Caller} {token : TokenFace} (i : GoesIdle (counted_as
 
     -- few searches began
     pub look_few : StaysReady Rebuilds there c → HasWalkedFew a.token.view c.token.view
-    look_few on = let is = one in let paid = i.1 in let none = none_begun there c on in
-        let more = never_falls b.token.view.log c.token.view.log (goes_on_more (later-goes_on t.later)
-        (later_by-goes_on on.gone.went.later)) in
-        omega arith
+    look_few on =
+        grind (arith, none_begun, never_falls, goes_on_more, later-goes_on, later_by-goes_on)
 
     -- if it met nothing and saw progress, the next search begins in the same way
     pub look_on : GoesIdle there c → CameFurther token.view c.token.view
@@ -191,17 +128,12 @@ pub look_smaller : {b c : Caller} {token : TokenFace}
     → Turned b.token.view (searching b.token.view) token.view → GoesIdle (record b { token = token }) c
     → CameFurther token.view c.token.view
     → most_progress - progress c.token.view.log < most_progress - progress b.token.view.log
-look_smaller {b} {c} {token} t idle k =
-    let rise = never_falls b.token.view.log token.view.log (later-goes_on t.later) in
-    let more = k.more in
-    fewer_left b.token.view c.token.view idle.on.gone.went.sound record { more = omega arith }
+look_smaller {b} {c} {token} t idle k = grind (arith, never_falls, later-goes_on, fewer_left)
 
 -- no more is begun after it
 pub few_after : (P : Event → Type 0) (u w x : View) → HasWalkedFew u w → WentOn P w x
     → HasWalkedFew u x
-few_after P u w x few g =
-    let none : x.searches ≡ w.searches = ap (λ (y : View). y.searches) g.same in
-    let more = never_falls w.log x.log (later_by-goes_on g.later) in omega arith
+few_after P u w x few g = grind (arith, never_falls, later_by-goes_on)
 
 -- ---- how many walks a put or a remove begins. Serves `update`.
 
@@ -213,12 +145,7 @@ pub walks_end : (who began new : Caller) (token : TokenFace) (command : Option C
     → token.view.searches ≡ new.token.view.searches → pass_face who r ≡ old
     → BeginsFewWalks old (face_as token new.number q)
 walks_end who began new token command turn r q old begun few ended same view =
-    let first : began.token.view.searches ≡ who.token.view.searches =
-    ap (λ (y : View). y.searches) begun.view in
-    let before = never_falls who.token.view.log began.token.view.log (later-goes_on begun.later) in
-    let after = never_falls new.token.view.log token.view.log (later-goes_on ended.later) in
-    let here : BeginsFewWalks (pass_face who r) (face_as token new.number q) = omega arith in
-    subst (λ (o : PassFace). BeginsFewWalks o (face_as token new.number q)) view here
+    grind (arith, never_falls, later-goes_on)
 
 -- the walks of calls one after another
 walks_sum : (p : PassFace) (steps : List PassFace) → GoesThrough p steps

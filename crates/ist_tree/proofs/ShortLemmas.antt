@@ -6,14 +6,14 @@ use Rattle.ist_core.specs.declared.events.Event.{Event}
 use Rattle.ist_core.specs.declared.pairs.Pair.{Pair}
 use Rattle.ist_core.specs.declared.ports.Full.{Full}
 use Rattle.ist_core.specs.TreeTerms.{AllGrow, Entry, changes_of, IsFinishedWith}
-use Rattle.ist_core.specs.LogTerms.{Log, shown_next, Snapshot, spent, state_of, GoesOn}
-use Rattle.ist_core.specs.WordTerms.{RebuildAt, ref_of, SlotHolds, past_change, start, anchor}
+use Rattle.ist_core.specs.LogTerms.{Log, shown_next, Snapshot, spent, GoesOn}
+use Rattle.ist_core.specs.WordTerms.{RebuildAt, ref_of, SlotHolds, past_change, start}
 use Rattle.ist_core.proofs.AllLogLemmas.{rebuild_there, words_are_spent}
 use Rattle.ist_core.proofs.AllPlaceLemmas.{IsRebuildFor, SlotNames, slot_names, names}
 use Rattle.laws_links.proofs.FinishedLemmas.{target_grows}
 use Rattle.laws_links.proofs.FormLemmas.{replaced_grows, started_grows, finished_with_grows}
 use Rattle.laws_links.proofs.RebuiltLemmas.{read_unreplaced}
-use Rattle.ist_rule.specs.RuleTerms.{WentOn, now, IsSound, TokenFace, number_of, GoesOnTo, TurnedAt, beginning_read}
+use Rattle.ist_rule.specs.RuleTerms.{WentOn, now, IsSound, TokenFace, GoesOnTo, TurnedAt, beginning_read}
 use Rattle.ist_rule.specs.declared.view.View.{View}
 use Rattle.ist_rule.proofs.WentOnLemmas.{went_grow}
 use Rattle.ist_rebuild.specs.Going.{Begins, ServesRebuild}
@@ -21,7 +21,7 @@ use Rattle.ist_rows.specs.RowTerms.{LeavesTooFew, RanShort, IsCaller}
 use Rattle.ist_rows.specs.declared.callers.Caller.{Caller}
 use Rattle.ist_rows.proofs.ShortLemmas.{left_as}
 use Rattle.ist_rebuild.specs.Helping.{IsHelpRefused, IsAskedFor, for_change, for_node}
-use Rattle.ist_rebuild.specs.Lacking.{LacksNow, LacksRow}
+use Rattle.ist_rebuild.specs.Lacking.{LacksNow}
 use Rattle.ist_rebuild.specs.Starting.{IsStartRefused, IsStartedAt, StoodInstead}
 use Rattle.ist_updates.specs.declared.updates.Due.{Due}
 use Rattle.ist_tree.specs.Working.{for_other, for_own, for_start}
@@ -32,7 +32,7 @@ use Rattle.laws_calls.specs.Finishing.{is_put, puts_in}
 use Rattle.laws_histories.proofs.ChangeLemmas.{changes_on}
 use Rattle.ist_rule.proofs.LaterLemmas.{goes_on_more}
 use Rattle.ist_tree.proofs.GoingLemmas.{IsLaterView}
-use Rattle.ist_find.specs.Sweeps.{Swept, SweptBetween}
+use Rattle.ist_find.specs.Sweeps.{SweptBetween}
 use Rattle.ist_tree.specs.Sweeps.{HasSweptOver}
 use Rattle.ist_tree.proofs.ReadLemmas.{read_began, read_calls, read_once, read_pass, read_seen, read_stamp, read_step, read_view}
 
@@ -82,13 +82,7 @@ own_refused s v w rebuild due words full at went r = let grow = went_grow Serves
 -- a rebuild that was started in a slot was started there as rows grow
 pub due_slot_grows : (t u : Snapshot) → AllGrow t.pieces u.pieces → (rebuild : ℕ) (due : Due)
     → IsInDueSlot t rebuild due → IsInDueSlot u rebuild due
-due_slot_grows t u grow rebuild due b =
-    let it = rebuild_there t.pieces u.pieces grow rebuild b.site b.published in record {
-      site = it.0;
-      published = it.1;
-      parent_is = it.2.parent ∙ b.parent_is;
-      index_is = it.2.index ∙ b.index_is;
-    }
+due_slot_grows t u grow rebuild due b = grind (arith, rebuild_there)
 
 -- helping another rebuild, which stood in the slot, was refused
 pub other_refused : (v w : View) → IsSound v → (due : Due) (word rebuild words : ℕ)
@@ -163,12 +157,7 @@ asked_same L M t rebuild asked same (for_node row k e f node) = for_node row k e
 pub lacked_then : (new : Caller) (token : TokenFace) → IsCaller new
     → IsLaterView new.token.view token.view → (q : Option Full) (asked : ℕ)
     → LacksNow new.token.view asked → LackedAt (face_as token new.number q) new.token.view.log asked
-lacked_then new token c l q asked lacks =
-    subst (λ n. LacksRow (state_of token.view.start n new.token.view.log) new.number asked)
-    (sym l.words_is)
-    (subst (λ pairs. LacksRow (state_of pairs new.token.view.words new.token.view.log) new.number asked)
-    (sym l.start_is)
-    (subst (λ n. LacksRow (now new.token.view) n asked) (ap number_of c.mine) lacks))
+lacked_then new token c l q asked lacks = grind arith
 
 -- an inner row that the anchor's slot held between two logs it held between two wider ones
 pub held_on : (pairs : List Pair) (words : ℕ) (a b c d : Log) → GoesOn a b → GoesOn c d
@@ -223,22 +212,7 @@ sweep_ends {A} {E} who refused b token all t g first last before after r swept o
         → OnOk s (HasSweptOver (pass_face who refused) (face_as token who.number refused) first last
         before after)
     over (Err e) h = tt
-    over (Ok x) h = let later = read_view who refused b token all t g in
-        let one = read_began who refused b token all t g in let few = h.few in record {
-          began = b.log;
-          step = read_step who refused b token all t g;
-          once = read_once who refused b token all t g;
-          found = h.found;
-          are = h.are;
-          at = h.at;
-          until = h.until;
-          loads = h.loads;
-          few = omega arith;
-          swept = subst (λ p. Swept p v.words first anchor b.log h.at (last + 1) 0 h.loads h.found)
-              later.start_is
-              (subst (λ n. Swept w.start n first anchor b.log h.at (last + 1) 0 h.loads h.found)
-              later.words_is h.swept);
-        }
+    over (Ok x) h = grind (arith, read_view, read_began, read_step, read_once)
 
     from : SweepEnds (pass_face who refused) who refused token first last before after r
     from = record {

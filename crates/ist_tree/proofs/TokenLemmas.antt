@@ -1,18 +1,17 @@
 -- New passes and notes. Serves `pass`, `take_back`, `note` and `learn`.
-use Rattle.std.proofs.Common.{◌≡◌, ℕ, ◌+◌, ◌≤◌, ◌&&◌, ◌||◌, max, not, Bool, true, false, if◌then◌else◌, List, [], ◌∷◌, length, map, filter, is_some, Option, Some, None, refl, sym, ap, ◌∙◌, subst, nat_lt, suc, arith}
+use Rattle.std.proofs.Common.{◌≡◌, ℕ, ◌+◌, ◌≤◌, ◌||◌, not, Bool, true, false, List, [], ◌∷◌, length, map, filter, is_some, Option, Some, None, refl, sym, ap, ◌∙◌, subst, arith}
 use Rattle.ist_core.specs.declared.lists.HeldRow.{HeldRow}
 use Rattle.ist_core.specs.declared.ports.Full.{Full}
 use Rattle.ist_core.specs.declared.events.Event.TheVariants.{Enter}
-use Rattle.ist_core.specs.declared.events.Who.{Who}
 use Rattle.ist_core.specs.declared.events.Who.TheVariants.{Maker, Caller as CallerOf, Note}
 use Rattle.ist_core.specs.LogTerms.{Each, caller_limit, PassCalls, GoesOn, one_event, IsIdleIn}
-use Rattle.ist_rule.specs.RuleTerms.{TokenFace, IsSound, MomentsGoOn, now, Looked, awaits_seat, is_maker, joined, noted_by, plain, split_right, with_taken}
+use Rattle.ist_rule.specs.RuleTerms.{TokenFace, IsSound, MomentsGoOn, now, Looked, awaits_seat, joined, plain, split_right, with_taken}
 use Rattle.ist_rule.specs.declared.view.Taken.{Taken}
 use Rattle.ist_rule.specs.declared.view.View.{View}
 use Rattle.ist_rule.proofs.LaterLemmas.{later-goes_on}
 use Rattle.ist_rows.specs.RowTerms.{spares_of, is_spare, held_by, IsCaller, AreStuck, none_stuck, HasEntered}
 use Rattle.ist_rows.specs.declared.callers.Caller.{Caller}
-use Rattle.ist_tree.specs.CallTerms.{TreeFace, PassFace, MakerFace, calls_in, with_back, MakerHasLearnt, MakerHasSeenMore, IsPass, IsPassWith, IsMaker, IsMakerWith, IsMakerCounted, HasSettled, IsNote, maker_face, pass_face, taken_pass, tree_of}
+use Rattle.ist_tree.specs.CallTerms.{TreeFace, PassFace, MakerFace, with_back, MakerHasLearnt, MakerHasSeenMore, IsPass, IsPassWith, IsMaker, IsMakerWith, IsMakerCounted, HasSettled, IsNote, maker_face, pass_face, taken_pass}
 use Rattle.ist_tree.proofs.GoingLemmas.{has_its_calls, idle_settled}
 use Rattle.ist_tree.proofs.FewChangesLemmas.{taken_few}
 
@@ -32,12 +31,7 @@ new_pass who c holds none = record {
 pub new_pass_with : (who : Caller) → IsCaller who → held_by (now who.token.view) who.number ≡ []
     → who.token.view.pending ≡ None → IsSound who.token.view
     → IsIdleIn (CallerOf who.number) who.token.view.log → IsPassWith who None
-new_pass_with who c holds none s idle = record {
-  pass = new_pass who c holds none;
-  settled = λ unrefused.
-      idle_settled who.token.view.start who.token.view.words who.token.view.log s.lawful who.number
-      idle;
-}
+new_pass_with who c holds none s idle = grind (arith, new_pass, idle_settled)
 
 -- the maker that entered a caller has seen what it had seen
 pub entered_goes_on : (v : View) (number : ℕ) (w : View) → HasEntered v number w
@@ -105,11 +99,7 @@ taken_back v w x number word before refused m mine its start_is words_is l =
 pub back_long : (v w x : View) (number word : ℕ) → w.who ≡ CallerOf number
     → Looked (joined v w) 0 word x
     → length (map taken_pass x.taken) ≡ length (map taken_pass v.taken) + 1
-back_long v w x number word mine l =
-    let more : length (map taken_pass x.taken) ≡ suc (length (map taken_pass v.taken)) =
-    ap (λ (y : View). length (map taken_pass y.taken)) l.view
-    ∙ ap (λ k. length (map taken_pass (with_taken k w.calls w.log v.taken))) mine in
-    omega arith
+back_long v w x number word mine l = grind arith
 
 -- a maker that took a pass back has not taken back more than the limit
 pub back_few : (v w x : View) (number word : ℕ) (refused : Bool) (made back : ℕ)
@@ -166,16 +156,12 @@ learnt v w x word refused m note l =
 
 -- in the view of a caller no other waits for its token
 awaits_none : (v : View) (number : ℕ) → v.who ≡ CallerOf number → awaits_seat v ≡ false
-awaits_none v number mine =
-    subst (λ (x : Who). (is_maker x && nat_lt v.given v.made) ≡ false) (sym mine) refl
+awaits_none v number mine = grind arith
 
 -- what is split from it is a note of it
 note_is : (v : View) (number : ℕ) → v.who ≡ CallerOf number
     → split_right v ≡ plain v (Note (Some number)) v.calls
-note_is v number mine =
-    ap (λ b. if b then plain v (CallerOf v.given) [] else plain v (Note (noted_by v.who)) v.calls)
-    (awaits_none v number mine)
-    ∙ ap (λ (x : Who). plain v (Note (noted_by x)) v.calls) mine
+note_is v number mine = grind (arith, awaits_none)
 
 -- a note of a pass keeps the pass's calls
 pub new_note : (who : Caller) (w : View) → IsSound who.token.view → IsPass who
@@ -198,35 +184,13 @@ module _ (old new : TokenFace) (w : View) (word : ℕ) (l : Looked (joined old.v
         → (taken : List PassCalls) → map taken_pass new.view.taken ≡ taken
         → MakerHasSeenMore (record (maker_face old before) { taken = taken; refused = after })
         (maker_face new after)
-    maker_more on heard before after taken is =
-        let up : new.view.stamp ≡ max old.view.stamp w.stamp = ap (λ (y : View). y.stamp) l.view in
-        record {
-          same =
-              ap (λ (y : View). record (maker_face new after) {
-                tree = record { table = y.table; start = y.start; words = y.words };
-                made = y.made;
-              }) l.view
-              ∙ ap (λ ts. record (maker_face new after) {
-                tree = tree_of old;
-                made = old.view.made;
-                taken = ts;
-              }) is;
-          seen = on;
-          heard = heard;
-          stamp = omega arith;
-        }
+    maker_more on heard before after taken is = grind arith
 
     -- and what that one knew
     pub maker_learnt : GoesOn w.log new.view.log → MomentsGoOn w.moments new.view.moments
         → {q p : PassFace} → q ≡ p → q.seen ≡ w.log → q.moments ≡ w.moments → q.stamp ≡ w.stamp
         → {after : Bool} → MakerHasLearnt (maker_face new after) p
-    maker_learnt on heard same seen_is moments_is stamp_is {after} =
-        let up : new.view.stamp ≡ max old.view.stamp w.stamp = ap (λ (y : View). y.stamp) l.view in
-        subst (MakerHasLearnt (maker_face new after)) same record {
-          seen = subst (λ log. GoesOn log new.view.log) (sym seen_is) on;
-          heard = subst (λ ms. MomentsGoOn ms new.view.moments) (sym moments_is) heard;
-          stamp = omega arith;
-        }
+    maker_learnt on heard same seen_is moments_is stamp_is {after} = grind arith
 
 -- a maker that took a pass back has its calls
 pub maker_back : (old new : TokenFace) (who : Caller) (word : ℕ)
@@ -236,14 +200,4 @@ pub maker_back : (old new : TokenFace) (who : Caller) (word : ℕ)
     → said ≡ is_some refused → {p : PassFace} → pass_face who refused ≡ p → {m : MakerFace}
     → maker_face old before ≡ m → MakerHasSeenMore (with_back p m) (maker_face new (before || said))
 maker_back old new who word l mine on heard {before} {said} {refused} is {p} pass {m} maker =
-    let w = who.token.view in let after = maker_face new (before || said) in
-    let back : new.view.taken ≡ with_taken (CallerOf who.number) w.calls w.log old.view.taken =
-    ap (λ (y : View). y.taken) l.view ∙ ap (λ k. with_taken k w.calls w.log old.view.taken) mine in
-    subst (λ n. MakerHasSeenMore (with_back p n) after) maker
-    (subst (λ q. MakerHasSeenMore (with_back q (maker_face old before)) after) pass
-    (subst (λ b. MakerHasSeenMore
-    (record (maker_face old before) {
-      taken = calls_in (pass_face who refused) ∷ map taken_pass old.view.taken;
-      refused = before || b;
-    }) after) is
-    (maker_more old new w word l on heard before (before || said) _ (ap (map taken_pass) back))))
+    grind arith

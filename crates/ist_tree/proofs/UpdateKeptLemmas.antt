@@ -1,6 +1,6 @@
 -- What an update knows stays so while its caller rebuilds: its call may end still, and its change
 -- is counted. Serves `update`.
-use Rattle.std.proofs.Common.{◌≡◌, ◌≢◌, ℕ, ◌⊎◌, List, [], ◌∷◌, ◌++◌, Option, Some, sym, ap, ◌∙◌, subst, inl, inr, arith, length, refl}
+use Rattle.std.proofs.Common.{◌≡◌, ◌≢◌, ℕ, ◌⊎◌, List, Option, Some, sym, ap, ◌∙◌, subst, inl, inr, arith, length, refl}
 use Rattle.ist_core.specs.declared.calls.Call.{Call}
 use Rattle.ist_core.specs.declared.commands.Command.{Command}
 use Rattle.ist_core.specs.declared.events.Event.{Event}
@@ -45,8 +45,7 @@ InstallsNoUpdate caller _ = Unit {0}
 -- what others do, and what rebuilding is, installs none
 installs_no_update : (number : ℕ) (event : Event)
     → (whose event ≢ CallerOf number) ⊎ Rebuilds event → InstallsNoUpdate number event
-installs_no_update number (Install by base rows) (inl other) =
-    λ same. absurd (other (ap CallerOf same))
+installs_no_update number (Install by base rows) (inl other) = grind arith
 installs_no_update number (Install by base rows) (inr p) = λ same. p
 installs_no_update number _ p = tt
 
@@ -99,38 +98,14 @@ rebuilt_no_entry v w number mine resolved went = let lawful = went_lawful Rebuil
 -- so a call that may end may so still
 pub can_end_on : (v w : View) (number : ℕ) (call : Call) → v.who ≡ CallerOf number
     → WentOn Rebuilds v w → IsResolved w number → CanEnd v call → CanEnd w call
-can_end_on v w number call mine went resolved c = let on = later_by-goes_on went.later in
-    let same : c.number ≡ number = cc (sym c.mine ∙ mine) in
-    let none = rebuilt_no_entry v w c.number c.mine c.resolved went in
-    let still = subst (IsResolved w) (sym same) resolved in
-    subst (λ (x : View). CanEnd x call) (sym went.same) record {
-      number = c.number;
-      mine = c.mine;
-      pending = c.pending;
-      in_call = c.in_call;
-      command_is = c.command_is;
-      stamp_is = c.stamp_is;
-      resolved =
-          subst (λ (x : View). AllResolvedOf (state_of x.start x.words w.log) w.log c.number) went.same
-          still;
-      stand = stand_on v.start v.words v.log w.log c.number (v.calls ++ call ∷ []) on none c.stand;
-      seen = c.seen;
-      goes_on = goes_on_more c.goes_on on;
-      length_is = c.length_is;
-      fresh = c.fresh;
-    }
+can_end_on v w number call mine went resolved c =
+    grind (arith, later_by-goes_on, rebuilt_no_entry, stand_on, goes_on_more)
 
 -- a command that may end with a reply may do so after steps of rebuilding too
 pub may_end_on : (old new : Caller) (command : Command) (reply : Option ℕ)
     → old.token.view.who ≡ CallerOf old.number → StaysReady Rebuilds old new
     → MayEnd old command reply → MayEnd new command reply
-may_end_on old new command reply mine on m = record {
-  call = m.call;
-  command_is = m.command_is;
-  reply_is = m.reply_is;
-  can = can_end_on old.token.view new.token.view old.number m.call mine on.gone.went
-      (subst (IsResolved new.token.view) on.gone.number on.quiet.resolved) m.can;
-}
+may_end_on old new command reply mine on m = grind (arith, can_end_on)
 
 -- ---- a change that was counted
 
@@ -142,9 +117,7 @@ pub not_yes_before : (pairs : List Pair) (words : ℕ) (earlier before : Log) �
     → (change : ChangeRow) → (state_of pairs words earlier).pieces base ≡ Some (Change change)
     → change.decision ≢ decided_yes
 not_yes_before pairs words earlier before g enabled base none change there said =
-    let it = change_there (state_of pairs words earlier).pieces (state_of pairs words before).pieces
-    (grow_between pairs words earlier before enabled g) base change there in
-    none it.0 it.1 (it.2.decided (λ undecided. omega (said, undecided, arith)) ∙ said)
+    grind (arith, change_there, grow_between)
 
 -- what was counted in a part of a log was counted in all of it
 pub counted_on : (pairs : List Pair) (words : ℕ) (earlier before log longer : Log)
@@ -190,21 +163,22 @@ module _ (who : Caller) (token : TokenFace) (command : Command) (s : IsSound who
 
   -- the begun view is a later one
   pub begun_view : IsLaterView v b
-  begun_view = record {
-    who_is = ap (λ (y : View). y.who) begun.view;
-    start_is = ap (λ (y : View). y.start) begun.view;
-    words_is = ap (λ (y : View). y.words) begun.view;
-    later = begun.later;
-    sound = begun.sound;
-  }
+  begun_view = grind (arith, later)
 
   -- its calls are placed in the log that it has seen by then
   pub begun_calls : HasCalls b.start b.words b.log who.number b.stamp b.calls
-  begun_calls = subst (λ (y : View). HasCalls y.start y.words b.log who.number y.stamp y.calls)
-      (sym begun.view)
-      (keep_calls v.start v.words v.log b.log who.number v.stamp v.stamp v.calls (later-goes_on later)
-      (no_entry_after v who.number s p.caller.mine p.in_none b.log (lawful_after v b begun_view)
-      later) (le_refl v.stamp) (has_its_calls v who.number s p.caller.mine p.in_none))
+  begun_calls =
+      grind (
+        arith,
+        keep_calls,
+        later-goes_on,
+        later,
+        no_entry_after,
+        lawful_after,
+        begun_view,
+        le_refl,
+        has_its_calls,
+      )
 
   -- the caller was asked
   pub begun_asked : IsAsked (record who { token = token }) command

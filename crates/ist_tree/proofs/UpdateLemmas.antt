@@ -15,9 +15,8 @@ use Rattle.laws_histories.specs.Calls.{HasCalls}
 use Rattle.laws_histories.proofs.WovenLemmas.{learnt_first}
 use Rattle.laws_calls.proofs.ClosedLemmas.{others_count_nothing}
 use Rattle.laws_stability.proofs.LaterLemmas.{ever_later}
-use Rattle.ist_rule.specs.RuleTerms.{CanEnd, TokenFace, number_of, MomentsLater, moment_seen, TurnedAt, beginning, ending, now, IsNode, is_anchor, is_inner}
+use Rattle.ist_rule.specs.RuleTerms.{CanEnd, TokenFace, TurnedAt, beginning, ending, now, IsNode, is_anchor, is_inner}
 use Rattle.ist_rule.specs.declared.view.View.{View}
-use Rattle.laws_real_time.specs.declared.moments.Deed.TheVariants.{Begins, Returns}
 use Rattle.ist_tree.specs.CallTerms.{ReturnsInTime, AddsCall, CameDue, HasCountedInCall, IsClosedAt, IsTopmostDue, LeavesNoneDue, kept_refusal, is_closed, none_came, was_refused, PassFace, face_as, pass_face, IsRowRefused}
 use Rattle.ist_rule.proofs.LaterLemmas.{between, goes_on_length, goes_on_more}
 use Rattle.ist_rows.specs.declared.callers.Caller.{Caller}
@@ -154,8 +153,7 @@ module _ (who began new : Caller) (token : TokenFace) (command : Command)
       })
     where
       in_view : IsClosedAt (record following { tree = before.tree }) row → IsClosedAt following row
-      in_view = subst (λ tree. IsClosedAt (record following { tree = tree }) row)
-          (sym (way.same_tree who began new token command it))
+      in_view = grind arith
 
   -- if the work brought no row to its limit, the call didn't
   pub came_nowhere : ((row : ℕ) → ¬ (CameToLimit b.start b.words b.log w.log began.number row))
@@ -168,9 +166,7 @@ module _ (who began new : Caller) (token : TokenFace) (command : Command)
   top_here : (row : ℕ) → working.IsTopCame b w began.number row
       → working.IsTopCame (record (beginning v (Some command) b.log it.begun.before) { log = b.log }) w began.number
       row
-  top_here row t =
-      subst (λ (y : View). working.IsTopCame (record y { log = b.log }) w began.number row)
-      it.begun.view t
+  top_here row t = grind arith
 
   -- its rebuild was refused in the call, if it was in the work
   pub row_refused : (words : ℕ) (full : Full) → words ≡ v.words → (due : Due)
@@ -207,8 +203,7 @@ module _ (who began new : Caller) (token : TokenFace) (command : Command)
   module _ (call : Call) (c : CanEnd w call) (command_is : call.command ≡ command)
       (ended : TurnedAt w (ending w call) x) where
     x_calls : x.calls ≡ v.calls ++ call ∷ []
-    x_calls = ap (λ (y : View). y.calls) ended.view ∙ ap (λ (calls : List Call). calls ++ call ∷ [])
-        (ap (λ (y : View). y.calls) it.went.went.same ∙ ap (λ (y : View). y.calls) it.begun.view)
+    x_calls = grind arith
 
     w_stamp : w.stamp ≡ v.stamp
     w_stamp = ap (λ (y : View). y.stamp) it.went.went.same ∙ ap (λ (y : View). y.stamp) it.begun.view
@@ -231,42 +226,14 @@ module _ (who began new : Caller) (token : TokenFace) (command : Command)
         omega arith)
       where
         pending_is : w.pending ≡ Some record { command = Some command; length = length b.log }
-        pending_is =
-            ap (λ (y : View). y.pending) it.went.went.same ∙ ap (λ (y : View). y.pending) it.begun.view
+        pending_is = grind arith
 
     fresh : IsFresh v.start v.words v.log v.stamp call
-    fresh =
-        let f = subst (λ pairs. IsFresh pairs v.words c.seen v.stamp call)
-        (way.w_start who began new token command it)
-        (subst (λ words. IsFresh w.start words c.seen v.stamp call)
-        (way.w_words who began new token command it)
-        (subst (λ stamp. IsFresh w.start w.words c.seen stamp call) w_stamp c.fresh)) in
-        let rise = changes_rise v.start v.words v.log c.seen seen_before in let from = f.position in
-        record { position = omega arith; later = f.later }
+    fresh = grind (arith, w_stamp, changes_rise, seen_before)
 
     -- it was made in real time
     pub in_time : ReturnsInTime before following command call.reply
-    in_time = record {
-      before = it.begun.before;
-      since = subst (λ a. MomentsLater a v.moments it.begun.before) it.pass.caller.mine
-          it.begun.since;
-      began = moment_seen v b.log (Begins (Some command));
-      began_by = ap number_of it.pass.caller.mine;
-      begins = refl;
-      meanwhile = ended.before;
-      during = subst (λ ms. MomentsLater (CallerOf who.number) ms ended.before)
-          (ap (λ (y : View). y.moments) it.went.went.same
-          ∙ ap (λ (y : View). y.moments) it.begun.view)
-          (subst (λ a. MomentsLater a w.moments ended.before)
-          (way.w_mine who began new token command it) ended.since);
-      returned = moment_seen w x.log (Returns call);
-      returned_by = ap number_of (way.w_mine who began new token command it);
-      call = call;
-      returns = refl;
-      command_is = command_is;
-      reply_is = refl;
-      now_is = ap (λ (y : View). y.moments) ended.view;
-    }
+    in_time = grind arith
 
     -- it is one call more of the pass
     pub adds_call : AddsCall before following command call.reply
@@ -286,13 +253,4 @@ module _ (who began new : Caller) (token : TokenFace) (command : Command)
     }
       where
         has_calls : HasCalls v.start v.words x.log who.number call.stamp (v.calls ++ call ∷ [])
-        has_calls =
-            subst (λ pairs. HasCalls pairs v.words x.log who.number call.stamp (v.calls ++ call ∷ []))
-            (way.x_start who began new token command it)
-            (subst (λ words. HasCalls x.start words x.log who.number call.stamp (v.calls ++ call ∷ []))
-            (way.x_words who began new token command it)
-            (subst (λ stamp. HasCalls x.start x.words x.log who.number stamp (v.calls ++ call ∷ []))
-            x_stamp
-            (subst (HasCalls x.start x.words x.log who.number x.stamp) x_calls
-            (has_its_calls x who.number it.last.sound
-            (it.last.who_is ∙ way.w_mine who began new token command it) it.none))))
+        has_calls = grind (arith, x_stamp, x_calls, has_its_calls)

@@ -56,17 +56,7 @@ pub applies_by : (old mid : Caller) (command : Command) (o : Outcome) (reply : O
     old.number command)
     → LeavesDue old.token.view mid.token.view old.number (due_in o)
     → Applies old mid command reply due
-applies_by old mid command o reply due reply_is due_is c r q n w few may counted left = record {
-  caller = c;
-  refused = r;
-  quiet = q;
-  number = n;
-  went = w;
-  few_walks = few;
-  may = subst (MayEnd mid command) (sym reply_is) may;
-  counted = λ entry. counted (subst (λ r. makes_entry command r ≡ true) reply_is entry);
-  due = subst (LeavesDue old.token.view mid.token.view old.number) (sym due_is) left;
-}
+applies_by old mid command o reply due reply_is due_is c r q n w few may counted left = grind arith
 
 -- a rebuild of the row that it made due may be started
 pub due_may_start : (v w : View) (n : ℕ) (due : Option Due) → LeavesDue v w n due
@@ -133,8 +123,7 @@ let_go old new mine resolved c refused number went few can due uncounted = recor
 
 -- a rebuild begins no walk
 few_with : (u v w : View) → HasWalkedFew u v → WentOn Rebuilds v w → HasWalkedFew u w
-few_with u v w few g = let none : w.searches ≡ v.searches = ap (λ (y : View). y.searches) g.same in
-    let more = never_falls v.log w.log (later_by-goes_on g.later) in omega arith
+few_with u v w few g = grind (arith, never_falls, later_by-goes_on)
 
 -- a row in whose slot the target stood was its parent
 stood_child : (pairs : List Pair) (words : ℕ) (m log longer : Log) → Lawful pairs words log

@@ -1,5 +1,5 @@
 -- A put or a remove from its beginning to its end, in the words of its steps. Serves `update`.
-use Rattle.std.proofs.Common.{◌≡◌, ℕ, true, length, Option, Some, None, refl, sym, ap, ◌∙◌, subst}
+use Rattle.std.proofs.Common.{◌≡◌, ℕ, true, length, Option, Some, None, refl, sym, ap, ◌∙◌, subst, arith}
 use Rattle.std.specs.Option.{option_or}
 use Rattle.ist_core.specs.declared.calls.Call.{Call}
 use Rattle.ist_core.specs.declared.commands.Command.{Command}
@@ -139,8 +139,7 @@ module _ (who began new : Caller) (token : TokenFace) (command : Command) (s : I
         c.ready.caller.mine reply c.may
 
     is_command : (ended_call new.token.view reply).command ≡ command
-    is_command = its_command new.token.view (ended_call new.token.view reply) command _ picked.0
-        (pending_is who began new command s p.pass begun began_number c.went c.number)
+    is_command = grind (arith, its_command, ended_call)
 
     ends_here : UpdateEnds (pass_face who r) new token q command reply
     ends_here = record {
@@ -189,8 +188,7 @@ module _ (who began new : Caller) (token : TokenFace) (command : Command) (s : I
     -- for a pass with this face
     pub update_ends : (old : PassFace) → pass_face who r ≡ old
         → UpdateEnds old new token q command reply
-    update_ends old view =
-        subst (λ (o : PassFace). UpdateEnds o new token q command reply) view ends_here
+    update_ends old view = grind (arith, ends_here)
 
     -- each rebuild that the pass started in the call was of a row at its limit
     pub update_starts : StartsDue began new → (old : PassFace) → pass_face who r ≡ old

@@ -1,14 +1,13 @@
 -- What a longer log of the same table keeps, and what it keeps while the table comes no further.
 -- Serves `FurtherLemmas`.
-use Rattle.std.proofs.Common.{◌≡◌, ◌≢◌, ◌⊎◌, ℕ, ◌≤◌, sym, ap, ap₂, ◌∙◌, subst, inl, inr, ⊎_elim, arith, ◌+◌, ◌-◌, ◌^◌, ◌<◌, nat_le, false, ◌∷◌, Some, refl, if◌then◌else◌, None}
+use Rattle.std.proofs.Common.{◌≡◌, ◌≢◌, ◌⊎◌, ℕ, ◌≤◌, sym, ap, ap₂, ◌∙◌, subst, arith, ◌+◌, ◌-◌, ◌^◌, ◌<◌, nat_le, false, ◌∷◌, Some, refl, None}
 use Rattle.std.proofs.lemmas.Bool.Decides.{leb_tells, nat_tests, eqb_tells}
 use Rattle.ist_core.specs.declared.events.Event.{Event}
 use Rattle.ist_core.specs.declared.events.Event.TheVariants.{Count}
 use Rattle.ist_core.specs.declared.states.InnerRow.{InnerRow}
-use Rattle.ist_core.specs.declared.events.Who.TheVariants.{Caller as CallerOf}
 use Rattle.ist_core.specs.declared.pairs.Pair.{Pair as APair}
 use Rattle.ist_core.specs.declared.states.LeafRow.{LeafRow}
-use Rattle.ist_core.specs.LogTerms.{Lawful, state_of, Snapshot, IsShown, shown_row, Later}
+use Rattle.ist_core.specs.LogTerms.{Lawful, state_of, Snapshot, IsShown, shown_row}
 use Rattle.ist_core.specs.WordTerms.{unset_word, IsOpen, SlotHolds, limit, Inner, anchor_slot_place, inner_count_offset, inner_size_offset, Leaf, Pieces, LeafAt, ref_of}
 use Rattle.ist_core.proofs.AllLogLemmas.{goes_on_more, on_chain_inner, grow_between, inner_there, count_low, leaf_there}
 use Rattle.ist_rule.specs.RuleTerms.{WentOn, now, GoesOnTo, IsSound, searching, Turned, CanAdd, Looked, LoggedAdd, number_of}
@@ -20,7 +19,7 @@ use Rattle.laws_stability.proofs.OwnLemmas.{never_falls, open_stands, slots_stan
 use Rattle.laws_coming.specs.Further.{CameFurther}
 use Rattle.ist_updates.specs.Further.{IsAfter, HasWalkedFew}
 use Rattle.ist_updates.specs.Asking.{Updates}
-use Rattle.ist_core.specs.TreeTerms.{InnerGrows, value_in, value_at}
+use Rattle.ist_core.specs.TreeTerms.{InnerGrows, value_at}
 use Rattle.ist_dcss.proofs.FieldLemmas.{looked_row, row_above, row_low}
 use Rattle.laws_coming.proofs.FurtherLemmas.{count_comes}
 use Rattle.ist_updates.specs.Walking.{MayCount, counting, IsCountAt, HasCountedAt}
@@ -30,37 +29,23 @@ use Rattle.ist_find.specs.Spans.{IsPairOf}
 
 -- a caller that went on by these events has seen no less
 pub after_went : (P : Event → Type 0) (v w : View) → WentOn P v w → IsAfter v w
-after_went P v w g = record {
-  later = later_by-goes_on g.later;
-  start_is = ap (λ (x : View). x.start) g.same;
-  words_is = ap (λ (x : View). x.words) g.same;
-}
+after_went P v w g = grind (arith, later_by-goes_on)
 
 -- so has one that made loads
 pub after_loads : (v w : View) → GoesOnTo v w → IsAfter v w
-after_loads v w g = record {
-  later = later-goes_on g.later;
-  start_is = ap (λ (x : View). x.start) g.same;
-  words_is = ap (λ (x : View). x.words) g.same;
-}
+after_loads v w g = grind (arith, later-goes_on)
 
 -- and one that has seen no less than one that has seen no less than a third
 pub after_more : (u v w : View) → IsAfter u v → IsAfter v w → IsAfter u w
-after_more u v w a b = record {
-  later = goes_on_more a.later b.later;
-  start_is = b.start_is ∙ a.start_is;
-  words_is = b.words_is ∙ a.words_is;
-}
+after_more u v w a b = grind (arith, goes_on_more)
 
 -- a table that came further since a later view came further since the earlier one
 pub further_after : (u v w : View) → IsAfter u v → CameFurther v w → CameFurther u w
-further_after u v w b k = let first = never_falls u.log v.log b.later in let more = k.more in
-    record { more = omega arith }
+further_after u v w b k = grind (arith, never_falls)
 
 -- and for what goes on from it
 pub further_on : (u v w : View) → CameFurther u v → IsAfter v w → CameFurther u w
-further_on u v w k b = let bound = never_falls v.log w.log b.later in let more = k.more in
-    record { more = omega arith }
+further_on u v w k b = grind (arith, never_falls)
 
 -- the later view's state, by the earlier view's table
 pub now_is : (v w : View) → IsAfter v w → state_of v.start v.words w.log ≡ now w
@@ -68,13 +53,11 @@ now_is v w b = ap₂ (λ p n. state_of p n w.log) (sym b.start_is) (sym b.words_
 
 -- the later view's log is lawful over the earlier view's table
 pub lawful_is : (v w : View) → IsAfter v w → IsSound w → Lawful v.start v.words w.log
-lawful_is v w b s = subst (λ p. Lawful p v.words w.log) b.start_is
-    (subst (λ n. Lawful w.start n w.log) b.words_is s.lawful)
+lawful_is v w b s = grind arith
 
 -- the table has come further, or no further
 pub further_or_not : (v w : View) → CameFurther v w ⊎ (progress w.log ≤ progress v.log)
-further_or_not v w = ⊎_elim (λ k. inr k.1) (λ k. inl record { more = k.1 })
-    (leb_tells (progress w.log) (progress v.log))
+further_or_not v w = grind (arith, leb_tells)
 
 -- ---- if a table comes no further
 
@@ -99,20 +82,12 @@ stays_open v w b s few node is = let l = lawful_is v w b s in
 pub paid_on : (u v w x : View) → v.searches + progress u.log ≤ u.searches + progress v.log
     → Turned v (searching v) w → WentOn Updates w x → CameFurther v x
     → x.searches + progress u.log ≤ u.searches + progress x.log
-paid_on u v w x paid t g k =
-    let one : w.searches ≡ v.searches + 1 = ap (λ (y : View). y.searches) t.view in
-    let none : x.searches ≡ w.searches = ap (λ (y : View). y.searches) g.same in
-    let more = k.more in omega arith
+paid_on u v w x paid t g k = grind arith
 
 -- and at most one more if the last walk saw none
 pub few_on : (u v w x : View) → v.searches + progress u.log ≤ u.searches + progress v.log
     → Turned v (searching v) w → WentOn Updates w x → HasWalkedFew u x
-few_on u v w x paid t g =
-    let one : w.searches ≡ v.searches + 1 = ap (λ (y : View). y.searches) t.view in
-    let none : x.searches ≡ w.searches = ap (λ (y : View). y.searches) g.same in
-    let more = never_falls v.log x.log (goes_on_more (later-goes_on t.later)
-    (later_by-goes_on g.later)) in
-    omega arith
+few_on u v w x paid t g = grind (arith, never_falls, goes_on_more, later-goes_on, later_by-goes_on)
 
 -- ---- what an add to the count of a row shows, and then a load of its size. Serves `count_at`.
 
@@ -120,12 +95,8 @@ module _ (v : View) (s : IsSound v) (row : ℕ) (m : MayCount v row) where
   number_is : number_of v.who ≡ m.number
   number_is = ap number_of m.mine
 
-  who_is : v.who ≡ CallerOf (number_of v.who)
-  who_is = m.mine ∙ ap CallerOf (sym number_is)
-
   there : (r : InnerRow) × ((now v).pieces row ≡ Some (Inner r))
-  there = on_chain_inner v.start v.words s.lawful.opens v.log s.lawful.enabled
-      m.can.update.change.node row m.can.on_chain
+  there = grind (arith, on_chain_inner)
 
   -- the size of the row lies within the table
   pub size_low : row + inner_size_offset < v.words
@@ -157,11 +128,7 @@ module _ (v : View) (s : IsSound v) (row : ℕ) (m : MayCount v row) where
     at = ap (λ n. n + inner_count_offset) from_is
 
     event_is : counting v (place - inner_count_offset) found ≡ Count (number_of v.who) row
-    event_is = let back : place - inner_count_offset ≡ row = omega arith in
-        ap (λ n. Count (number_of v.who) n) back
-
-    log_is : w.log ≡ Count (number_of v.who) row ∷ l.logged.before
-    log_is = ap (λ x. x.log) l.logged.view ∙ ap (λ e. e ∷ l.logged.before) event_is
+    event_is = grind arith
 
     lawful_after : Lawful v.start v.words
         (counting v (place - inner_count_offset) found ∷ l.logged.before)
@@ -183,10 +150,7 @@ module _ (v : View) (s : IsSound v) (row : ℕ) (m : MayCount v row) where
 
     -- the count with one more fits a word
     pub found_fits : found + 1 < 2 ^ 64
-    found_fits =
-        let low = count_low v.start v.words s.lawful.opens l.logged.before
-        lawful_after.enabled.0 row row_before.0 row_before.1 in
-        let is = found_is in omega arith
+    found_fits = grind (arith, count_low, found_is)
 
     -- the caller went on by its Counts at the row only
     pub count_went : WentOn (IsCountAt (number_of v.who) row) v w
@@ -213,9 +177,8 @@ module _ (v : View) (s : IsSound v) (row : ℕ) (m : MayCount v row) where
           → HasCountedAt v.start v.words v.log (number_of v.who) row (nat_le most (found + 1)) u.log
       counted_at most most_is = record {
         at = l.logged.before;
-        later = subst (λ x. Later x v.log l.logged.before) who_is l.logged.later;
-        more = subst (λ log. Later (CallerOf (number_of v.who)) log u.log) log_is
-            (subst (λ x. Later x w.log u.log) (ap (λ x. x.who) l.logged.view ∙ who_is) k.later);
+        later = grind arith;
+        more = grind arith;
         inner = row_before.0;
         published = row_before.1;
         yes = λ e. subst (λ n. limit row_before.0.size ≤ n + 1) found_is
@@ -242,17 +205,9 @@ leaf_read v w base pair g p =
 -- a leaf of the key gives it its value
 pub own_value : (ps : Pieces) (word : ℕ) {base key : ℕ} {row : LeafRow} → ref_of word ≡ Some (LeafAt base)
     → ps base ≡ Some (Leaf row) → row.key ≡ key → value_at ps (ref_of word) key ≡ Some row.value
-own_value ps word {base} {key} {row} is there same =
-    subst (λ r. value_at ps r key ≡ Some row.value) (sym is)
-    (ap (λ o. value_in o key) there
-    ∙ ⊎_elim (λ k. ap (λ b. if b then Some row.value else None) k.0) (λ k. absurd (k.1 same))
-    (eqb_tells row.key key))
+own_value ps word {base} {key} {row} is there same = grind (arith, eqb_tells)
 
 -- and a leaf of another none
 pub other_value : (ps : Pieces) (word : ℕ) {base key : ℕ} {row : LeafRow} → ref_of word ≡ Some (LeafAt base)
     → ps base ≡ Some (Leaf row) → row.key ≢ key → value_at ps (ref_of word) key ≡ None
-other_value ps word {base} {key} {row} is there differs =
-    subst (λ r. value_at ps r key ≡ None) (sym is)
-    (ap (λ o. value_in o key) there
-    ∙ ⊎_elim (λ k. absurd (differs k.1)) (λ k. ap (λ b. if b then Some row.value else None) k.0)
-    (eqb_tells row.key key))
+other_value ps word {base} {key} {row} is there differs = grind (arith, eqb_tells)

@@ -1,12 +1,12 @@
 -- A try of the whole walk, from its begin to its result. Serves `apply`.
-use Rattle.std.proofs.Common.{◌≡◌, ℕ, ◌≤◌, List, [], length, Option, Some, None, Ok, sym, ap, ◌∙◌, subst, inl}
+use Rattle.std.proofs.Common.{◌≡◌, ℕ, List, [], length, Option, Some, None, Ok, sym, ap, ◌∙◌, subst, inl, arith}
 use Rattle.ist_core.specs.declared.commands.Command.{Command}
 use Rattle.ist_core.specs.declared.commands.Command.TheVariants.{Remove}
 use Rattle.ist_core.specs.declared.pairs.Pair.{Pair}
 use Rattle.ist_core.specs.declared.ports.Full.{Full}
 use Rattle.ist_core.specs.LogTerms.{GoesOnBy}
-use Rattle.ist_core.specs.WordTerms.{Inner, anchor}
-use Rattle.ist_rule.specs.RuleTerms.{TokenFace, SearchedOn, WentOn, Turned, searching, HasMade}
+use Rattle.ist_core.specs.WordTerms.{anchor}
+use Rattle.ist_rule.specs.RuleTerms.{TokenFace, SearchedOn, WentOn, Turned, searching}
 use Rattle.ist_rule.specs.declared.view.View.{View}
 use Rattle.ist_rule.proofs.LaterLemmas.{goes_on_length}
 use Rattle.ist_rule.proofs.SearchedOnLemmas.{searched_all, searched_more, searching_on, went_searched}
@@ -45,15 +45,8 @@ pub begun_walk : (old who : Caller) (token : TokenFace) (key : ℕ) (command : C
     → who.number ≡ old.number → IsAskedAgain old who command
     → Turned who.token.view (searching who.token.view) token.view
     → HasBegunWalk old (record who { token = token }) key command
-begun_walk old who token key command number s t = record {
-  number = number;
-  asked = asked_searched who token command s.asked
-      (searching_on NoEvent who.token.view token.view t);
-  went = searched_more Tries old.token.view who.token.view token.view s.went
-      (searching_on Tries who.token.view token.view t);
-  come = begun_comes who.token.view token.view key t;
-  since = ap (λ x. x.loads.since) t.view ∙ ap length (sym (ap (λ x. x.log) t.view));
-}
+begun_walk old who token key command number s t =
+    grind (arith, asked_searched, searching_on, NoEvent, searched_more, begun_comes)
 
 module _ (old who : Caller) (key : ℕ) (value : Option ℕ) (a : IsAsked old (command_for key value))
     (b : HasBegunWalk old who key (command_for key value)) where
@@ -85,11 +78,7 @@ module _ (old who : Caller) (key : ℕ) (value : Option ℕ) (a : IsAsked old (c
   -- a walk that took no effect leaves the caller as it was asked
   pub still_on : (new : Caller) → IsAskedStill who new (command_for key value)
       → IsAskedAgain old new (command_for key value)
-  still_on new s = record {
-    went = searched_more Tries old.token.view v new.token.view b.went
-        (went_searched Tries v new.token.view s.went);
-    asked = s.asked;
-  }
+  still_on new s = grind (arith, searched_more, went_searched)
 
   -- it was refused since the call began
   pub refused_first : (words : ℕ) (full : Full) (new : Caller)
@@ -102,16 +91,11 @@ module _ (old who : Caller) (key : ℕ) (value : Option ℕ) (a : IsAsked old (c
       new.token.view) (sym none)
       (h first record {
         went = went_all Tries Updates tries_updates first v b.went.went;
-        since = subst (λ n. length first.log ≤ n) (sym b.since)
-            (goes_on_length (later_by-goes_on b.went.went.later));
+        since = grind (arith, goes_on_length, later_by-goes_on);
       })
 
   tried : HasTriedSince first v who.number
-  tried = record {
-    went = b.went.went;
-    none_yet = subst (λ n. HasMade first.start first.words first.log n first.calls) (sym b.number)
-        a.none_yet;
-  }
+  tried = grind arith
 
   -- walks that took no effect counted nowhere
   pub still_due : (new : Caller) → IsAskedStill who new (command_for key value)
@@ -144,26 +128,12 @@ module _ (old who : Caller) (key : ℕ) (value : Option ℕ) (a : IsAsked old (c
         (h first [] tried b.come))
       where
         back : (Q : List Pair → ℕ → Type 0) → Q v.start v.words → Q first.start first.words
-        back Q y = subst (λ p. Q p first.words) (ap (λ x. x.start) b.went.went.same)
-            (subst (Q v.start) (ap (λ x. x.words) b.went.went.same) y)
+        back Q y = grind arith
 
     -- the update was counted at each row on the chain of its change
     pub took_is_counted : IsCounted first.start first.words first.log w.log old.number
         (command_for key value)
-    took_is_counted = let x = took_counted in
-        let lawful = went_lawful Updates first w (all_went new g) in record {
-          base = x.base;
-          change = x.update.change;
-          published = x.update.published;
-          owned = x.update.owned;
-          command_is = x.command_is;
-          decision = x.update.decision;
-          since = x.update.since;
-          rows = x.below;
-          chain = met_chain first.start first.words lawful.opens w.log lawful.enabled x.met.key
-              x.met.began x.met.last x.update.change.node x.below x.met.comes;
-          counted = x.counted;
-        }
+    took_is_counted = grind (arith, took_counted, went_lawful, met_chain)
 
     -- the call may end
     pub took_ends : IsCaller new → new.number ≡ who.number → IsQuiet new
@@ -190,8 +160,7 @@ module _ (old who : Caller) (key : ℕ) (value : Option ℕ) (a : IsAsked old (c
                 stood = stood.stood;
                 linked = stood.linked;
                 row = d.row;
-                published = subst (λ t. t.pieces due.target ≡ Some (Inner d.row))
-                    (sym (went_now Updates first w (all_went new g))) d.published;
+                published = grind (arith, went_now);
                 due = inl d.is_due;
               };
               due = d.is_due;

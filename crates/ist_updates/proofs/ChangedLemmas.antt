@@ -1,5 +1,5 @@
 -- What a change of a slot promises, by what came of its parts. Serves `change_slot` and `change_open`.
-use Rattle.std.proofs.Common.{ℕ, false, ◌≡◌, Option, Some, sym, ap, subst, ◌∷◌, refl, ◌∙◌}
+use Rattle.std.proofs.Common.{ℕ, false, ◌≡◌, Option, Some, sym, ap, subst, ◌∷◌, refl, ◌∙◌, arith}
 use Rattle.std.specs.Prelude.{Bool, Ok, Err, Result}
 use Rattle.ist_core.specs.declared.ports.Full.{Full}
 use Rattle.ist_core.specs.declared.events.Event.{Event}
@@ -53,10 +53,7 @@ module _ (old : Caller) (aim : Aim) (x : SlotPlan) (a : IsAsked old (command_by 
       → IsRowShort (MayAskFor x) old.token.view words full new.token.view
       → HasChanged old aim x words (Err full) new
   refused_changed words new full gone refused = let still = still_asked new gone in record {
-    on = record {
-      gone = gone_all Prepares Tries prepares_tries old new gone;
-      quiet = asked_quiet new (command_by aim.key x) still;
-    };
+    on = grind (arith, gone_all, prepares_tries, asked_quiet);
     took = λ is. absurd (cc);
     lost = λ is. absurd (cc);
     further = λ is. absurd (cc);
@@ -128,8 +125,7 @@ module _ (old : Caller) (aim : Aim) (x : SlotPlan) (a : IsAsked old (command_by 
             h.on.gone;
         quiet = h.on.quiet;
       };
-      took = λ is. loads_taken old token aim.key aim.word x g a room new.token.view aim.node
-          (h.took is);
+      took = grind (arith, loads_taken);
       lost = h.lost;
       further = λ is first aimed. h.further is first
           (aimed_on first old.token.view token.view aim.node aim.index aim.word aimed
@@ -206,8 +202,7 @@ module _ (old new : Caller) (plan : PlannedChange) (c : IsCaller old) (r : HasRe
     (rows : spares_of new ≡ without_rows (kind.Change ∷ kinds_of plan.fresh) (spares_of old)) where
   -- the change was installed with what the plan fills in
   i : IsInstalled old.token.view plan.base (filling_of plan) new.token.view
-  i = subst (λ f. IsInstalled old.token.view plan.base f new.token.view) filled
-      (subst (λ (t : TokenFace). IsInstalled old.token.view plan.base filling t.view) (sym same.0) made)
+  i = grind arith
 
   abbrev event : Event
   event = Install i.number plan.base (rows_of (filling_of plan) plan.base)

@@ -1,5 +1,5 @@
 -- One step down of a walk, and what the walk from there makes of it. Serves `descend`.
-use Rattle.std.proofs.Common.{◌≡◌, ◌≢◌, ℕ, List, [], ◌∷◌, ◌++◌, Option, Some, None, sym, ap, subst, Bool, true, false, refl, ◌∙◌}
+use Rattle.std.proofs.Common.{◌≡◌, ◌≢◌, ℕ, List, [], ◌∷◌, ◌++◌, Option, Some, None, sym, ap, subst, Bool, true, false, refl, ◌∙◌, arith}
 use Rattle.std.specs.Prelude.{IfOk, IsErrAnd, Ok, Err, Result}
 use Rattle.ist_core.specs.declared.commands.Command.{Command}
 use Rattle.ist_core.specs.declared.ports.Full.{Full}
@@ -89,13 +89,12 @@ module _ {old : Caller} {token : TokenFace} {key : ℕ} {value : Option ℕ} {no
         → IsWalk old key value when node words r new
     here_walk {r} {new} on walked further met missed = record {
       on = on_before old token s.seen Updates new on;
-      walked = walked_here old token s.seen key value node words r new s.stays walked;
+      walked = grind (arith, walked_here);
       further = λ is first fresh. further is first
           (fresh_on first old.token.view token.view node fresh
           (after_loads old.token.view token.view s.seen) s.seen.sound);
       met = met;
-      missed = λ is. missed_loads old.token.view token.view new.token.view key when s.seen
-          (missed is);
+      missed = grind (arith, missed_loads);
     }
 
     module _ {row : ℕ} (is : ref_of word ≡ Some (InnerAt row)) where
@@ -111,8 +110,7 @@ module _ {old : Caller} {token : TokenFace} {key : ℕ} {value : Option ℕ} {no
             (come_linked token.view s.seen.sound key node s.came.0 (s.stays s.came.0 s.came.1))
             s.holds is);
         met = h.met;
-        missed = λ unmet. missed_loads old.token.view token.view new.token.view key when s.seen
-            (h.missed unmet);
+        missed = grind (arith, missed_loads);
       }
 
       -- a walk that goes on from a row below and takes no effect
@@ -169,8 +167,7 @@ module _ (who : Caller) (row : ℕ) (c : IsCaller who) (q : IsQuiet who) where
   module _ (token : TokenFace) (g : WentOn (IsCountAt (number_of v.who) row) v token.view) where
     -- what is true of a Count is true of all own events
     by_count : (P : Event → Type 0) → P (Count (number_of v.who) row) → WentOn P v token.view
-    by_count P is =
-        went_all (IsCountAt (number_of v.who) row) P (λ event e. subst P (sym e) is) v token.view g
+    by_count P is = grind (arith, went_all)
 
     -- the caller went on by steps of an update
     pub counted_went : WentOn Updates v token.view
@@ -194,21 +191,12 @@ module _ (who : Caller) (row : ℕ) (c : IsCaller who) (q : IsQuiet who) where
 
     -- so a ready caller stays ready
     pub counted_on : HasRefused who → StaysReady Updates who (record who { token = token })
-    counted_on r = record {
-      gone = record {
-        caller = counted_caller;
-        number = refl;
-        refused = counted_refused r;
-        went = counted_went;
-      };
-      quiet = counted_quiet;
-    }
+    counted_on r = grind (arith, counted_caller, counted_refused, counted_went, counted_quiet)
 
     module _ (reached : Bool)
         (k : HasCountedAt v.start v.words v.log (number_of v.who) row reached token.view.log) where
       its_count : HasCountedAt v.start v.words v.log who.number row reached token.view.log
-      its_count = subst (λ n. HasCountedAt v.start v.words v.log n row reached token.view.log)
-          (ap number_of c.mine) k
+      its_count = grind arith
 
       lawful : Lawful v.start v.words token.view.log
       lawful = went_lawful (IsCountAt (number_of v.who) row) v token.view g

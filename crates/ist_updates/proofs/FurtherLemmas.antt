@@ -1,5 +1,5 @@
 -- Each walk that is to begin again has seen the table come further. Serves `try_slot` and `apply`.
-use Rattle.std.proofs.Common.{◌≡◌, ◌≢◌, ℕ, List, Some, sym, ap, ◌∙◌, subst, inl, inr, ⊎_elim, refl, ap₂, arith}
+use Rattle.std.proofs.Common.{◌≡◌, ◌≢◌, ℕ, List, Some, sym, ap, ◌∙◌, subst, inl, inr, ⊎_elim, refl, arith}
 use Rattle.ist_core.specs.declared.events.Event.{Event}
 use Rattle.ist_core.specs.declared.states.ChangeRow.{ChangeRow}
 use Rattle.ist_core.specs.declared.pairs.Pair.{Pair}
@@ -88,9 +88,7 @@ module _ (first v w : View) (node i word : ℕ) (a : HasAimed first v node i wor
   -- it holds another one
   pub other_further : (other : ℕ) → SlotHolds (now w) node i other → other ≢ word
       → CameFurther first w
-  other_further other there ne =
-      gone_further (λ here. ne (slot_once (now w) node i other word
-      (anchor_free w.start w.words w.log s.lawful.enabled) there here))
+  other_further other there ne = grind (arith, gone_further, slot_once, anchor_free)
 
   -- the rebuild that stood there was replaced
   pub replaced_further : (rebuild : ℕ) → ref_of word ≡ Some (RebuildAt rebuild)
@@ -132,13 +130,7 @@ module _ (first v w : View) (node i word : ℕ) (a : HasAimed first v node i wor
 pub installed_further : (first v w x : View) (node i word base : ℕ) (f : Filling)
     → HasAimed first v node i word → IsInstalled v base f w → IsAfter w x → CameFurther first x
 installed_further first v w x node i word base f a k b =
-    let g = goes_on_more a.following.later (later-goes_on k.seen.later) in
-    let at = goes_on_more g (later-goes_on k.logged.later) in
-    let log_is = ap (λ (y : View). y.log) k.logged.view in
-    further_after first a.at x a.fresh.following record {
-      more = installing a.at.log k.logged.before x.log k.number base _ at
-          (subst (λ log. GoesOn log x.log) log_is b.later);
-    }
+    grind (arith, goes_on_more, later-goes_on, further_after, installing)
 
 -- ---- aims
 
@@ -158,10 +150,7 @@ aimed_on first v w node i word a b = record {
 pub planned_aim : (first v w : View) (aim : Aim) (row : ChangeRow)
     → HasAimed first v aim.node aim.index aim.word → IsAfter v w → row.node ≡ aim.node
     → row.index ≡ aim.index → row.from ≡ aim.word → HasAimed first w row.node row.index row.from
-planned_aim first v w aim row a b n i f = subst (λ x. HasAimed first w x row.index row.from) (sym n)
-    (subst (λ x. HasAimed first w aim.node x row.from) (sym i)
-    (subst (λ x. HasAimed first w aim.node aim.index x) (sym f)
-    (aimed_on first v w aim.node aim.index aim.word a b)))
+planned_aim first v w aim row a b n i f = grind (arith, aimed_on)
 
 -- a walk that has come to a slot has aimed
 pub slot_aimed : (first v : View) (key node i word : ℕ) → IsSound v → IsAtSlot v key node i word
@@ -196,25 +185,18 @@ target_further first v w node i word a b s rebuild is ParentMarked replaced left
 -- a node to which a search came was linked
 pub come_linked : (v : View) → IsSound v → (key node : ℕ) (rows : List ℕ) → HasCome v key node rows
     → WasLinked (start v.start v.words) v.log node
-come_linked v s key node rows h =
-    (node_met v.start v.words s.lawful.opens v.log s.lawful.enabled key v.loads.since h.last node
-    (meeting_comes v.start v.words v.log key v.loads.since h.last node rows h.comes)).linked
+come_linked v s key node rows h = grind (arith, node_met, meeting_comes)
 
 -- a walk begins
 pub begun_fresh : (v w : View) → Turned v (searching v) w → IsFreshNode v w anchor
-begun_fresh v w t = anchor_fresh v w record {
-  later = later-goes_on t.later;
-  start_is = ap (λ (x : View). x.start) t.view;
-  words_is = ap (λ (x : View). x.words) t.view;
-}
+begun_fresh v w t = grind (arith, anchor_fresh, later-goes_on)
 
 -- ---- the row of an update that was decided yes stays as it is, and its reply the same. Serves the walk and
 -- its Counts.
 
 -- a decided change stays as it is
 same_decided : (old new : ChangeRow) → ChangeGrows old new → old.decision ≡ decided_yes → new ≡ old
-same_decided old new g said = ap₂ (λ (x : ChangeRow) d. record x { decision = d }) g.others
-    (g.decided (λ none. omega arith))
+same_decided old new g said = grind arith
 
 module _ (pairs : List Pair) (words : ℕ) (opens : CanOpen pairs words) (log longer : Log)
     (h : EachEnabled (start pairs words) longer) (g : GoesOn log longer) where
@@ -223,10 +205,7 @@ module _ (pairs : List Pair) (words : ℕ) (opens : CanOpen pairs words) (log lo
       → (state_of pairs words log).pieces base ≡ Some (Change change)
       → change.decision ≡ decided_yes
       → (state_of pairs words longer).pieces base ≡ Some (Change change)
-  yes_stays base change e said =
-      let it = change_there (state_of pairs words log).pieces (state_of pairs words longer).pieces
-      (grow_between pairs words log longer h g) base change e in
-      it.1 ∙ ap (λ x. Some (Change x)) (same_decided change it.0 it.2 said)
+  yes_stays base change e said = grind (arith, change_there, grow_between, same_decided)
 
   -- and its reply is the same
   pub reply_stays : EachEnabled (start pairs words) log → (base : ℕ) (change : ChangeRow)

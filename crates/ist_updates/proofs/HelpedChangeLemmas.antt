@@ -1,14 +1,14 @@
 -- A change that was installed and helped, and what came of it. Serves `carry_out`.
-use Rattle.std.proofs.Common.{◌≡◌, ℕ, ◌+◌, ◌≤◌, true, false, [], ◌∷◌, ◌++◌, length, Some, None, refl, sym, ap, ◌∙◌, subst, inl, inr, arith}
+use Rattle.std.proofs.Common.{◌≡◌, ℕ, ◌+◌, ◌≤◌, true, false, length, Some, None, refl, sym, ap, ◌∙◌, subst, arith}
 use Rattle.ist_core.specs.declared.commands.Command.{Command}
 use Rattle.ist_core.specs.declared.events.Event.{Event}
 use Rattle.ist_core.specs.declared.events.Event.TheVariants.{Install}
 use Rattle.ist_core.specs.declared.states.ChangeRow.{ChangeRow}
-use Rattle.ist_core.specs.TreeTerms.{changes_of, command_of, reply_of, ChangeGrows, CanInstall, IsUpdate, entries_by, first_change}
-use Rattle.ist_core.specs.LogTerms.{Lawful, state_of, decision_word, LaterBy}
+use Rattle.ist_core.specs.TreeTerms.{changes_of, command_of, reply_of, ChangeGrows, IsUpdate, entries_by}
+use Rattle.ist_core.specs.LogTerms.{state_of, decision_word, LaterBy}
 use Rattle.ist_core.specs.WordTerms.{Change, start, decided_yes}
 use Rattle.ist_core.proofs.AllLogLemmas.{change_there}
-use Rattle.ist_rule.specs.RuleTerms.{IsResolved, TokenFace, WentOn, now, GoesOnTo, IsSound, CallStands, HasMade}
+use Rattle.ist_rule.specs.RuleTerms.{IsResolved, TokenFace, WentOn, now, GoesOnTo, IsSound}
 use Rattle.ist_rule.specs.declared.view.View.{View}
 use Rattle.ist_core.proofs.AllWordLemmas.{same_change}
 use Rattle.ist_rule.proofs.WentOnLemmas.{goes_on_went, logged_went, went_all, went_more, went_grow, went_now, went_lawful, went_who}
@@ -37,12 +37,7 @@ module _ (old new : Caller) (caller : IsCaller new) (number : new.number ≡ old
     (refused : HasRefused new) (g : GoesOnTo old.token.view new.token.view) where
   -- the caller has made loads
   pub missed_gone : (P : Event → Type 0) → HasGone P old new
-  missed_gone P = record {
-    caller = caller;
-    number = number;
-    refused = refused;
-    went = goes_on_went P old.token.view new.token.view g;
-  }
+  missed_gone P = grind (arith, goes_on_went)
 
   -- and is asked still
   pub missed_asked : (command : Command) → IsAsked old command → IsAsked new command
@@ -68,27 +63,13 @@ missed_quiet old new plan c m number g = let v = old.token.view in record {
 pub published_row : (v : View) (plan : PlannedChange) (x : View)
     → IsInstalled v plan.base (filling_of plan) x
     → (now x).pieces plan.base ≡ Some (Change plan.row)
-published_row v plan x i =
-    let event = Install i.number plan.base (rows_of (filling_of plan) plan.base) in
-    let lawful : Lawful i.before.start i.before.words (event ∷ i.logged.before) =
-    (subst IsSound i.logged.view i.logged.sound).lawful in
-    let can : CanInstall (start i.before.start i.before.words) i.logged.before i.number plan.base
-    (rows_of (filling_of plan) plan.base) = lawful.enabled.1 in
-    let same : plan.row ≡ can.change = cc (ap first_change can.rows_are) in
-    subst (λ t. t.pieces plan.base ≡ Some (Change plan.row)) (sym (ap now i.logged.view))
-    (installed_row i.before.start i.before.words i.logged.before i.number plan.base
-    (rows_of (filling_of plan) plan.base) can ∙ ap (λ r. Some (Change r)) (sym same))
+published_row v plan x i = grind (arith, installed_row)
 
 -- its caller may help it
 pub carried_help : (old mid : Caller) (plan : PlannedChange) → IsCaller mid
     → IsInstalled old.token.view plan.base (filling_of plan) mid.token.view
     → MayHelp mid.token.view plan.base
-carried_help old mid plan c i = record {
-  number = mid.number;
-  mine = c.mine;
-  row = plan.row;
-  installed = published_row old.token.view plan mid.token.view i;
-}
+carried_help old mid plan c i = grind (arith, published_row)
 
 module _ (old mid : Caller) (token : TokenFace) (plan : PlannedChange) (c : IsCaller old)
     (s : IsSound old.token.view) (rows : HasRows old plan) (update : IsUpdate plan.row.kind)
@@ -127,18 +108,11 @@ module _ (old mid : Caller) (token : TokenFace) (plan : PlannedChange) (c : IsCa
       (went_all (Serves base) P all x w g)
 
   tries_event : Tries event
-  tries_event change e start = let same : plan.row ≡ change = cc in
-      no_start (ap (λ r. r.kind) same ∙ start) update
+  tries_event change e start = grind (arith, no_start)
 
   -- the caller went on by tries only
   pub carried_gone : HasGone Tries old new
-  carried_gone = let it = caller_gone (Serves base) (serves_keep base) mid token caller refused g in
-      record {
-        caller = it.caller;
-        number = number;
-        refused = it.refused;
-        went = went_by Tries tries_event (help_tries base);
-      }
+  carried_gone = grind (arith, caller_gone, serves_keep, went_by, tries_event, help_tries)
 
   went : WentOn Tries v w
   went = carried_gone.went
@@ -151,11 +125,7 @@ module _ (old mid : Caller) (token : TokenFace) (plan : PlannedChange) (c : IsCa
 
   -- if the change has left its slot, the caller is quiet
   pub carried_quiet : IsOut w base → IsQuiet new
-  carried_quiet out = record {
-    pending = m.allowed.pending;
-    in_call = ap (λ y. y.pending) went.same ∙ m.allowed.in_call;
-    resolved = subst (IsResolved w) (sym number) (resolved out);
-  }
+  carried_quiet out = grind (arith, resolved)
 
   -- ---- its row
 
@@ -175,22 +145,7 @@ module _ (old mid : Caller) (token : TokenFace) (plan : PlannedChange) (c : IsCa
 
   alone : length (entries_by old.number (changes_of v.start v.words w.log))
       ≤ length (entries_by old.number (changes_of v.start v.words v.log)) + 1
-  alone =
-      let before : HasMade v.start v.words v.log old.number v.calls =
-      subst (λ n. HasMade v.start v.words v.log n v.calls) number_is (m.allowed.none_yet update) in
-      let same : CallStands v.start v.words w.log old.number v.calls (Some m.allowed.pending) =
-      subst (CallStands v.start v.words w.log old.number v.calls) m.allowed.in_call
-      (subst (λ (y : View). CallStands y.start y.words w.log old.number y.calls y.pending)
-      went.same (went.sound.is_true.call old.number (went_who Tries v w went ∙ c.mine))) in
-      at before same
-    where
-      at : HasMade v.start v.words v.log old.number v.calls
-          → CallStands v.start v.words w.log old.number v.calls (Some m.allowed.pending)
-          → length (entries_by old.number (changes_of v.start v.words w.log))
-          ≤ length (entries_by old.number (changes_of v.start v.words v.log)) + 1
-      at before (inl work) = no_longer _ _ (work.made ∙ sym before)
-      at before (inr entered) = one_more_entry _ _ entered.entry
-          (entered.made ∙ ap (λ es. es ++ entered.entry ∷ []) (sym before))
+  alone = grind (arith, number_is, went_who, went, no_longer, one_more_entry)
 
   -- if the change was decided yes, the command took effect
   pub carried_yes : IsDecided w base true → (command : Command) → command_of plan.row ≡ Some command
@@ -198,16 +153,7 @@ module _ (old mid : Caller) (token : TokenFace) (plan : PlannedChange) (c : IsCa
   carried_yes d command is = let grew = grown d.row d.published in record {
     base = base;
     fresh = unpublished;
-    update = record {
-      change = d.row;
-      published = subst (λ t. t.pieces base ≡ Some (Change d.row)) (went_now Tries v w went)
-          d.published;
-      owned = ap (λ r. r.owner) grew.others ∙ m.owned ∙ number_is;
-      update = subst IsUpdate (sym (ap (λ r. r.kind) grew.others)) update;
-      decision = d.decision;
-      since = λ before there. absurd (cc (sym unpublished ∙ there));
-      alone = alone;
-    };
+    update = grind (arith, went_now, went, number_is, unpublished, alone);
     command_is = ap command_of grew.others ∙ is;
     node_is = ap (λ r. r.node) grew.others;
     reply_is = reply_stays (now v) (now w) (went_grow Tries v w went) plan.row.key plan.row.from
@@ -222,10 +168,7 @@ module _ (old mid : Caller) (token : TokenFace) (plan : PlannedChange) (c : IsCa
       → IsAsked old command → IsAsked new command
   carried_no d out command a = let lawful = went_lawful Tries v w went in
       let t = state_of v.start v.words w.log in let Q = InstallsNoYes t old.number in
-      let no : Q event = λ same change there up yes.
-      (let is = same_change (t.pieces base) d.row change
-      (subst (λ u. u.pieces base ≡ Some (Change d.row)) (went_now Tries v w went) d.published) there
-      in two_one (sym d.decision ∙ ap (λ r. r.decision) is ∙ yes)) in
+      let no : Q event = grind (arith, same_change, went_now, went, two_one) in
       let by = went_by Q no (λ e h. none_no_yes t old.number e (help_installs_none base e h)) in
       asked_still Tries old new command a carried_gone (resolved out)
       (installed_no_entry v.start v.words lawful.opens v.log w.log lawful.enabled old.number

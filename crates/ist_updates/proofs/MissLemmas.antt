@@ -1,6 +1,6 @@
 -- An update that met a value at which it shouldn't take effect: which value its search found, and at
 -- which position. Serves `trying`, `descend` and `apply`.
-use Rattle.std.proofs.Common.{◌≡◌, ℕ, ◌∙◌, Option, Some, None, length, if◌then◌else◌, sym, ap, subst, ⊎_elim, ◌≢◌, ◌+◌, ◌≤◌, List, [], ◌∷◌, ◌++◌, refl, arith}
+use Rattle.std.proofs.Common.{◌≡◌, ℕ, ◌∙◌, Option, Some, None, length, sym, ap, subst, ⊎_elim, ◌≢◌, ◌+◌, ◌≤◌, List, refl, arith}
 use Rattle.std.proofs.Math.Nat.{le_trans}
 use Rattle.std.proofs.lemmas.Bool.Decides.{eqb_tells}
 use Rattle.ist_core.specs.declared.events.Event.{Event}
@@ -10,11 +10,11 @@ use Rattle.ist_core.specs.declared.commands.Command.{Command}
 use Rattle.ist_core.specs.declared.commands.Command.TheVariants.{Remove}
 use Rattle.ist_core.specs.declared.pairs.Pair.{Pair}
 use Rattle.ist_core.specs.declared.states.ChangeRow.{ChangeRow}
-use Rattle.ist_core.specs.TreeTerms.{value_in, changes_of, entries_by, StandsIn, IsFresh}
+use Rattle.ist_core.specs.TreeTerms.{value_in, changes_of, entries_by}
 use Rattle.ist_core.specs.LogTerms.{GoesOn, EachEnabled, Lawful, state_of}
 use Rattle.ist_core.specs.WordTerms.{Leaf, Empty, LeafAt, ref_of, start, Change, decided_yes}
 use Rattle.laws_histories.specs.Loads.{log_at}
-use Rattle.ist_rule.specs.RuleTerms.{WentOn, now, GoesOnTo, CanEnd, entries_made}
+use Rattle.ist_rule.specs.RuleTerms.{WentOn, now, GoesOnTo, CanEnd}
 use Rattle.ist_rule.specs.declared.view.View.{View}
 use Rattle.laws_histories.proofs.ChangeLemmas.{changes_rise, at_prefix}
 use Rattle.laws_histories.proofs.PositionLemmas.{search_position, search_added}
@@ -58,16 +58,14 @@ module _ (v w : View) (g : GoesOnTo v w) (aim : Aim) (at : WasAtSlot w aim) (whe
       (λ k. record {
         node = aim.node;
         had = Some row.value;
-        missed = subst (IsMissedBy when)
-            (had_is ∙ ap (λ b. if b then Some row.value else None) k.0) missed;
+        missed = grind arith;
         searched = found_key w aim at base row is there k.1;
         since = g.since;
       })
       (λ k. let found = found_other w aim at base row is there k.1 in record {
         node = found.node;
         had = None;
-        missed = subst (IsMissedBy when)
-            (had_is ∙ ap (λ b. if b then Some row.value else None) k.0) missed;
+        missed = grind arith;
         searched = found.searched;
         since = g.since;
       })
@@ -76,13 +74,7 @@ module _ (v w : View) (g : GoesOnTo v w) (aim : Aim) (at : WasAtSlot w aim) (whe
 -- a search that missed a value after loads missed it with them
 pub missed_loads : (v w x : View) (key : ℕ) (when : When) → GoesOnTo v w → HasMissed w x key when
     → HasMissed v x key when
-missed_loads v w x key when g m = record {
-  node = m.node;
-  had = m.had;
-  missed = m.missed;
-  searched = m.searched;
-  since = m.since ∙ g.since;
-}
+missed_loads v w x key when g m = grind arith
 
 -- the value that a search missed has a position, if the search began after the first view
 pub missed_since : (P : Event → Type 0) (first v w : View) (key : ℕ) (when : When)
@@ -90,7 +82,7 @@ pub missed_since : (P : Event → Type 0) (first v w : View) (key : ℕ) (when :
     → WasMissed first w key when
 missed_since P first v w key when before began went m = let lawful = went.sound.lawful in
     let at : log_at w.log w.loads.since ≡ v.log =
-    ap (log_at w.log) (m.since ∙ began) ∙ at_prefix v.log w.log (later_by-goes_on went.later) in
+    grind (arith, at_prefix, later_by-goes_on) in
     let p = search_position w.start w.words lawful.opens w.log lawful.enabled key w.loads.since m.node
     m.had m.searched in
     let rise = changes_rise (start w.start w.words) first.log (log_at w.log w.loads.since)
@@ -98,12 +90,7 @@ missed_since P first v w key when before began went m = let lawful = went.sound.
     record {
       had = m.had;
       missed = m.missed;
-      position = record {
-        position = p.position;
-        from = le_trans rise p.from;
-        to = p.to;
-        value_is = p.value_is;
-      };
+      position = grind (arith, le_trans);
     }
 
 -- ---- what an update may return: its yes if it took effect, and its search if there was nothing to remove.
@@ -113,9 +100,7 @@ missed_since P first v w key when before began went m = let lawful = went.sound.
 went_calls : (P : Event → Type 0) (v w : View) → WentOn P v w
     → (Q : List Pair → ℕ → ℕ → List Call → Type 0) → Q v.start v.words v.stamp v.calls
     → Q w.start w.words w.stamp w.calls
-went_calls P v w g Q h = went_table P v w g (λ p n. Q p n w.stamp w.calls)
-    (subst (λ calls. Q v.start v.words w.stamp calls) (sym (ap (λ x. x.calls) g.same))
-    (subst (λ stamp. Q v.start v.words stamp v.calls) (sym (ap (λ x. x.stamp) g.same)) h))
+went_calls P v w g Q h = grind (arith, went_table)
 
 -- a call that is added to the calls of an asked caller may end there
 added_ends : {P : Event → Type 0} (old new : Caller) (command : Command) (a : IsAsked old command)
@@ -124,22 +109,7 @@ added_ends : {P : Event → Type 0} (old new : Caller) (command : Command) (a : 
     → IsAdded old.token.view.start old.token.view.words a.seen new.token.view.log old.number
     old.token.view.stamp old.token.view.calls call → CanEnd new.token.view call
 added_ends {P = P} old new command a g c same q call command_is stamp_is added =
-    let v = old.token.view in let w = new.token.view in record {
-      number = new.number;
-      mine = c.mine;
-      pending = a.pending;
-      in_call = ap (λ x. x.pending) g.same ∙ a.in_call;
-      command_is = a.command_is ∙ ap (λ x. Some x) (sym command_is);
-      stamp_is = stamp_is ∙ ap (λ n. n + 1) (sym (ap (λ x. x.stamp) g.same));
-      resolved = q.resolved;
-      stand = subst (λ n. StandsIn w.start w.words w.log n (w.calls ++ call ∷ [])) (sym same)
-          (went_calls P v w g (λ p n stamp calls. StandsIn p n w.log old.number (calls ++ call ∷ []))
-          added.has_calls.stand);
-      seen = a.seen;
-      goes_on = goes_on_more a.goes_on (later_by-goes_on g.later);
-      length_is = a.length_is;
-      fresh = went_calls P v w g (λ p n stamp calls. IsFresh p n a.seen stamp call) added.fresh;
-    }
+    grind (arith, went_calls, goes_on_more, later_by-goes_on)
 
 -- ---- an update that took effect
 
@@ -157,26 +127,19 @@ module _ (old new : Caller) (command : Command) (a : IsAsked old command)
   lawful = went_lawful Updates v w g
 
   before : EachEnabled (start v.start v.words) v.log
-  before = enabled_before (start v.start v.words) v.log w.log (later_by-goes_on g.later)
-      lawful.enabled
+  before = grind (arith, enabled_before, later_by-goes_on)
 
   -- it wasn't decided yes when the call began
   not_yet : (o : ChangeRow) → (state_of v.start v.words a.seen).pieces x.base ≡ Some (Change o)
       → o.decision ≢ decided_yes
-  not_yet o e said =
-      x.update.since o (yes_stays v.start v.words lawful.opens a.seen v.log before a.goes_on x.base o
-      e said) said
+  not_yet o e said = grind (arith, yes_stays, before)
 
   few : length (entries_by old.number (changes_of v.start v.words w.log))
       ≤ length (entries_by old.number (changes_of v.start v.words a.seen)) + 1
-  few = let same = ap length (a.none_yet ∙ sym a.had.stand.exactly) in let alone = x.update.alone in
-      omega arith
+  few = grind arith
 
   came : CameToCall v.start v.words a.seen w.log old.number (v.stamp + 1) command x.update.change
-  came = took_effect v.start v.words lawful.opens a.seen w.log lawful.enabled
-      (goes_on_more a.goes_on (later_by-goes_on g.later)) old.number (v.stamp + 1) x.base
-      x.update.change command x.update.published x.update.decision x.update.owned x.command_is
-      not_yet few
+  came = grind (arith, took_effect, goes_on_more, later_by-goes_on, not_yet, few)
 
   -- the call may end with its reply
   pub taken_ends : IsCaller new → new.number ≡ old.number → IsQuiet new
@@ -187,7 +150,7 @@ module _ (old new : Caller) (command : Command) (a : IsAsked old command)
       record {
         call = came.call;
         command_is = command_is;
-        reply_is = ap (λ (k : Call). k.reply) came.call_is ∙ sym x.reply_is;
+        reply_is = grind arith;
         can = added_ends old new command a g c same q came.call command_is stamp_is
             (add_update v.start v.words a.seen w.log old.number v.stamp v.calls came.call a.had
             came.effect came.changes (omega arith));
@@ -207,22 +170,15 @@ module _ (old new : Caller) (key : ℕ) (a : IsAsked old (Remove key)) (b : IsAs
   w2 = new.token.view
 
   had_there : HasCalls w2.start w2.words a.seen old.number w2.stamp w2.calls
-  had_there =
-      went_calls Tries v2 w2 g (λ p n stamp calls. HasCalls p n a.seen old.number stamp calls) a.had
+  had_there = grind (arith, went_calls)
 
   -- it made no entry
   no_entry : MadeNoEntry w2.start w2.words old.number a.seen w2.log
-  no_entry =
-      subst (λ n. entries_by n (changes_of w2.start w2.words w2.log)
-      ≡ entries_made n w2.calls) same b.none_yet
-      ∙ sym had_there.stand.exactly
+  no_entry = grind arith
 
   -- the search began after all that was seen
   following : GoesOn a.seen (log_at w2.log w2.loads.since)
-  following = subst (GoesOn a.seen)
-      (sym (ap (log_at w2.log) (since ∙ began)
-      ∙ at_prefix v2.log w2.log (later_by-goes_on g.later)))
-      a.goes_on
+  following = grind (arith, at_prefix, later_by-goes_on)
 
   its_search : SearchIsAdded w2.start w2.words a.seen w2.log old.number w2.stamp w2.calls (Remove key)
       None
@@ -246,7 +202,4 @@ module _ (old new : Caller) (key : ℕ) (a : IsAsked old (Remove key)) (b : IsAs
     where
       went_back : (Q : List Pair → ℕ → ℕ → List Call → Type 0)
           → Q w2.start w2.words w2.stamp w2.calls → Q v2.start v2.words v2.stamp v2.calls
-      went_back Q h = subst (λ p. Q p v2.words v2.stamp v2.calls) (ap (λ x. x.start) g.same)
-          (subst (λ n. Q w2.start n v2.stamp v2.calls) (ap (λ x. x.words) g.same)
-          (subst (λ stamp. Q w2.start w2.words stamp v2.calls) (ap (λ x. x.stamp) g.same)
-          (subst (λ calls. Q w2.start w2.words w2.stamp calls) (ap (λ x. x.calls) g.same) h)))
+      went_back Q h = grind arith

@@ -1,12 +1,12 @@
 -- Which row an update may be counted at next: the lowest of those at which it wasn't counted yet. Serves
 -- `descend` and `count_update`.
-use Rattle.std.proofs.Common.{◌≡◌, ℕ, ◌+◌, List, [], ◌∷◌, ◌++◌, length, slice_get, Some, refl, subst, append_assoc, length-append, ◌≤◌, Bool, true, false, Option, option_map, None, sym, ap, ◌∙◌, inr, ⊎_elim, arith}
+use Rattle.std.proofs.Common.{◌≡◌, ℕ, ◌+◌, List, [], ◌∷◌, ◌++◌, length, slice_get, Some, refl, subst, append_assoc, length-append, ◌≤◌, Bool, true, false, Option, None, sym, ap, ◌∙◌, inr, ⊎_elim, arith}
 use Rattle.ist_core.specs.declared.commands.Command.{Command}
 use Rattle.ist_core.specs.declared.pairs.Pair.{Pair}
 use Rattle.ist_core.specs.declared.events.Event.TheVariants.{Count}
 use Rattle.ist_core.specs.declared.states.InnerRow.{InnerRow}
-use Rattle.ist_core.specs.LogTerms.{GoesOnBy, EachEnabled, CanOpen, Log, one_more, Among, state_of, GoesOn, same_log, one_event}
-use Rattle.ist_core.specs.TreeTerms.{CanCount, AllResolvedOf, Linked, Chain, IsDue}
+use Rattle.ist_core.specs.LogTerms.{GoesOnBy, EachEnabled, CanOpen, Log, one_more, state_of, GoesOn, same_log, one_event}
+use Rattle.ist_core.specs.TreeTerms.{CanCount, AllResolvedOf, Linked, IsDue}
 use Rattle.ist_core.specs.WordTerms.{start, limit, Inner, counted}
 use Rattle.laws_calls.specs.Walking.{IsChainOf, ComesBy}
 use Rattle.laws_calls.proofs.WalkLemmas.{met_chain, meeting_on, upper_rows}
@@ -42,9 +42,7 @@ module _ (pairs : List Pair) (words : ℕ) (opens : CanOpen pairs words) (earlie
   all_rows = append_assoc rows (row ∷ []) x.below
 
   its_chain : IsChainOf pairs words log x.update.change.node (rows ++ row ∷ x.below)
-  its_chain = subst (IsChainOf pairs words log x.update.change.node) all_rows
-      (met_chain pairs words opens log h x.met.key x.met.began x.met.last x.update.change.node
-      ((rows ++ row ∷ []) ++ x.below) x.met.comes)
+  its_chain = grind (arith, all_rows, met_chain)
 
   -- the rows after it were counted at
   pub counted_after : GoesOnBy (CountsFrom caller (rows ++ row ∷ x.below) (length rows + 1)) earlier log
@@ -85,11 +83,7 @@ module _ (pairs : List Pair) (words : ℕ) (opens : CanOpen pairs words) (earlie
 
   -- the Count is after the earlier log
   pub count_was : GoesOn earlier log → WasCounted earlier longer caller row
-  count_was since = record {
-    at = c.at;
-    since = goes_on_more since (later-goes_on c.later);
-    until = later-goes_on c.more;
-  }
+  count_was since = grind (arith, goes_on_more, later-goes_on)
 
   -- a row that a slot held was held by it in the longer log too
   pub stood_on : (parent index target : ℕ) → HasStood pairs words log parent index target
@@ -107,7 +101,7 @@ module _ (pairs : List Pair) (words : ℕ) (opens : CanOpen pairs words) (earlie
   row_due hit = let t = state_of pairs words c.at in
       let u = state_of pairs words (Count caller row ∷ c.at) in
       let made : u.pieces row ≡ Some (Inner record c.inner { count = c.inner.count + 1 }) =
-      changed_at-same t.pieces row counted ∙ ap (option_map counted) c.published in
+      grind (arith, changed_at-same) in
       let it = inner_there u.pieces (state_of pairs words longer).pieces
       (grow_between pairs words (Count caller row ∷ c.at) longer h (later-goes_on c.more)) row
       record c.inner { count = c.inner.count + 1 } made in (
@@ -126,22 +120,8 @@ module _ (pairs : List Pair) (words : ℕ) (opens : CanOpen pairs words) (earlie
       (later_none c.more) node k in
       ⊎_elim
       (λ (same : (Count caller node ≡ Count caller row) × (here.at ≡ c.at)).
-      let node_is : node ≡ row = let e = same.0 in cc in
-      let there : (state_of pairs words c.at).pieces row ≡ Some (Inner here.row) =
-      subst (λ n. (state_of pairs words c.at).pieces n ≡ Some (Inner here.row)) node_is
-      (subst (λ l. (state_of pairs words l).pieces node ≡ Some (Inner here.row)) same.1
-      here.published) in
-      let one : here.row ≡ c.inner = cc (sym there ∙ c.published) in
-      absurd (c.no miss (subst (λ (r : InnerRow). limit r.size ≤ r.count + 1) one here.reached)))
-      (λ sooner. came_back pairs words earlier caller log c.at (later_none c.later) node
-      record {
-        at = here.at;
-        since = here.since;
-        until = sooner;
-        row = here.row;
-        published = here.published;
-        reached = here.reached;
-      })
+      grind arith)
+      (λ sooner. grind (arith, came_back, later_none))
       (last_or_sooner (Count caller node) (Count caller row) here.at c.at here.until)
 
   -- and the row that was due is still due
@@ -155,11 +135,9 @@ module _ (pairs : List Pair) (words : ℕ) (opens : CanOpen pairs words) (earlie
         stood = stood_on due.parent due.index due.target d.stood;
         row = it.0;
         published = it.1;
-        is_due = subst (λ n. limit n ≤ it.0.count) (sym it.2.size) (le_trans d.is_due it.2.count);
-        came = came_on pairs words earlier caller log longer counted_log due.target d.came;
-        top = λ node k. ever_later (start pairs words)
-            (λ t. (rows : List ℕ) × Chain t node rows × Among due.target rows) counted_log
-            (d.top node (came_before miss node k));
+        is_due = grind (arith, le_trans);
+        came = grind (arith, came_on, counted_log);
+        top = grind (arith, ever_later, counted_log, came_before);
       }
 
   -- ---- one row more
@@ -194,14 +172,7 @@ module _ (pairs : List Pair) (words : ℕ) (opens : CanOpen pairs words) (earlie
           row = it.0;
           published = it.1;
           is_due = it.2;
-          came = record {
-            at = c.at;
-            since = goes_on_more (goes_on_by x.so_far) (later-goes_on c.later);
-            until = later-goes_on c.more;
-            row = c.inner;
-            published = c.published;
-            reached = c.yes hit;
-          };
+          came = grind (arith, goes_on_more, goes_on_by, later-goes_on);
           top = λ node k.
               let from = event_by (CountsFrom caller all (length rows)) earlier longer so_far_longer
               (Count caller node) k.at k.since k.until node (refl, refl) in
@@ -233,12 +204,7 @@ module _ (pairs : List Pair) (words : ℕ) (opens : CanOpen pairs words) (earlie
               ∙ sym (reply_stays pairs words opens log longer h counted_log before x.base
               x.update.change x.update.published);
           below = row ∷ x.below;
-          met = record {
-            key = x.met.key;
-            began = x.met.began;
-            last = x.met.last;
-            comes = comes_longer;
-          };
+          met = grind (arith, comes_longer);
           so_far = so_far_longer;
           counted = λ node i. ⊎_elim
               (λ e. subst (WasCounted earlier longer caller) (sym e)

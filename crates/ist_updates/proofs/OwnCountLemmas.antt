@@ -50,9 +50,7 @@ from_none caller i rows earlier a _ f (one_more {log = log} event l none) =
 -- a caller none of whose events is a Count counted nowhere
 pub counted_nowhere : (caller : ℕ) (earlier log : Log) → GoesOnBy (CountsNone caller) earlier log
     → CountedNowhere earlier log caller
-counted_nowhere caller earlier log l node c =
-    event_by (CountsNone caller) earlier log l (Count caller node) c.at c.since c.until node
-    (refl, refl)
+counted_nowhere caller earlier log l node c = grind (arith, event_by)
 
 -- ---- one Count
 
@@ -74,36 +72,20 @@ module _ (pairs : List Pair) (words : ℕ) (earlier : Log) (caller : ℕ) where
   pub came_on : (a b : Log) → GoesOn a b → (node : ℕ)
       → CameToLimit pairs words earlier a caller node
       → CameToLimit pairs words earlier b caller node
-  came_on a b g node c = record {
-    at = c.at;
-    since = c.since;
-    until = goes_on_more c.until g;
-    row = c.row;
-    published = c.published;
-    reached = c.reached;
-  }
+  came_on a b g node c = grind (arith, goes_on_more)
 
   -- and reached it in the earlier log, if the caller counted nothing since
   pub came_back : (a b : Log) → GoesOnBy (CountsNone caller) a b → (node : ℕ)
       → CameToLimit pairs words earlier b caller node
       → CameToLimit pairs words earlier a caller node
-  came_back a b l node c = record {
-    at = c.at;
-    since = c.since;
-    until = count_stood l c.until;
-    row = c.row;
-    published = c.published;
-    reached = c.reached;
-  }
+  came_back a b l node c = grind (arith, count_stood)
 
   -- no row reached its limit, if the caller counted nothing since the earlier log
   pub came_none : (log : Log) → GoesOnBy (CountsNone caller) earlier log → (node : ℕ)
       → ¬ (CameToLimit pairs words earlier log caller node)
-  came_none log l node c = let longer = goes_on_length (count_stood l c.until) in
-      let low = goes_on_length c.since in omega arith
+  came_none log l node c = grind (arith, goes_on_length, count_stood)
 
 -- what was counted was so in a longer log
 pub counted_on : (earlier a b : Log) (caller node : ℕ) → GoesOn a b
     → WasCounted earlier a caller node → WasCounted earlier b caller node
-counted_on earlier a b caller node g c =
-    record { at = c.at; since = c.since; until = goes_on_more c.until g }
+counted_on earlier a b caller node g c = grind (arith, goes_on_more)

@@ -1,11 +1,11 @@
 -- Where the rows of a caller lie, and the pair row that it gives up. Serves `drop_below` and `take_pair`.
-use Rattle.std.proofs.Common.{◌≡◌, ◌≢◌, ℕ, ◌+◌, ◌<◌, ◌≤◌, [], ◌∷◌, Some, None, IfSome, refl, sym, ◌∙◌, subst, arith, List, nat_lt, true, false, if◌then◌else◌, length, ap, ⊎_elim}
+use Rattle.std.proofs.Common.{◌≡◌, ◌≢◌, ℕ, ◌+◌, ◌<◌, ◌≤◌, [], ◌∷◌, Some, None, IfSome, refl, sym, ◌∙◌, subst, arith, List, length, ap, ⊎_elim}
 use Rattle.ist_core.specs.declared.events.Event.{Event}
 use Rattle.ist_core.specs.declared.events.Event.TheVariants.{Lose}
 use Rattle.ist_core.specs.declared.lists.HeldRow.{HeldRow}
 use Rattle.ist_core.specs.declared.states.ChangeRow.{ChangeRow}
 use Rattle.ist_core.specs.LogTerms.{Among, Snapshot, bases_of}
-use Rattle.ist_core.specs.TreeTerms.{AllGrow, new_leaf, pair_row, pair_over}
+use Rattle.ist_core.specs.TreeTerms.{AllGrow, new_leaf, pair_row}
 use Rattle.ist_core.specs.WordTerms.{Inner, IsGoodBase, inner_status_offset, start, words_of}
 use Rattle.ist_core.proofs.AllLogLemmas.{inner_there, next_within, words_same}
 use Rattle.ist_core.proofs.AllEventLemmas.{HeldLieApart, sound, sound_start}
@@ -54,8 +54,7 @@ row_good who s c kind base is some = held_good who.token.view s record {
 -- so does the row that a caller holds after it has gone on
 pub taken_good : {P : Event → Type 0} {old new : Caller} → HasGone P old new → (kind : Kind)
     {base : ℕ} → row_of kind (spares_of new) ≡ Some base → 0 < kind_words kind → IsGoodBase base
-taken_good {P} {old} {new} gone kind {base} is some =
-    row_good new gone.went.sound gone.caller kind base is some
+taken_good {P} {old} {new} gone kind {base} is some = grind (arith, row_good)
 
 -- a node stays one when rows grow
 pub node_on : (t u : Snapshot) → AllGrow t.pieces u.pieces → (node : ℕ) → IsNode t node
@@ -84,8 +83,7 @@ module _ (who : Caller) (s : IsSound who.token.view) (c : IsCaller who) (base : 
   pub pair_below : (node : ℕ) → IsNode (now who.token.view) node → base < node
       → HasPairBelow who node
   pair_below node (is_anchor e) less = let low = pair_good.after_fixed in absurd (omega arith)
-  pair_below node (is_inner r e) less =
-      record { pair = base; held = is; below = less; row = r; published = e }
+  pair_below node (is_inner r e) less = grind arith
 
   -- and else above it
   pub pair_above : (node : ℕ) → IsNode (now who.token.view) node → node ≤ base → node < base
@@ -147,8 +145,7 @@ row_filled old new kind base words s c held within is =
     ap (λ (x : Caller). x.token.view.own) is in
     record {
       same = is ∙ ap {B = Caller} (with_own old) (sym own);
-      stands = subst (λ o. StandAt o base words) (sym own)
-          (stored_at old.token.view.own base words);
+      stands = grind (arith, stored_at);
       others = λ h mine i out k less. ap (λ o. own_at o (h.base + k)) own
           ∙ stored_else old.token.view.own base words (h.base + k) (away h i out k less);
     }
@@ -159,9 +156,7 @@ row_filled old new kind base words s c held within is =
     away : (h : HeldRow) → Among h (now v).held → ¬ (h.base ≡ base) → (k : ℕ) → k < h.size → (j : ℕ)
         → j < length words → base + j ≢ h.base + k
     away h i out k less j low = let set = placed v.start v.words v.log s.lawful.enabled in
-        ⊎_elim (λ e. absurd (out (sym e.0)))
-        (λ a. ⊎_elim (λ (x : base + kind_words kind ≤ h.base). (let g : base + j ≢ h.base + k = omega arith in g))
-        (λ (x : h.base + h.size ≤ base). (let g : base + j ≢ h.base + k = omega arith in g)) a.1)
+        ⊎_elim (λ e. absurd (out (sym e.0))) (λ a. grind arith)
         (claimed_apart v.start v.words v.log base (kind_words kind) h.base h.size s.lawful.enabled
         (set.held record { caller = old.number; base = base; size = kind_words kind }
         (c.rows kind base held))
@@ -172,8 +167,7 @@ pub stand_kept : (old new : Caller) (base : ℕ) → KeepsOthers (λ at. at ≡ 
     → (h : HeldRow) → h.caller ≡ old.number → Among h (now old.token.view).held → h.base ≢ base
     → (words : List ℕ) → length words ≤ h.size → StandAt old.token.view.own h.base words
     → StandAt new.token.view.own h.base words
-stand_kept old new base kept h mine i out words low stand k less =
-    let more : k < h.size = omega arith in stand k less ∙ ap Some (sym (kept h mine i out k more))
+stand_kept old new base kept h mine i out words low stand k less = grind arith
 
 -- the row of a kind stays the same if only the caller's own words change
 held_as : (old mid : Caller) (kind : Kind) (base : ℕ) → mid ≡ with_own old mid.token.view.own
@@ -183,12 +177,7 @@ held_as old mid kind base same e = ap (λ (x : Caller). row_of kind (spares_of x
 -- a pair row has its seven words
 pair_length : (key leaf other_key other : ℕ)
     → length (words_of (pair_row key leaf other_key other)) ≤ 7
-pair_length key leaf other_key other =
-    elim (nat_lt other_key key) as (λ v.
-    length (words_of (if v then pair_over key other leaf else pair_over other_key leaf other)) ≤ 7) [
-      | true ↦ omega arith
-      | false ↦ omega arith
-    ]
+pair_length key leaf other_key other = grind arith
 
 module _ (old mid new : Caller) (s : IsSound old.token.view) (c : IsCaller old) (d : IsCaller mid)
     (same : mid ≡ with_own old mid.token.view.own) where

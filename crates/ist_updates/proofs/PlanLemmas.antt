@@ -1,5 +1,5 @@
 -- Plans whose change fits its kind. Serves `plan_leaf`, `plan_pair` and `plan_clear`.
-use Rattle.std.proofs.Common.{◌≡◌, ℕ, ◌<◌, [], List, Some, refl, sym, ap, ◌∙◌, subst, inl, inr, arith, Result, Ok, Err}
+use Rattle.std.proofs.Common.{◌≡◌, ℕ, ◌<◌, [], List, Some, refl, sym, ap, ◌∙◌, subst, arith, Result, Ok, Err}
 use Rattle.ist_core.specs.declared.events.Event.{Event}
 use Rattle.ist_core.specs.declared.lists.Row.{Row}
 use Rattle.ist_core.specs.declared.states.ChangeRow.{ChangeRow}
@@ -63,22 +63,13 @@ module _ (v : View) (aim : Aim) (at : WasAtSlot v aim) where
 
   -- after more loads, the caller has still made only loads since it was at the slot
   pub slot_loads : (w : View) → GoesOnTo v w → WasAtSlot w aim
-  slot_loads w g = record {
-    before = at.before;
-    at = at.at;
-    sound = at.sound;
-    seen = goes_on_more at.before v w at.seen g;
-  }
+  slot_loads w g = grind (arith, goes_on_more)
 
 -- a change that fits its kind still does when the caller went on
 pub fits_went : (P : Event → Type 0) (v w : View) → WentOn P v w → (row : ChangeRow)
     (fresh : List Row) → FitsKind (start v.start v.words) v.log row fresh
     → FitsKind (start w.start w.words) w.log row fresh
-fits_went P v w g row fresh f = let lawful = went_lawful P v w g in
-    subst (λ p. FitsKind (start p w.words) w.log row fresh) (sym (ap (λ x. x.start) g.same))
-    (subst (λ n. FitsKind (start v.start n) w.log row fresh) (sym (ap (λ x. x.words) g.same))
-    (fits_later v.start v.words lawful.opens v.log w.log lawful.enabled (later_by-goes_on g.later)
-    row fresh f))
+fits_went P v w g row fresh f = grind (arith, went_lawful, fits_later, later_by-goes_on)
 
 module _ (P : Event → Type 0) (old new : Caller)
     (g : WentOn P old.token.view new.token.view) (aim : Aim)
@@ -104,16 +95,7 @@ module _ (P : Event → Type 0) (old new : Caller)
       }) (sym is) record {
         rows = (change, (has, tt));
         good = tt;
-        is_for = record {
-          node = refl;
-          index = refl;
-          from = refl;
-          owner = refl;
-          unset = refl;
-          key = refl;
-          update = inl refl;
-          command = refl;
-        };
+        is_for = grind arith;
         fits = fits_went P v new.token.view g (row_for aim put_kind value to new.number) _
             (a_put record {
               kind = refl;
@@ -149,16 +131,7 @@ module _ (P : Event → Type 0) (old new : Caller)
       }) (sym is) record {
         rows = (change, (has_pair, (has_leaf, tt)));
         good = (leaf_good, other_good);
-        is_for = record {
-          node = refl;
-          index = refl;
-          from = refl;
-          owner = refl;
-          unset = refl;
-          key = refl;
-          update = inl refl;
-          command = refl;
-        };
+        is_for = grind arith;
         fits = fits_went P v new.token.view g (row_for aim put_kind value to new.number) _
             (a_pair record {
               kind = refl;
@@ -186,16 +159,7 @@ module _ (P : Event → Type 0) (old new : Caller)
       (sym is) record {
         rows = (change, tt);
         good = tt;
-        is_for = record {
-          node = refl;
-          index = refl;
-          from = refl;
-          owner = refl;
-          unset = refl;
-          key = refl;
-          update = inr refl;
-          command = refl;
-        };
+        is_for = grind arith;
         fits = fits_went P v new.token.view g (row_for aim remove_kind 0 0 new.number) []
             (a_remove record {
               kind = refl;
@@ -215,17 +179,14 @@ module _ (P : Event → Type 0) (old new : Caller)
 pub short_after : (P : Event → Type 0) {A : ℕ → Type 0} (u v : View) (words : ℕ) (full : Full)
     (w : View) → WentOn P u v → RanShort (WentOn P) A v words full w
     → RanShort (WentOn P) A u words full w
-short_after P u v words full w a s =
-    short_from (WentOn P) (WentOn P) u v (λ x. went_more P u v x a) words full w s (λ asked. asked)
+short_after P u v words full w a s = grind (arith, short_from, went_more)
 
 -- and also for a wider class of events, and for something else that was asked for
 pub short_wider : (P Q : Event → Type 0) {A B : ℕ → Type 0}
     → ((event : Event) → P event → Q event) → (u v : View) (words : ℕ) (full : Full) (w : View)
     → WentOn Q u v → RanShort (WentOn P) A v words full w → (A full.asked → B full.asked)
     → RanShort (WentOn Q) B u words full w
-short_wider P Q all u v words full w a s to =
-    short_from (WentOn P) (WentOn Q) u v (λ x h. went_more Q u v x a (went_all P Q all v x h)) words
-    full w s to
+short_wider P Q all u v words full w a s to = grind (arith, short_from, went_more, went_all)
 
 -- a row of one size was refused, which is handed on as a refusal of any of several sizes
 pub row_refused : {A : Type 0} (For : ℕ → Type 0) {size : ℕ} {u v w : View} {words : ℕ} {full : Full}
@@ -234,9 +195,7 @@ pub row_refused : {A : Type 0} (For : ℕ → Type 0) {size : ℕ} {u v w : View
     → IfErr r (λ full. IsRowShort For u words full w)
 row_refused For (Ok a) same went s may = absurd same
 row_refused {A} For {size} {u} {v} {w} {words} {full} (Err e) same went s may =
-    subst (λ x. IsRowShort For u words x w) (sym same)
-    (short_wider Prepares Prepares (λ event is. is) u v words full w went s
-    (λ for. (subst For (sym for.0) may, for.1)))
+    grind (arith, short_wider)
 
 -- a change that was refused since a later view was refused since the earlier view
 pub err_refused : {A : Type 0} (u v : View) (x : SlotPlan) (words : ℕ) (w : View) (r : Result A Full)

@@ -1,6 +1,6 @@
 -- A slot that is changed: what its change asks for, and what came of it, step by step. Serves
 -- `change_slot`.
-use Rattle.std.proofs.Common.{◌≡◌, ◌≢◌, ◌⊎◌, ℕ, Some, sym, ap, ◌∙◌, subst, inl, inr, ⊎_elim}
+use Rattle.std.proofs.Common.{◌≡◌, ◌≢◌, ◌⊎◌, ℕ, Some, sym, ap, ◌∙◌, subst, inl, inr, arith}
 use Rattle.ist_core.specs.declared.events.Event.TheVariants.{Install}
 use Rattle.ist_core.specs.declared.states.ChangeRow.{ChangeRow}
 use Rattle.ist_core.specs.declared.events.Who.TheVariants.{Caller as CallerOf}
@@ -37,12 +37,7 @@ use Rattle.ist_updates.proofs.PlanLemmas.{slot_met, slot_holds, fits_went}
 -- a caller that filled its rows has gone on so
 pub filled_gone : (old new : Caller) → HasRefused old → IsCaller new → IsSound new.token.view
     → new ≡ with_own old new.token.view.own → HasGone Prepares old new
-filled_gone old new refused c s same = record {
-  caller = c;
-  number = ap (λ (x : Caller). x.number) same;
-  refused = subst HasRefused (sym same) refused;
-  went = own_went Prepares old.token.view new.token.view s (ap (λ (x : Caller). x.token.view) same);
-}
+filled_gone old new refused c s same = grind (arith, own_went)
 
 -- ---- what an Install asks
 
@@ -57,8 +52,7 @@ unrefused_on v w number node mine resolved g h base change there own at refused 
     lawful = went_lawful Prepares v w g
 
     before : EachEnabled (start v.start v.words) v.log
-    before =
-        enabled_before (start v.start v.words) v.log w.log (later_by-goes_on g.later) lawful.enabled
+    before = grind (arith, enabled_before, later_by-goes_on)
 
     here : (state_of v.start v.words w.log).pieces base ≡ Some (Change change)
     here = subst (λ t. t.pieces base ≡ Some (Change change)) (went_now Prepares v w g) there
@@ -70,13 +64,10 @@ unrefused_on v w number node mine resolved g h base change there own at refused 
         let same = same_change ((now w).pieces base) on.0 change on.1 there in
         let owner = ap (λ c. c.owner) (sym on.2.others) ∙ ap (λ c. c.owner) same ∙ own in
         let decided : old.0.decision ≢ undecided =
-        λ none. undecided_unresolved v.start v.words lawful.opens v.log before base old.0
-        old.1 none (resolved base old.0 old.1 owner) in
+        grind (arith, undecided_unresolved, before) in
         h base old.0 old.1 owner (ap (λ c. c.node) (sym on.2.others) ∙ ap (λ c. c.node) same ∙ at)
         (sym (on.2.decided decided) ∙ ap (λ c. c.decision) same ∙ refused)
-    by_origin (inr i) = ⊎_elim (λ other. other (ap CallerOf own ∙ sym mine)) (λ none. none)
-        (event_by (λ event. (whose event ≢ v.who) ⊎ Prepares event) v.log w.log g.later
-        (Install change.owner base i.rows) i.at i.since i.until)
+    by_origin (inr i) = grind (arith, event_by)
 
 -- a caller that has the rows of a plan holds them
 rows_held : (who : Caller) → IsCaller who → (base : ℕ) (row : ChangeRow) (fresh : Fresh)
@@ -149,14 +140,8 @@ module _ (old mid new : Caller) (aim : Aim) (x : SlotPlan) (plan : PlannedChange
     unrefused = subst (IsUnrefused (now w) new.number) (sym planned.is_for.node)
         (subst (λ n. IsUnrefused (now w) n aim.node) (sym all.number)
         (unrefused_on v w old.number aim.node a.caller.mine a.resolved all.went unrefused));
-    fits = fits_went Prepares mid.token.view w f.went plan.row _ planned.fits;
-    allowed = record {
-      pending = asked.pending;
-      in_call = asked.in_call;
-      resolved = asked.resolved;
-      command = λ _. planned.is_for.command ∙ sym asked.command_is;
-      none_yet = λ _. asked.none_yet;
-    };
+    fits = grind (arith, fits_went);
+    allowed = grind arith;
   }
 
 -- ---- both together
@@ -182,10 +167,10 @@ prepared old mid new aim x plan a at unrefused h planned c s same stored =
     let all = gone_more Prepares old mid new h f in record {
       gone = all;
       asked = prepared_asked old mid new aim x plan a at h planned f same all;
-      rows = prepared_rows old mid new aim x plan a at h planned f same all;
+      rows = grind arith;
       installable = prepared_installable old mid new aim x plan a at h planned f same all unrefused
           stored;
-      is_for = subst (λ n. IsPlanFor n aim x plan) (sym f.number) planned.is_for;
+      is_for = grind arith;
     }
 
 -- if it took effect since the rows were prepared, it took effect since the first view

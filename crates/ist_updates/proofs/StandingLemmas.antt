@@ -1,14 +1,14 @@
 -- What the slot of an update holds, and the reply that it gives. Serves `carry_out` and
 -- `change_slot`.
-use Rattle.std.proofs.Common.{◌≡◌, ℕ, List, Option, Some, refl, sym, ap, ap₂, ◌∙◌, subst, inl, inr, arith, ◌==◌, true, false, if◌then◌else◌, ◌∷◌, option_map}
+use Rattle.std.proofs.Common.{◌≡◌, ℕ, List, Option, Some, inl, inr, arith, ◌∷◌}
 use Rattle.ist_core.specs.declared.states.ChangeRow.{ChangeRow}
 use Rattle.ist_core.specs.declared.states.LeafRow.{LeafRow}
 use Rattle.ist_core.specs.declared.lists.Row.{Row}
 use Rattle.ist_core.specs.declared.events.Event.TheVariants.{Install}
 use Rattle.ist_core.specs.declared.pairs.Pair.{Pair}
-use Rattle.ist_core.specs.TreeTerms.{reply_of, value_in, value_at, AllGrow, FitsKind, a_put, a_pair, a_remove, a_start, a_finish, HasRoomFor, nothing, same_key, IsUpdate, CanInstall}
-use Rattle.ist_core.specs.LogTerms.{Log, state, Snapshot, after, with_fresh, state_of}
-use Rattle.ist_core.specs.WordTerms.{Leaf, Ref, Empty, LeafAt, ref_of, start_kind, finish_kind, Change, Pieces, with_row, with_slot, ChangeAt, word_of, start}
+use Rattle.ist_core.specs.TreeTerms.{reply_of, value_at, AllGrow, FitsKind, a_put, a_pair, a_remove, a_start, a_finish, HasRoomFor, nothing, same_key, IsUpdate, CanInstall}
+use Rattle.ist_core.specs.LogTerms.{Log, state, Snapshot, after, state_of}
+use Rattle.ist_core.specs.WordTerms.{Leaf, Ref, Empty, LeafAt, ref_of, start_kind, finish_kind, Change, start}
 use Rattle.ist_core.proofs.AllLogLemmas.{leaf_there}
 use Rattle.ist_rule.specs.RuleTerms.{now}
 use Rattle.ist_rule.specs.declared.view.View.{View}
@@ -25,9 +25,7 @@ use Rattle.ist_updates.specs.declared.plans.SlotPlan.TheVariants as way
 value_stays : (t u : Snapshot) → AllGrow t.pieces u.pieces → (key leaf : ℕ) (row : LeafRow) (ref : Option Ref)
     → ref ≡ Some (LeafAt leaf) → t.pieces leaf ≡ Some (Leaf row)
     → value_at t.pieces ref key ≡ value_at u.pieces ref key
-value_stays t u g key leaf row ref is there =
-    subst (λ r. value_at t.pieces r key ≡ value_at u.pieces r key) (sym is)
-    (ap (λ o. value_in o key) (there ∙ sym (leaf_there t.pieces u.pieces g leaf row there)))
+value_stays t u g key leaf row ref is there = grind (arith, leaf_there)
 
 -- what a slot that an update may change holds: nothing, or a leaf
 pub data StandsInSlot (t : Snapshot) (word : ℕ) : Type 0 where
@@ -65,10 +63,8 @@ fits_stands first log row fresh (a_finish h) update = absurd (no_finish h.kind u
 -- so the reply to it stays
 pub reply_stays : (t u : Snapshot) → AllGrow t.pieces u.pieces → (key word : ℕ) → StandsInSlot t word
     → value_at t.pieces (ref_of word) key ≡ value_at u.pieces (ref_of word) key
-reply_stays t u g key word (nothing_there e) =
-    subst (λ r. value_at t.pieces r key ≡ value_at u.pieces r key) (sym e) refl
-reply_stays t u g key word (leaf_there_is leaf row e there) =
-    value_stays t u g key leaf row (ref_of word) e there
+reply_stays t u g key word (nothing_there e) = grind arith
+reply_stays t u g key word (leaf_there_is leaf row e there) = grind (arith, value_stays)
 
 -- ---- what the slot holds
 
@@ -76,11 +72,7 @@ reply_stays t u g key word (leaf_there_is leaf row e there) =
 pub way_on : (v w : View) → AllGrow (now v).pieces (now w).pieces → (key word : ℕ) (x : SlotPlan)
     → MayReplace v key word x → MayReplace w key word x
 way_on v w g key word (way.Leaf value) h = room_grows (now v) (now w) g key word h
-way_on v w g key word (way.Pair value other other_key) h = (
-  h.0,
-  leaf_of_grows (now v) (now w) g other other_key h.1,
-  h.2,
-)
+way_on v w g key word (way.Pair value other other_key) h = grind (arith, leaf_of_grows)
 way_on v w g key word way.Clear h = (h.0, h.1, leaf_of_grows (now v) (now w) g h.0 key h.2)
 
 -- the slot holds nothing or a leaf
@@ -94,9 +86,7 @@ way_stands v key word way.Clear h = leaf_there_is h.0 h.2.row h.1 h.2.published
 pub planned_reply : (v w : View) → AllGrow (now v).pieces (now w).pieces → (key word : ℕ) (x : SlotPlan)
     → MayReplace v key word x → (row : ChangeRow) → row.from ≡ word → row.key ≡ key
     → value_at (now v).pieces (ref_of word) key ≡ reply_of (now w).pieces row
-planned_reply v w g key word x h row from key_is =
-    reply_stays (now v) (now w) g key word (way_stands v key word x h)
-    ∙ ap₂ (λ a b. value_at (now w).pieces (ref_of a) b) (sym from) (sym key_is)
+planned_reply v w g key word x h row from key_is = grind (arith, reply_stays, way_stands)
 
 -- ---- the row of a change that was installed. Serves what came of it.
 
@@ -104,23 +94,4 @@ planned_reply v w g key word x h row from key_is =
 pub installed_row : (pairs : List Pair) (words : ℕ) (log : Log) (caller base : ℕ) (rows : List Row)
     → (h : CanInstall (start pairs words) log caller base rows)
     → (state_of pairs words (Install caller base rows ∷ log)).pieces base ≡ Some (Change h.change)
-installed_row pairs words log caller base rows h =
-    subst (λ rs. (after t (Install caller base rs)).pieces base ≡ Some (Change h.change))
-    (sym h.rows_are)
-    (elim (base == h.change.node) as (λ v.
-    (if v then option_map (with_slot h.change.index (word_of (ChangeAt base))) (qs base) else qs base)
-    ≡ Some (Change h.change)) [
-      | true ↦ ap (option_map (with_slot h.change.index (word_of (ChangeAt base)))) here
-      | false ↦ here
-    ])
-  where
-    t : Snapshot
-    t = state_of pairs words log
-
-    qs : Pieces
-    qs = with_row (with_fresh t.pieces h.change h.fresh) base (Some (Change h.change))
-
-    here : with_row (with_fresh t.pieces h.change h.fresh) base (Some (Change h.change)) base
-        ≡ Some (Change h.change)
-    here = ap (λ v. if v then Some (Change h.change) else with_fresh t.pieces h.change h.fresh base)
-        (base_same base)
+installed_row pairs words log caller base rows h = grind (arith, base_same)

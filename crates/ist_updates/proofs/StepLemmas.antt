@@ -5,7 +5,7 @@ use Rattle.ist_core.specs.declared.events.Event.TheVariants.{Enter, Reserve, Ins
 use Rattle.ist_core.specs.declared.commands.Command.{Command}
 use Rattle.ist_core.specs.declared.pairs.Pair.{Pair}
 use Rattle.ist_core.specs.declared.events.Who.TheVariants.{Caller as CallerOf}
-use Rattle.ist_core.specs.WordTerms.{start_kind, finish_kind, start, Change, Piece}
+use Rattle.ist_core.specs.WordTerms.{finish_kind, start, Piece}
 use Rattle.ist_rows.specs.RowTerms.{InstallsNone, IsQuiet, HasGone}
 use Rattle.ist_rows.specs.declared.callers.Caller.{Caller}
 use Rattle.ist_rows.proofs.GoneLemmas.{keeping_installs_none}
@@ -19,13 +19,13 @@ use Rattle.ist_updates.proofs.StandingLemmas.{no_finish, installed_row}
 use Rattle.ist_core.specs.LogTerms.{GoesOnBy, no_more, one_more, whose, LaterBy, EachEnabled, state_of, Log, GoesOn, same_log, one_event, Snapshot}
 use Rattle.ist_core.specs.TreeTerms.{first_change, changes_of, entries_by}
 use Rattle.ist_core.proofs.AllLogLemmas.{enabled_before, grow_between, change_there}
-use Rattle.ist_rule.specs.RuleTerms.{IsResolved, HasMade, now}
+use Rattle.ist_rule.specs.RuleTerms.{IsResolved, now}
 use Rattle.ist_rule.specs.declared.view.View.{View}
 use Rattle.ist_core.proofs.AllWordLemmas.{same_change}
 use Rattle.ist_rule.proofs.LaterLemmas.{goes_on_more}
 use Rattle.ist_rule.proofs.WentOnLemmas.{later_by_all, later_by-goes_on, went_lawful, went_all, went_grow}
 use Rattle.ist_rows.proofs.CallerLawLemmas.{resolved_went}
-use Rattle.laws_histories.specs.Calls.{HasCalls, MadeNoEntry}
+use Rattle.laws_histories.specs.Calls.{MadeNoEntry}
 use Rattle.laws_calls.specs.Accepting.{InstallsNoYes}
 use Rattle.laws_calls.proofs.AcceptedLemmas.{installed_no_entry}
 
@@ -65,10 +65,7 @@ tries_updates _ is = is
 
 -- a step of help of a rebuild is one of a try
 pub serves_tries : (event : Event) → ServesRebuild event → Tries event
-serves_tries (Install c b rows) is = λ change e start. differ (sym (is change e) ∙ start)
-  where
-    differ : ◌≡◌ {A = ℕ} finish_kind start_kind → ⊥
-    differ e = omega arith
+serves_tries (Install c b rows) is = grind arith
 serves_tries (Enter c) is = absurd is
 serves_tries (Count c n) is = absurd is
 serves_tries _ is = tt
@@ -147,23 +144,7 @@ module _ (P : Event → Type 0) (old new : Caller) (command : Command) (a : IsAs
   -- a caller that went on, made no entry and resolved its changes is asked still
   pub asked_still : IsResolved w old.number → MadeNoEntry v.start v.words old.number v.log w.log
       → IsAsked new command
-  asked_still resolved none = record {
-    caller = h.caller;
-    refused = h.refused;
-    pending = a.pending;
-    in_call = ap (λ x. x.pending) h.went.same ∙ a.in_call;
-    command_is = a.command_is;
-    seen = a.seen;
-    goes_on = goes_on_more a.goes_on (later_by-goes_on h.went.later);
-    length_is = a.length_is;
-    had = subst (λ n. HasCalls w.start w.words a.seen n w.stamp w.calls) (sym h.number)
-        (subst (λ (x : View). HasCalls x.start x.words a.seen old.number x.stamp x.calls)
-        (sym h.went.same) a.had);
-    resolved = subst (IsResolved w) (sym h.number) resolved;
-    none_yet = subst (λ n. HasMade w.start w.words w.log n w.calls) (sym h.number)
-        (subst (λ (x : View). HasMade x.start x.words w.log old.number x.calls)
-        (sym h.went.same) (none ∙ a.none_yet));
-  }
+  asked_still resolved none = grind (arith, goes_on_more, later_by-goes_on)
 
   -- a caller that installed nothing is still asked
   pub asked_gone : ((event : Event) → P event → InstallsNone event) → IsAsked new command
@@ -189,8 +170,7 @@ asked_served old new command a h resolved = let v = old.token.view in let w = ne
 
 -- who is asked is in a call, and has resolved its changes
 pub asked_quiet : (who : Caller) (command : Command) → IsAsked who command → IsQuiet who
-asked_quiet who command a =
-    record { pending = a.pending; in_call = a.in_call; resolved = a.resolved }
+asked_quiet who command a = grind arith
 
 -- ---- an update that took effect since a later view took effect since an earlier one. Serves `change_slot`
 -- and the tries above it.
@@ -205,16 +185,7 @@ taken_since old mid command a b h w node told reply same_reply t = let v = old.t
     let fresh : (now v).pieces t.base ≡ None = none_before ((now v).pieces t.base) refl in record {
       base = t.base;
       fresh = fresh;
-      update = record {
-        change = change;
-        published = subst (λ (y : View). (state_of y.start y.words w.log).pieces t.base
-            ≡ Some (Change change)) h.went.same t.update.published;
-        owned = t.update.owned ∙ h.number;
-        update = t.update.update;
-        decision = t.update.decision;
-        since = λ before there. absurd (cc (sym fresh ∙ there));
-        alone = alone;
-      };
+      update = grind (arith, alone);
       command_is = t.command_is;
       node_is = t.node_is;
       reply_is = same_reply ∙ t.reply_is;
@@ -222,22 +193,9 @@ taken_since old mid command a b h w node told reply same_reply t = let v = old.t
   where
     none_before : (o : Option Piece) → (now old.token.view).pieces t.base ≡ o → o ≡ None
     none_before None e = refl
-    none_before (Some p) e =
-        let on = went_grow Prepares old.token.view mid.token.view h.went t.base p e in
-        absurd (cc (sym on.1 ∙ t.fresh))
+    none_before (Some p) e = grind (arith, went_grow)
 
     alone : length (entries_by old.number (changes_of old.token.view.start old.token.view.words w.log))
         ≤ length (entries_by old.number
         (changes_of old.token.view.start old.token.view.words old.token.view.log)) + 1
-    alone = let v = old.token.view in let x = mid.token.view in
-        let low = subst (λ (y : View). length (entries_by mid.number (changes_of y.start y.words w.log))
-        ≤ length (entries_by mid.number (changes_of y.start y.words x.log)) + 1) h.went.same
-        t.update.alone in
-        let here = subst (λ n. length (entries_by n (changes_of v.start v.words w.log))
-        ≤ length (entries_by n (changes_of v.start v.words x.log)) + 1) h.number low in
-        let made : HasMade v.start v.words x.log old.number v.calls =
-        subst (λ n. HasMade v.start v.words x.log n v.calls) h.number
-        (subst (λ (y : View). HasMade y.start y.words x.log mid.number y.calls) h.went.same
-        b.none_yet) in
-        subst (λ es. length (entries_by old.number (changes_of v.start v.words w.log))
-        ≤ length es + 1) (made ∙ sym a.none_yet) here
+    alone = grind arith

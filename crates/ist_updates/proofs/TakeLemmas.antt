@@ -1,5 +1,5 @@
 -- A caller that takes a row of a kind. Serves `take`.
-use Rattle.std.proofs.Common.{◌≡◌, ℕ, ◌≤◌, ◌⊎◌, Option, Some, None, Result, Ok, Err, IfSome, IfOk, IfErr, refl, sym, ap, ◌∙◌, subst, inl, inr, arith}
+use Rattle.std.proofs.Common.{◌≡◌, ℕ, ◌≤◌, ◌⊎◌, Option, Some, None, Result, Ok, Err, IfSome, IfOk, IfErr, refl, ap, arith}
 use Rattle.ist_core.specs.declared.ports.Full.{Full}
 use Rattle.ist_rule.specs.RuleTerms.{now, GoesOnTo, IsSound, WentOn}
 use Rattle.ist_rule.specs.declared.view.View.{View}
@@ -21,10 +21,7 @@ use Rattle.ist_rows.proofs.ShortLemmas.{short_from, short_goes_on}
 -- a row that was reserved lies above all that was used before
 reserved_high : (v : View) (number base size : ℕ) (w : View) → Reserved v number base size w
     → (now v).next ≤ base
-reserved_high v number base size w r = let it = took v number base size w r in
-    let comes = after_between v.start v.words v.log it.before
-    record { opens = it.lawful.opens; enabled = it.lawful.enabled.0 } (later-goes_on it.later) in
-    let more = comes.next in let at_next = it.lawful.enabled.1.base_is in omega arith
+reserved_high v number base size w r = grind (arith, took, after_between, later-goes_on)
 
 -- ---- what a reservation returns
 
@@ -72,8 +69,7 @@ module _ (old new : Caller) (kind : Kind) (words : ℕ) (c : IsCaller old) (refu
       let it = loads_gone Prepares old new.token c refused g in record {
         caller = caller;
         number = number;
-        refused = refused_as new (now new.token.view) old.number (spares_of old) refl number f.same
-            it.refused;
+        refused = grind (arith, refused_as);
         went = it.went;
       }
 
@@ -83,33 +79,9 @@ module _ (old new : Caller) (kind : Kind) (words : ℕ) (c : IsCaller old) (refu
       → IfErr answer (λ full. IsKindRefused words kind old new full)
       → HasTakenKind old new kind words answer
   of_answer (Some base) e answer caller number held fresh full =
-      let same : HasTakenKind old old kind words (Ok base) = record {
-        gone = record {
-          caller = c;
-          number = refl;
-          refused = refused;
-          went = goes_on_went Prepares old.token.view old.token.view (goes_on_same old.token.view s);
-        };
-        held = e;
-        rows = with_same (spares_of old) kind base e;
-        high = inl e;
-        full = tt;
-      } in
-      subst (HasTakenKind old new kind words) (sym held.0)
-      (subst (λ x. HasTakenKind old x kind words (Ok base)) (sym held.1) same)
-  of_answer None e (Ok base) caller number held fresh full = let f = fresh e in record {
-    gone = record {
-      caller = caller;
-      number = number;
-      refused = refused_beside old new kind base c e f.0 number f.1 refused;
-      went = reserved_went Prepares old.token.view old.number base (kind_words kind)
-          new.token.view f.0 tt;
-    };
-    held = ap (row_of kind) f.1 ∙ row_with (spares_of old) kind base;
-    rows = f.1;
-    high = inr (reserved_high old.token.view old.number base (kind_words kind) new.token.view f.0);
-    full = tt;
-  }
+      grind (arith, goes_on_went, goes_on_same, with_same)
+  of_answer None e (Ok base) caller number held fresh full =
+      grind (arith, refused_beside, reserved_went, row_with, reserved_high)
   of_answer None e (Err full) caller number held fresh f =
       let gone = gone_refused caller number full f in record {
         gone = gone;
@@ -118,11 +90,7 @@ module _ (old new : Caller) (kind : Kind) (words : ℕ) (c : IsCaller old) (refu
         high = tt;
         full = short_from GoesOnTo (WentOn Prepares) old.token.view old.token.view
             (λ x. goes_on_went Prepares old.token.view x) words full new.token.view f.cause
-            (λ is. (
-              is,
-              lacks_now new gone.went.sound caller gone.refused full.asked
-                  (refused_lacks words kind old new full f),
-            ));
+            (λ is. grind (arith, lacks_now, refused_lacks));
       }
 
   -- so the taken row promises

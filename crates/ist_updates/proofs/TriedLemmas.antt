@@ -1,6 +1,6 @@
 -- What a try shows: that the key was or wasn't found, and why the update is refused.
 -- Serves the functions of `trying`.
-use Rattle.std.proofs.Common.{◌≡◌, ◌≢◌, ◌⊎◌, ℕ, ◌+◌, ◌≤◌, length, Result, Ok, Err, IfOk, IfErr, Option, Some, None, refl, sym, ◌∙◌, subst, ⊎_elim}
+use Rattle.std.proofs.Common.{◌≡◌, ◌≢◌, ◌⊎◌, ℕ, ◌+◌, ◌≤◌, length, Result, Ok, Err, IfOk, IfErr, Option, Some, None, refl, ◌∙◌, subst, ⊎_elim, arith}
 use Rattle.std.proofs.Math.Nat.{le_trans}
 use Rattle.ist_core.specs.declared.loads.Load.{Load}
 use Rattle.ist_core.specs.declared.ports.Full.{Full}
@@ -126,8 +126,7 @@ module _ (first v w : View) (words : ℕ) (full : Full) (began : BeganSince firs
 
   -- it was refused since the search began, for what an update asks for
   short_since : {B : ℕ → Type 0} → B full.asked → RanShort (WentOn Updates) B first words full w
-  short_since asked =
-      short_wider Prepares Updates prepares_updates first v words full w began.went short (λ for. asked)
+  short_since asked = grind (arith, short_wider, prepares_updates)
 
   -- a put is refused
   pub put_refused : (key value : ℕ) → IsPutFor first w key full.asked
@@ -161,8 +160,7 @@ module _ (first v w : View) (words : ℕ) (full : Full) (began : BeganSince firs
       (at_rises w.log (length first.log) v.loads.since began.since) in
       short_since (for_remove found record {
         position = position.position;
-        from = le_trans (changes_rise (start first.start first.words) first.log
-            (log_at w.log v.loads.since) since) position.from;
+        from = grind (arith, le_trans, changes_rise);
         to = position.to;
         value_is = position.value_is;
       } asked lacks)
@@ -200,14 +198,7 @@ module _ (old : Caller) (token : TokenFace) (key : ℕ) (value : Option ℕ)
   -- a try that was refused after loads was refused with them
   pub refused_loads : (words : ℕ) (full : Full) (new : Caller)
       → IsTryRefused mid key value words full new → IsTryRefused old key value words full new
-  refused_loads words full new r = record {
-    still = r.still;
-    cause = λ first began. r.cause first record {
-      went = went_more Updates first old.token.view token.view began.went
-          (goes_on_went Updates old.token.view token.view g);
-      since = subst (λ n. length first.log ≤ n) (sym g.since) began.since;
-    };
-  }
+  refused_loads words full new r = grind (arith, went_more, goes_on_went)
 
   -- any result but `Full` after loads is a result of the try with them
   pub ok_after : (node : ℕ) (new : Caller) (r : Result (Option Outcome) Full)

@@ -3,16 +3,14 @@ use Rattle.std.proofs.Common.{◌≡◌, ◌≢◌, ℕ, List, [], ◌++◌, len
 use Rattle.ist_core.specs.declared.commands.Command.{Command}
 use Rattle.ist_core.specs.declared.events.Event.{Event}
 use Rattle.ist_core.specs.declared.pairs.Pair.{Pair}
-use Rattle.ist_core.specs.declared.events.Who.TheVariants.{Caller as CallerOf}
 use Rattle.ist_core.specs.declared.ports.Full.{Full}
-use Rattle.ist_core.specs.LogTerms.{GoesOnBy, no_more, LaterBy, Lawful, state_of}
-use Rattle.ist_core.specs.TreeTerms.{reply_of}
+use Rattle.ist_core.specs.LogTerms.{GoesOnBy, no_more, Lawful, state_of}
 use Rattle.ist_core.specs.WordTerms.{Change}
 use Rattle.ist_core.proofs.AllLogLemmas.{grow_between, change_there}
 use Rattle.ist_rule.specs.RuleTerms.{WentOn, now, HasMade, IsSound}
 use Rattle.ist_rule.specs.declared.view.View.{View}
 use Rattle.ist_core.proofs.AllWordLemmas.{no_value}
-use Rattle.ist_rule.proofs.WentOnLemmas.{went_who, went_now, went_lawful, went_more, later_by-goes_on}
+use Rattle.ist_rule.proofs.WentOnLemmas.{went_now, went_lawful, went_more, later_by-goes_on}
 use Rattle.laws_calls.specs.Walking.{ComesBy}
 use Rattle.laws_calls.proofs.WalkLemmas.{meeting_on}
 use Rattle.laws_calls.specs.Counting.{IsOneUpdate}
@@ -36,30 +34,22 @@ use Rattle.ist_updates.proofs.StepLemmas.{tries_updates}
 -- what holds for a view's table holds for the table of a view that it went on to
 pub went_table : (P : Event → Type 0) (v w : View) → WentOn P v w → (Q : List Pair → ℕ → Type 0)
     → Q v.start v.words → Q w.start w.words
-went_table P v w g Q h = subst (λ p. Q p w.words) (sym (ap (λ x. x.start) g.same))
-    (subst (Q v.start) (sym (ap (λ x. x.words) g.same)) h)
+went_table P v w g Q h = grind arith
 
 -- of the view that one went on from, what it made by the calls of the later one
 pub made_first : (P : Event → Type 0) (v w : View) → WentOn P v w → (caller : ℕ)
     → HasMade v.start v.words v.log caller v.calls → HasMade w.start w.words v.log caller w.calls
-made_first P v w g caller h = went_table P v w g (λ p n. HasMade p n v.log caller w.calls)
-    (subst (λ calls. HasMade v.start v.words v.log caller calls)
-    (sym (ap (λ x. x.calls) g.same)) h)
+made_first P v w g caller h = grind (arith, went_table)
 
 module _ (old : Caller) (command : Command) (a : IsAsked old command) (first : View)
     (since : HasTriedSince first old.token.view old.number) where
   abbrev v : View
   v = old.token.view
 
-  mine_first : first.who ≡ CallerOf old.number
-  mine_first = sym (went_who Tries first v since.went) ∙ a.caller.mine
-
   module _ (w : View) (g : WentOn Tries v w) where
     -- its own events since the first view are tries
     pub tried_by : GoesOnBy (CountsNone old.number) first.log w.log
-    tried_by =
-        tried_none (subst (λ x. LaterBy x Tries first.log w.log) mine_first
-        (went_more Tries first v w since.went g).later)
+    tried_by = grind (arith, tried_none, went_more)
 
     module _ (node : ℕ) (reply : Option ℕ)
         (t : HasTakenEffect v w old.number command node reply) where
@@ -93,7 +83,7 @@ module _ (old : Caller) (command : Command) (a : IsAsked old command) (first : V
         base = t.base;
         update = one_update;
         command_is = t.command_is;
-        reply_is = t.reply_is ∙ ap (λ s. reply_of s.pieces t.update.change) (went_now Tries v w g);
+        reply_is = grind (arith, went_now);
         below = [];
         met = record {
           key = key;
@@ -126,10 +116,7 @@ module _ (old new : Caller) (aim : Aim) (value : Option ℕ) (words : ℕ)
       old.number (command_for aim.key value) rows) (sym t.1)
       (taken_counted old (command_for aim.key value) a first since new.token.view went aim.node
       done.reply t.0 aim.key rows come)
-  walked_tried (Ok (Some Nothing)) went t full = (
-    record { went = went; asked = t.2 },
-    record { remove = t.0; found = t.1; since = t.3 },
-  )
+  walked_tried (Ok (Some Nothing)) went t full = grind arith
   walked_tried (Ok (Some Unmet)) went t full = record { went = went; asked = t }
   walked_tried (Ok None) went t full = record { went = went; asked = t }
   walked_tried (Err f) went t full = (record { went = went; asked = full.still }, full.cause)

@@ -1,5 +1,5 @@
 -- What a try promises, by what came of it at the slot. Serves the functions of `trying`.
-use Rattle.std.proofs.Common.{◌≡◌, ◌≢◌, ℕ, true, false, Option, Some, None, refl, sym, ap, subst, inl, inr, ⊎_elim}
+use Rattle.std.proofs.Common.{◌≡◌, ◌≢◌, ℕ, true, false, Option, Some, None, refl, sym, ap, subst, inl, inr, ⊎_elim, arith}
 use Rattle.std.specs.Prelude.{Bool, IsErrAnd, Ok, Err, Result}
 use Rattle.ist_core.specs.declared.commands.Command.{Command}
 use Rattle.ist_core.specs.declared.ports.Full.{Full}
@@ -24,7 +24,7 @@ use Rattle.ist_updates.specs.Asking.{command_for, IsAsked}
 use Rattle.ist_updates.specs.Changing.{MayAskFor, WasAtSlot, command_by}
 use Rattle.ist_updates.specs.Further.{HasAimed}
 use Rattle.ist_updates.specs.Refusals.{IsUpdateRefused}
-use Rattle.ist_updates.specs.Trying.{BeganSince, Tries, HasFoundNone, HasTakenEffect}
+use Rattle.ist_updates.specs.Trying.{BeganSince, Tries, HasFoundNone}
 use Rattle.ist_updates.proofs.StepLemmas.{asked_quiet}
 use Rattle.ist_updates.proofs.AfterLemmas.{after_loads}
 use Rattle.ist_updates.proofs.FurtherLemmas.{aimed_on}
@@ -38,11 +38,7 @@ use Rattle.ist_updates.proofs.WayLemmas.{met_other}
 module _ (who : Caller) (aim : Aim) (value : Option ℕ) (words : ℕ) (s : IsSound who.token.view)
     (a : IsAsked who (command_for aim.key value)) where
   ready : StaysReady Tries who who
-  ready = ready_same Tries who s record {
-    caller = a.caller;
-    refused = a.refused;
-    quiet = asked_quiet who (command_for aim.key value) a;
-  }
+  ready = grind (arith, ready_same, asked_quiet)
 
   -- the key has a value at which the update shouldn't take effect
   pub unmet_tried : HasTried who aim value words (Ok (Some Unmet)) who
@@ -51,12 +47,7 @@ module _ (who : Caller) (aim : Aim) (value : Option ℕ) (words : ℕ) (s : IsSo
   -- there is nothing to remove
   pub nothing_tried : value ≡ None → HasFoundNone who.token.view aim.key
       → HasTried who aim value words (Ok (Some Nothing)) who
-  nothing_tried none found = record {
-    on = ready;
-    told = (none, found, a, refl);
-    full = tt;
-    further = λ is. absurd (cc);
-  }
+  nothing_tried none found = grind (arith, ready)
 
 -- ---- a try with steps
 
@@ -68,30 +59,19 @@ module _ (old new : Caller) (aim : Aim) (value : Option ℕ) (words : ℕ) where
   pub again_tried : HasGone Tries old new → IsAsked new command
       → ((first : View) → HasAimed first old.token.view aim.node aim.index aim.word
       → CameFurther first new.token.view) → HasTried old aim value words (Ok None) new
-  again_tried gone still further = record {
-    on = record { gone = gone; quiet = asked_quiet new command still };
-    told = still;
-    full = tt;
-    further = λ is. further;
-  }
+  again_tried gone still further = grind (arith, asked_quiet)
 
   -- the table had too few words
   pub refused_tried : (full : Full) → HasGone Tries old new
       → IsTryRefused old aim.key value words full new → HasTried old aim value words (Err full) new
-  refused_tried full gone refused = record {
-    on = record { gone = gone; quiet = asked_quiet new command refused.still };
-    told = tt;
-    full = refused;
-    further = λ is. absurd (cc);
-  }
+  refused_tried full gone refused = grind (arith, asked_quiet)
 
 -- a refusal that is handed on is the refusal of the try
 handed_on : {old new : Caller} {aim : Aim} {value : Option ℕ} {words : ℕ} {full : Full}
     (r : Result (Option Outcome) Full) → IsErrAnd r (λ x. x ≡ full)
     → HasTried old aim value words (Err full) new → HasTried old aim value words r new
 handed_on (Ok tried) same t = absurd same
-handed_on {old} {new} {aim} {value} {words} (Err e) same t =
-    subst (λ f. HasTried old aim value words (Err f) new) (sym same) t
+handed_on {old} {new} {aim} {value} {words} (Err e) same t = grind arith
 
 -- ---- a try by a change of the slot
 
@@ -102,22 +82,8 @@ module _ {old new : Caller} {aim : Aim} {x : SlotPlan} {words : ℕ} where
       → (taken ≡ true → tried ≡ Some (just_took reply)) → (taken ≡ false → tried ≡ None)
       → value_at (now old.token.view).pieces (ref_of aim.word) aim.key ≡ reply
       → HasTried old aim value words (Ok tried) new
-  changed_tried value {taken = true} tried reply is h took again told = let v = old.token.view in
-      subst (λ t. HasTried old aim value words (Ok t) new) (sym (took refl)) record {
-        on = h.on;
-        told = (
-          subst (HasTakenEffect v new.token.view old.number (command_for aim.key value) aim.node) told
-              (subst (λ k. HasTakenEffect v new.token.view old.number k aim.node
-              (value_at (now v).pieces (ref_of aim.word) aim.key)) is (h.took refl)),
-          refl,
-        );
-        full = tt;
-        further = λ e. absurd (cc);
-      }
-  changed_tried value {taken = false} tried reply is h took again told =
-      subst (λ t. HasTried old aim value words (Ok t) new) (sym (again refl))
-      (again_tried old new aim value words h.on.gone (subst (IsAsked new) is (h.lost refl))
-      (h.further refl))
+  changed_tried value {taken = true} tried reply is h took again told = grind arith
+  changed_tried value {taken = false} tried reply is h took again told = grind arith
 
   -- the table had too few words for a row of a put
   put_unchanged : {full : Full} (value : Option ℕ) (given : ℕ) → value ≡ Some given
@@ -149,9 +115,7 @@ module _ {old new : Caller} {aim : Aim} {words : ℕ} {full : Full} (r : Result 
   pair_unchanged {value} {base} {row} at is there differs h =
       let on = later_by-goes_on h.on.gone.went.later in
       handed_on r same (put_unchanged (Some value) value refl refl h
-      (λ first began k. ⊎_elim (λ e. inl e) (λ l. inr (⊎_elim (λ e.
-      inl (e, met_other old.token.view aim at first began new.token.view on base row is there differs))
-      (λ e. inr e) l)) k))
+      (λ first began k. grind (arith, met_other)))
 
   -- or for the change of a remove
   pub remove_unchanged : {found : ℕ} → HasChanged old aim way.Clear words (Err full) new

@@ -1,6 +1,6 @@
 -- One walk of a call, from the anchor, after walks of which none took effect: what the call has by
 -- each of its results. Serves `apply`.
-use Rattle.std.proofs.Common.{◌≡◌, ◌+◌, ◌-◌, ◌<◌, ◌≤◌, ◌∙◌, ℕ, true, Option, Some, None, refl, sym, ap, subst, arith}
+use Rattle.std.proofs.Common.{◌≡◌, ◌+◌, ◌-◌, ◌<◌, ◌≤◌, ℕ, true, Option, Some, None, refl, sym, subst, arith}
 use Rattle.std.specs.Prelude.{IfErr, IsErrAnd, Ok, OnErr, Err, Result}
 use Rattle.ist_core.specs.declared.commands.Command.{Command}
 use Rattle.ist_core.specs.declared.ports.Full.{Full}
@@ -21,7 +21,6 @@ use Rattle.ist_updates.specs.Ending.{IsWalk, HasTakenNone, HasDone, HasEnded}
 use Rattle.ist_updates.specs.Counting.{CountedNowhere, LeavesDue}
 use Rattle.ist_updates.specs.Meeting.{WasMissed}
 use Rattle.ist_updates.specs.Refusals.{WasRefused}
-use Rattle.ist_updates.specs.Trying.{Tries}
 use Rattle.ist_updates.specs.Walking.{IsAskedAgain, IsAskedStill, HasWalked}
 use Rattle.ist_updates.proofs.ApplyingLemmas.{HasBegunWalk, all_searched, begun_walk, still_on, refused_first, still_counted, still_due, took_is_counted, took_ends, took_due, nothing_told}
 use Rattle.ist_updates.proofs.FurtherLemmas.{begun_fresh}
@@ -30,14 +29,7 @@ use Rattle.ist_updates.proofs.AfterLemmas.{few_on, paid_on}
 
 -- a caller that is asked may give its call up
 may_give_up : (who : Caller) (command : Command) → IsAsked who command → CanGiveUp who.token.view
-may_give_up who command a = record {
-  number = who.number;
-  mine = a.caller.mine;
-  pending = a.pending;
-  in_call = a.in_call;
-  resolved = a.resolved;
-  none = a.none_yet;
-}
+may_give_up who command a = grind arith
 
 -- a remove that found nothing changes nothing
 none_entry : (key : ℕ) (value : Option ℕ) → value ≡ None
@@ -83,8 +75,7 @@ pub refused_ends : {old new : Caller} {key : ℕ} {value : Option ℕ} {when : W
     (result : Result Outcome Full) → HasEnded old key value when words result new
     → HasRefusedAll old key value words result new
 refused_ends (Ok outcome) e = record { full = tt; given_up = tt; due = tt; nowhere = tt }
-refused_ends (Err full) e = let none = e.refused.1 in
-    record { full = e.refused.0; given_up = none.given_up; due = none.due; nowhere = none.nowhere }
+refused_ends (Err full) e = grind arith
 
 -- ---- a walk
 
@@ -106,16 +97,13 @@ WalksOn old who key value = (who.number ≡ old.number) × IsAskedAgain old who 
 -- before the first walk nothing was done
 pub turns_begin : {old : Caller} (key : ℕ) (value : Option ℕ) → IsSound old.token.view
     → IsAsked old (command_for key value) → WalksOn old old key value
-turns_begin {old} key value s asked = let v = old.token.view in
-    let went = went_searched Tries v v (went_same Tries v s) in
-    (refl, record { went = went; asked = asked }, omega arith)
+turns_begin {old} key value s asked = grind (arith, went_searched, went_same)
 
 -- a walk begins after them
 pub is_turn : {old who : Caller} {token : TokenFace} {key : ℕ} {value : Option ℕ}
     → IsAsked old (command_for key value) → WalksOn old who key value
     → Turned who.token.view (searching who.token.view) token.view → IsTurn old who token key value
-is_turn asked i turned =
-    record { asked = asked; number = i.0; again = i.1; paid = i.2; turned = turned }
+is_turn asked i turned = grind arith
 
 module _ {old who : Caller} {token : TokenFace} {key : ℕ} {value : Option ℕ}
     (b : IsTurn old who token key value) where
@@ -147,25 +135,18 @@ module _ {old who : Caller} {token : TokenFace} {key : ℕ} {value : Option ℕ}
     again_further : {x : Option Outcome} → x ≡ None
         → IsWalk there key value when anchor words (Ok x) new
         → CameFurther who.token.view new.token.view
-    again_further is h =
-        h.further (ap Ok is) who.token.view (begun_fresh who.token.view token.view b.turned)
+    again_further is h = grind (arith, begun_fresh)
 
     -- which pays for it
     pub again_walks : {x : Option Outcome} → x ≡ None → IsWalk there key value when anchor words (Ok x) new
         → WalksOn old new key value
-    again_walks is h = (
-      h.on.gone.number ∙ b.number,
-      again_asked is h,
-      paid_on old.token.view who.token.view token.view new.token.view b.paid b.turned h.on.gone.went
-          (again_further is h),
-    )
+    again_walks is h = grind (arith, again_asked, paid_on, again_further)
 
     -- and less progress is left
     pub again_smaller : {x : Option Outcome} → x ≡ None
         → IsWalk there key value when anchor words (Ok x) new
         → most_progress - progress new.token.view.log < most_progress - progress who.token.view.log
-    again_smaller is h =
-        fewer_left who.token.view new.token.view h.on.gone.went.sound (again_further is h)
+    again_smaller is h = grind (arith, fewer_left, again_further)
 
     -- ---- if it needn't
 
@@ -206,8 +187,7 @@ module _ {old who : Caller} {token : TokenFace} {key : ℕ} {value : Option ℕ}
         → HasEnded old key value when words (Ok outcome) new
     turn_ends {x} outcome is h = record {
       went = all_searched old there key value b.asked turn_begun new h.on.gone.went;
-      few_walks = few_on old.token.view who.token.view token.view new.token.view b.paid b.turned
-          h.on.gone.went;
+      few_walks = grind (arith, few_on);
       done = done_by outcome
           (subst (λ y. IsWalk there key value when anchor words (Ok y) new) is h);
       refused = tt;
@@ -222,8 +202,7 @@ module _ {old who : Caller} {token : TokenFace} {key : ℕ} {value : Option ℕ}
         subst (λ x. HasEnded old key value when words (Err x) new) (sym same)
         record {
           went = all_searched old there key value b.asked turn_begun new h.on.gone.went;
-          few_walks = few_on old.token.view who.token.view token.view new.token.view b.paid b.turned
-              h.on.gone.went;
+          few_walks = grind (arith, few_on);
           done = tt;
           refused = (
             refused_first old there key value b.asked turn_begun words full new h.walked.1

@@ -1,10 +1,10 @@
 -- A walk by one step down, the walk from there, and a Count on the way back. Serves `descend`.
-use Rattle.std.proofs.Common.{◌≡◌, ◌≢◌, ℕ, ◌≤◌, List, [], ◌∷◌, ◌++◌, length, Option, Some, None, Result, Ok, Err, refl, sym, ap, ◌∙◌, subst}
+use Rattle.std.proofs.Common.{◌≡◌, ◌≢◌, ℕ, List, [], ◌∷◌, ◌++◌, Option, Some, None, Result, Ok, Err, refl, sym, subst, arith}
 use Rattle.ist_core.specs.declared.commands.Command.{Command}
 use Rattle.ist_core.specs.declared.events.Event.{Event}
 use Rattle.ist_core.specs.declared.pairs.Pair.{Pair}
 use Rattle.ist_core.specs.declared.ports.Full.{Full}
-use Rattle.ist_core.specs.TreeTerms.{CanCount, Linked, WasLinked}
+use Rattle.ist_core.specs.TreeTerms.{CanCount, WasLinked}
 use Rattle.ist_core.specs.LogTerms.{Log}
 use Rattle.ist_core.specs.WordTerms.{InnerAt, ref_of, SlotHolds, start}
 use Rattle.ist_core.proofs.AllWordLemmas.{word_of-ref_of}
@@ -40,8 +40,7 @@ module _ (old : Caller) (token : TokenFace) (g : GoesOnTo old.token.view token.v
 
   -- what holds for its table held for the table before
   back : (Q : List Pair → ℕ → Type 0) → Q w.start w.words → Q v.start v.words
-  back Q h = subst (λ p. Q p v.words) (ap (λ x. x.start) g.same)
-      (subst (Q w.start) (ap (λ x. x.words) g.same) h)
+  back Q h = grind arith
 
   -- what it reached from there, it reached from before
   pub went_before : (P : Event → Type 0) (u : View) → WentOn P w u → WentOn P v u
@@ -50,50 +49,33 @@ module _ (old : Caller) (token : TokenFace) (g : GoesOnTo old.token.view token.v
   -- a caller that stayed ready after the step down stayed so in the whole walk
   pub on_before : (P : Event → Type 0) (new : Caller) → StaysReady P there new
       → StaysReady P old new
-  on_before P new on = record {
-    gone = record {
-      caller = on.gone.caller;
-      number = on.gone.number;
-      refused = on.gone.refused;
-      went = went_before P new.token.view on.gone.went;
-    };
-    quiet = on.quiet;
-  }
+  on_before P new on = grind (arith, went_before)
 
   -- a caller that is still asked after the step down is still asked after the whole walk
   pub still_before : (new : Caller) (command : Command) → IsAskedStill there new command
       → IsAskedStill old new command
-  still_before new command h =
-      record { went = went_before Tries new.token.view h.went; asked = h.asked }
+  still_before new command h = grind (arith, went_before)
 
   -- if there was nothing to remove after the step down, there was nothing in the whole walk
   pub not_there_before : (u : View) (key : ℕ) (value : Option ℕ) → IsNotThere w u key value
       → IsNotThere v u key value
-  not_there_before u key value h =
-      record { remove = h.remove; found = h.found; since = h.since ∙ g.since }
+  not_there_before u key value h = grind arith
 
   -- what holds for each first view of the later view's search holds for each of the earlier view's
   pub refused_before : (R : View → Type 0) → ((first : View) → BeganSince first w → R first)
       → (first : View) → BeganSince first v → R first
-  refused_before R h first b = h first record {
-    went = went_more Updates first v w b.went (goes_on_went Updates v w g);
-    since = subst (λ n. length first.log ≤ n) (sym g.since) b.since;
-  }
+  refused_before R h first b = grind (arith, went_more, goes_on_went)
 
   tried_there : (first : View) → HasTriedSince first v old.number → HasTriedSince first w old.number
-  tried_there first h = record {
-    went = went_more Tries first v w h.went (goes_on_went Tries v w g);
-    none_yet = h.none_yet;
-  }
+  tried_there first h = grind (arith, went_more, goes_on_went)
 
   -- a walk that ends at this node
   pub walked_here : (key : ℕ) (value : Option ℕ) (node words : ℕ) (result : Result (Option Outcome) Full)
       (new : Caller) → ((rows : List ℕ) → HasCome v key node rows → HasCome w key node rows)
       → HasWalked there key value node words result new
       → HasWalked old key value node words result new
-  walked_here key value node words (Ok (Some (Took done))) new stays h = λ first rows since come.
-      back (λ p n. HasCounted p n first.log new.token.view.log old.number (command_for key value) rows
-      done) (h first rows (tried_there first since) (stays rows come))
+  walked_here key value node words (Ok (Some (Took done))) new stays h =
+      grind (arith, back, tried_there)
   walked_here key value node words (Ok (Some Nothing)) new stays h = (
     still_before new (command_for key value) h.0,
     not_there_before new.token.view key value h.1,
@@ -141,11 +123,7 @@ module _ (old : Caller) (token : TokenFace) (g : GoesOnTo old.token.view token.v
       counted_there : (first : View) (rows : List ℕ) → HasTriedSince first w old.number
           → HasCome w key row rows
           → HasCounted u.start u.words first.log u.log second.number (command_for key value) rows below
-      counted_there first rows since come =
-          subst (λ n. HasCounted u.start u.words first.log u.log n (command_for key value) rows below)
-          (sym number_is)
-          (went_table Updates w u went (λ p n. HasCounted p n first.log u.log old.number
-          (command_for key value) rows below) (h first rows since come))
+      counted_there first rows since come = grind (arith, went_table)
 
       -- the row may be counted at
       pub may_count_there : CanCount (start u.start u.words) u.log second.number row
@@ -163,8 +141,7 @@ module _ (old : Caller) (token : TokenFace) (g : GoesOnTo old.token.view token.v
             goes_on = later_by-goes_on went.later;
             stood = subst (SlotHolds (now w) node index)
                 (sym (word_of-ref_of word (InnerAt row) is).same_word) holds;
-            linked = ever_later (start w.start w.words) (λ t. Linked t node)
-                (later_by-goes_on went.later) linked;
+            linked = grind (arith, ever_later, later_by-goes_on, linked);
           }
         where
           linked : WasLinked (start w.start w.words) w.log node
@@ -191,5 +168,4 @@ module _ (old : Caller) (token : TokenFace) (g : GoesOnTo old.token.view token.v
           number_is x))
         where
           back_there : (Q : List Pair → ℕ → Type 0) → Q u.start u.words → Q w.start w.words
-          back_there Q y = subst (λ p. Q p w.words) (ap (λ x. x.start) went.same)
-              (subst (Q u.start) (ap (λ x. x.words) went.same) y)
+          back_there Q y = grind arith

@@ -1,5 +1,5 @@
 -- The slot to which a key leads, and what was met there. Serves the functions of `trying`.
-use Rattle.std.proofs.Common.{◌≡◌, ◌≢◌, ℕ, length, List, Some, refl, sym, ap, ◌∙◌, subst, arith, inl, inr}
+use Rattle.std.proofs.Common.{◌≡◌, ◌≢◌, ℕ, List, Some, refl, sym, ap, ◌∙◌, subst, arith, inl, inr}
 use Rattle.ist_core.specs.declared.pairs.Pair.{Pair}
 use Rattle.ist_core.specs.declared.states.LeafRow.{LeafRow}
 use Rattle.ist_core.specs.declared.commands.Command.{Command}
@@ -18,7 +18,6 @@ use Rattle.ist_rule.specs.declared.view.View.{View}
 use Rattle.ist_rule.proofs.EventLemmas.{goes_on_same}
 use Rattle.ist_rule.proofs.LaterLemmas.{goes_on_more, later-goes_on}
 use Rattle.ist_rule.proofs.WentOnLemmas.{goes_on_grow, later_by-goes_on, went_all, went_lawful}
-use Rattle.laws_histories.specs.Loads.{log_at}
 use Rattle.laws_histories.proofs.ChangeLemmas.{at_prefix, at_rises}
 use Rattle.ist_find.specs.Searches.{Names, SeesLeaf}
 use Rattle.ist_updates.specs.declared.plans.Aim.{Aim}
@@ -26,7 +25,6 @@ use Rattle.ist_updates.specs.Changing.{WasAtSlot}
 use Rattle.ist_updates.specs.Refusals.{IsOnWay, LeadsToSlot, MetOtherLeaf}
 use Rattle.ist_updates.specs.Trying.{BeganSince, IsAtSlot}
 use Rattle.ist_updates.proofs.PlanLemmas.{slot_met}
-use Rattle.laws_histories.specs.Calls.{HasCalls}
 use Rattle.ist_rule.proofs.CallLemmas.{between_later}
 use Rattle.ist_rows.specs.RowTerms.{KeepsRows, InstallsNone}
 use Rattle.ist_rows.specs.declared.callers.Caller.{Caller}
@@ -99,11 +97,7 @@ module _ (v : View) (aim : Aim) (at : WasAtSlot v aim) where
   module _ (first : View) (began : BeganSince first v) where
     -- since a search that began after the first view
     first_to_b : GoesOn first.log b.log
-    first_to_b = let on = later_by-goes_on began.went.later in let since = began.since in
-        let same = at.seen.since in let low = at.sound.well_made.since in
-        subst (λ l. GoesOn l b.log) (at_prefix first.log v.log on)
-        (subst (GoesOn (log_at v.log (length first.log))) (at_prefix b.log v.log b_to_v)
-        (at_rises v.log (length first.log) (length b.log) (omega arith)))
+    first_to_b = grind (arith, later_by-goes_on, at_prefix, at_rises)
 
     -- the slot held a leaf of another key
     pub met_other : (w : View) → GoesOn v.log w.log → (base : ℕ) (row : LeafRow)
@@ -206,32 +200,15 @@ module _ (who : Caller) (token : TokenFace) (command : Command) (a : IsAsked who
     seen = a.seen;
     goes_on = goes_on_more a.goes_on (later_by-goes_on g.later);
     length_is = a.length_is;
-    had = went_table NoEvent v w g (λ p n. HasCalls p n a.seen who.number w.stamp w.calls)
-        (subst (λ calls. HasCalls v.start v.words a.seen who.number w.stamp calls)
-        (sym calls_are)
-        (subst (λ stamp. HasCalls v.start v.words a.seen who.number stamp v.calls)
-        (sym stamp_is) a.had));
+    had = grind (arith, went_table, calls_are, stamp_is);
     resolved = resolved_went v w who.number a.caller.mine a.resolved (by_none InstallsNone);
-    none_yet = went_table NoEvent v w g (λ p n. HasMade p n w.log who.number w.calls)
-        (subst (λ calls. HasMade v.start v.words w.log who.number calls) (sym calls_are) made);
+    none_yet = grind (arith, went_table, calls_are, made);
   }
 
 -- what is asked doesn't depend on how many searches the caller began
 pub recounted : (who : Caller) (command : Command) (n : ℕ) → IsAsked who command
     → IsAsked (record who { token = record who.token { view = record who.token.view { searches = n } } }) command
-recounted who command n a = record {
-  caller = record { mine = a.caller.mine; rows = a.caller.rows; builds = a.caller.builds };
-  refused = a.refused;
-  pending = a.pending;
-  in_call = a.in_call;
-  command_is = a.command_is;
-  seen = a.seen;
-  goes_on = a.goes_on;
-  length_is = a.length_is;
-  had = a.had;
-  resolved = a.resolved;
-  none_yet = a.none_yet;
-}
+recounted who command n a = grind arith
 
 -- a search that is begun leaves the caller as it was asked
 pub asked_searched : (who : Caller) (token : TokenFace) (command : Command) → IsAsked who command

@@ -1,6 +1,6 @@
 -- A caller has the same entries if none of its puts and removes was decided yes since. Serves the
 -- entry law.
-use Rattle.std.proofs.Common.{[], ap, arith, inl, inr, refl, ◌++◌, ◌∷◌, ◌≡◌, List, None, Option, Some, append-nil, false, length, length-append, option_map, subst, sym, true, ℕ, ⊎_elim, ◌+◌, ◌==◌, ◌∙◌, ◌≢◌, ◌≤◌, ◌⊎◌}
+use Rattle.std.proofs.Common.{[], ap, arith, inl, inr, refl, ◌++◌, ◌∷◌, ◌≡◌, List, None, Option, Some, append-nil, false, length, length-append, option_map, sym, true, ℕ, ◌+◌, ◌==◌, ◌∙◌, ◌≢◌, ◌≤◌, ◌⊎◌}
 use Rattle.ist_core.specs.declared.events.Event.{Event}
 use Rattle.ist_core.specs.declared.commands.Command.{Command}
 use Rattle.ist_core.specs.declared.events.Event.TheVariants.{Decide, Install}
@@ -114,8 +114,7 @@ module _ (pairs : List Pair) (words : ℕ) (opens : CanOpen pairs words) where
           ⊎ (((h.1.change.owner == number) ≡ false) × (h.1.change.owner ≢ number))
           → entries_by number (entry_for ps h.1.change (command_of h.1.change)) ≡ []
       at None is k = ap (λ o. entries_by number (entry_for ps h.1.change o)) is
-      at (Some command) is (inr k) =
-          ap (λ o. entries_by number (entry_for ps h.1.change o)) is ∙ rw k.0 refl
+      at (Some command) is (inr k) = grind (arith, ps)
       at (Some command) is (inl k) =
           let turned : ChangeRow = record (h.1.change) { decision = decided_yes } in
           let there = changed_at-same ps base (with_decision decided_yes)
@@ -173,12 +172,8 @@ module _ (pairs : List Pair) (words : ℕ) (opens : CanOpen pairs words) where
       at : (o : Option Piece) → (state_of pairs words earlier).pieces base ≡ o
           → (old : ChangeRow) × ((state_of pairs words earlier).pieces base ≡ Some (Change old))
           × (old.decision ≡ decided_yes)
-      at None there =
-          absurd (made (λ old f. (let q : None ≡ Some (Change old) = sym there ∙ f in absurd (cc))))
-      at (Some (Change old)) there = ⊎_elim (λ k. (old, there, k.1))
-          (λ k. absurd (made (λ x f. subst (λ c. c.decision ≢ decided_yes)
-          (same_change ((state_of pairs words earlier).pieces base) old x there f) k.1)))
-          (eqb_tells old.decision decided_yes)
+      at None there = grind (arith, made)
+      at (Some (Change old)) there = grind (arith, made, same_change, eqb_tells)
       at (Some (Leaf r)) there = absurd (other (Leaf r) (λ old q. cc) there)
       at (Some (Inner r)) there = absurd (other (Inner r) (λ old q. cc) there)
       at (Some (Rebuild r)) there = absurd (other (Rebuild r) (λ old q. cc) there)
@@ -228,9 +223,7 @@ module _ (pairs : List Pair) (words : ℕ) (opens : CanOpen pairs words) where
               there in
               let same = same_change ((state_of pairs words log).pieces base) it.0 change it.1 e in
               let owner = ap (λ c. c.owner) (sym it.2.others) ∙ ap (λ c. c.owner) same ∙ own in
-              let decided : old.decision ≢ undecided = λ none. undecided_unresolved pairs words
-              opens earlier (enabled_before (start pairs words) earlier log g h) base old there none
-              (resolved base old there owner) in
+              let decided : old.decision ≢ undecided = grind (arith, undecided_unresolved, enabled_before) in
               (old, there, sym (it.2.decided decided) ∙ ap (λ c. c.decision) same ∙ said)
 
 -- ---- if no update that was installed since is decided yes, no entry was made. Serves the entry law.

@@ -7,8 +7,8 @@ use Rattle.ist_core.specs.declared.events.Event.{Event}
 use Rattle.ist_core.specs.declared.events.Who.TheVariants.{Caller}
 use Rattle.ist_core.specs.declared.states.ChangeRow.{ChangeRow}
 use Rattle.ist_core.specs.declared.states.InnerRow.{InnerRow}
-use Rattle.ist_core.specs.LogTerms.{CanOpen, EachEnabled, state_of, GoesOn, Log, GoesOnBy, whose, no_more, one_more, Among, one_event, same_log, decision_word}
-use Rattle.ist_core.specs.TreeTerms.{WasLinked, AllResolvedOf, Chain, first_change, CanDecide, IsUnrefused}
+use Rattle.ist_core.specs.LogTerms.{CanOpen, EachEnabled, state_of, GoesOn, Log, GoesOnBy, whose, no_more, one_more, one_event, same_log, decision_word}
+use Rattle.ist_core.specs.TreeTerms.{WasLinked, AllResolvedOf, first_change, CanDecide, IsUnrefused}
 use Rattle.ist_core.specs.WordTerms.{anchor, IsOpen, anchor_is, row_is, start, limit, Change, Inner, start_kind, decided_no}
 use Rattle.ist_core.proofs.AllLogLemmas.{enabled_before, grow_between, inner_there, status_open, ever_later, goes_on_by}
 use Rattle.ist_core.proofs.AllWordLemmas.{same_inner}
@@ -125,9 +125,7 @@ module _ (pairs : List Pair) (words : ℕ) (opens : CanOpen pairs words) where
       → HasClosedAbove (start pairs words) log node
   closed_above_stays earlier log on h node it = record {
     row = it.row;
-    on_chain =
-        ever_later (start pairs words) (λ t. (rows : List ℕ) × Chain t node rows × Among it.row
-        rows) on it.on_chain;
+    on_chain = grind (arith, ever_later);
     closed = closed_stays pairs words opens earlier log on h it.row
         (on_chain_was_linked (start pairs words) earlier node it.row it.on_chain) it.closed;
   }
@@ -163,15 +161,7 @@ module _ (pairs : List Pair) (words : ℕ) (opens : CanOpen pairs words) where
           → whole ≡ (Count caller node ∷ log)
           → HasClosedAbove (start pairs words) (Count caller node ∷ log) other
       at other _ (due_now {log = before} s there due) is =
-          let same = same_node other node before log is in ⊎_elim
-          (λ few. absurd
-          (let old = subst (λ xs. (state_of pairs words xs).pieces node ≡ Some (Inner s)) same.1
-          (subst (λ n. (state_of pairs words before).pieces n ≡ Some (Inner s)) same.0 there) in
-          let row = same_inner ((state_of pairs words log).pieces node) s r old e in
-          over (limit r.size) (r.count + 1) few (subst (λ x. limit x.size ≤ x.count + 1) row due)))
-          (λ shut. subst (λ n. HasClosedAbove (start pairs words) (Count caller node ∷ log) n)
-          (sym same.0) shut)
-          low
+          grind (arith, same_node, same_inner, over)
       at other _ (due_before {log = before} event made) is = let same : before ≡ log = cc in
           closed_above_stays log (Count caller node ∷ log)
           (one_event (Count caller node) same_log) h other

@@ -1,5 +1,5 @@
 -- An update that is its caller's one entry since may be counted. Serves the law on Counts.
-use Rattle.std.proofs.Common.{List, None, Some, ap, arith, inl, inr, length, length-append, subst, sym, true, ℕ, if◌then◌else◌, ◌++◌, ◌+◌, ◌<◌, ◌==◌, ◌∙◌, ◌∷◌, ◌≡◌, ◌≤◌}
+use Rattle.std.proofs.Common.{List, None, Some, ap, arith, inl, inr, length, length-append, subst, sym, true, ℕ, if◌then◌else◌, ◌++◌, ◌+◌, ◌==◌, ◌∙◌, ◌∷◌, ◌≡◌, ◌≤◌}
 use Rattle.std.proofs.lemmas.Bool.Decides.{eqb_tells}
 use Rattle.std.proofs.lemmas.List.Elements.{filter-append}
 use Rattle.ist_core.specs.declared.commands.Command.TheVariants.{Put, Remove}
@@ -126,8 +126,7 @@ module _ (pairs : List Pair) (words : ℕ) (opens : CanOpen pairs words) where
       → GoesOnBy (CountsElsewhere caller node) earlier log
       → CanCount (start pairs words) log caller node
   may_count earlier log h caller base node u on later = record {
-    known = subst (λ c. c < (state_of pairs words log).callers) u.owned
-        (owner_known pairs words log h base u.change u.published);
+    known = grind (arith, owner_known);
     later = following.0;
     by = turn.caller;
     base = base;
@@ -147,8 +146,7 @@ module _ (pairs : List Pair) (words : ℕ) (opens : CanOpen pairs words) where
   }
     where
       turn : Turning earlier log base
-      turn = turns_since pairs words earlier log (goes_on_by later) h base u.change u.since u.published
-          u.decision
+      turn = grind (arith, turns_since, goes_on_by)
 
       whole : Log
       whole = Decide turn.caller base true ∷ turn.at

@@ -85,21 +85,14 @@ module _ (pairs : List Pair) (words : ℕ) (opens : CanOpen pairs words) where
   no_counts [] h node none = refl
   no_counts (Count caller at ∷ log) h node none =
       let before = absent ((state_of pairs words log).pieces node) (λ p e.
-      let on = grow_after pairs words log (Count caller at) h node p e in no_value
-      ((state_of pairs words (Count caller at ∷ log)).pieces node) on.0 none on.1) in
+      grind (arith, grow_after, no_value)) in
       here before (no_counts log h.0 node before) (eqb_tells at node)
     where
       here : (state_of pairs words log).pieces node ≡ None → counts node log ≡ 0
           → (((at == node) ≡ true) × (at ≡ node)) ⊎ (((at == node) ≡ false) × (at ≢ node))
           → (if at == node then counts node log + 1 else counts node log) ≡ 0
-      here before rest (inl k) =
-          let it = on_chain_inner pairs words opens log h.0 h.1.update.change.node at
-          h.1.on_chain in
-          absurd
-          (no_value ((state_of pairs words log).pieces node) (Inner it.0) before
-          (subst (λ n. (state_of pairs words log).pieces n ≡ Some (Inner it.0)) k.1 it.1))
-      here before rest (inr k) =
-          subst (λ b. (if b then counts node log + 1 else counts node log) ≡ 0) (sym k.0) rest
+      here before rest (inl k) = grind (arith, on_chain_inner, no_value)
+      here before rest (inr k) = grind (arith, counts)
   no_counts (event ∷ log) h node none = no_counts log h.0 node
       (absent ((state_of pairs words log).pieces node) (λ p e.
       let on = grow_after pairs words log event h node p e in no_value
@@ -216,7 +209,7 @@ module _ (pairs : List Pair) (words : ℕ) (opens : CanOpen pairs words) where
           }
       at _ all d (is_counted {caller = caller} r can old more size) before = record {
         caller = caller;
-        known = known_step (start pairs words) log (Count caller node) caller can.known;
+        known = grind (arith, known_step);
         made =
             due_now r old (subst (λ s. limit s ≤ r.count + 1) size
             (subst (λ c. limit x.size ≤ c) more d));

@@ -1,13 +1,13 @@
 -- The slots of rows that were linked are set, and their leaves have strictly increasing keys.
 -- Serves the finish law.
-use Rattle.std.proofs.Common.{List, Option, Some, ap, arith, map, subst, sym, ℕ, ⊎_elim, ◌∙◌, ◌≡◌, ◌≢◌, length, take, ◌*◌, ◌++◌, ◌+◌, ◌∷◌}
+use Rattle.std.proofs.Common.{List, Option, Some, ap, arith, map, subst, sym, ℕ, ⊎_elim, ◌∙◌, ◌≡◌, ◌≢◌, length, take, ◌++◌, ◌+◌, ◌∷◌}
 use Rattle.std.specs.List.Sorted.{IsStrictlyIncreasing}
 use Rattle.ist_core.specs.declared.pairs.Pair.{Pair}
 use Rattle.ist_core.specs.declared.events.Event.TheVariants.{Finish}
 use Rattle.ist_core.specs.declared.events.Event.{Event}
 use Rattle.ist_core.specs.declared.states.InnerRow.{InnerRow}
 use Rattle.ist_core.specs.LogTerms.{CanOpen, EachEnabled, state_of, GoesOn, Log, Snapshot, one_event, same_log}
-use Rattle.ist_core.specs.TreeTerms.{HasLeaves, PlacedLeaf, WasLinked, CountsFor, no_key, of_child, of_target, one_key, IsFinishedWith, Entry, changes_of, map_after_entries, pair_of, IsChild, Linked, at_anchor, below, map_of, pairs_of}
+use Rattle.ist_core.specs.TreeTerms.{HasLeaves, PlacedLeaf, WasLinked, CountsFor, no_key, of_child, of_target, one_key, IsFinishedWith, Entry, changes_of, pair_of, IsChild, Linked, at_anchor, below, pairs_of}
 use Rattle.ist_core.specs.WordTerms.{InnerAt, Ref, Unset, ref_of, unset_word, anchor, SlotHolds, logical, past_rebuild, start, Inner, finished_word}
 use Rattle.ist_core.proofs.AllLogLemmas.{frozen_reads, enabled_before, finished_leaves_stay}
 use Rattle.ist_core.proofs.AllPlaceLemmas.{Mentions, leaves_lie, next_from_rises, names, one_home, anchor_free, slot_once, key_of_leaf, leaves_under, same_leaves, one_parent, no_row}
@@ -86,8 +86,7 @@ module _ (pairs : List Pair) (words : ℕ) (opens : CanOpen pairs words) where
       (leaves_lie pairs words opens log h) reached up.parent up.i
       record {
         a_leaf = λ base e. absurd (cc);
-        a_row =
-            λ base e. subst (λ r. Mentions t up.parent up.i r) (inner_base node base e) up.named;
+        a_row = grind (arith, Mentions, inner_base);
       }).1
 
   -- the leaves below a finished row have strictly increasing keys
@@ -198,10 +197,8 @@ module _ (pairs : List Pair) (words : ℕ) (opens : CanOpen pairs words) where
             has = finished_leaves_stay pairs words opens log (event ∷ log)
                 (one_event event same_log) all node it.leaves done it.has;
           }
-      by_origin event all (is_new none same) before =
-          let odd : r.status ≡ 4 * k + 3 = is in absurd (omega arith)
-      by_origin _ all (marked_now can same) before =
-          let odd : r.status ≡ 4 * k + 3 = is in absurd (omega arith)
+      by_origin event all (is_new none same) before = grind arith
+      by_origin _ all (marked_now can same) before = grind arith
       by_origin _ all (finished_now {caller = caller} {keys = keys} can same) before =
           finishing earlier log on caller node keys all i c
 
@@ -226,6 +223,5 @@ module _ (pairs : List Pair) (words : ℕ) (opens : CanOpen pairs words) where
         position = length (changes_of pairs words it.at);
         from = changes_rise (start pairs words) earlier it.at it.since;
         to = changes_rise (start pairs words) it.at log it.until;
-        pairs_are = ap (map pair_of) same ∙ pairs_then
-            ∙ ap (λ es. pairs_of (map_after_entries (map_of pairs) es)) (sym front);
+        pairs_are = grind arith;
       }

@@ -110,7 +110,7 @@ module _ (pairs : List Pair) (words : ℕ) (opens : CanOpen pairs words) (log : 
             (load_of (base + change_to_offset) x.to) is
             (row_load base change_decision_offset x.decision (Change x) e refl) said.1
             (row_load base change_to_offset x.to (Change x) e refl);
-        reads = ap (λ w. past_rebuild t.pieces (ref_of w)) (sym (side_yes x said.1)) ∙ reads;
+        reads = grind (arith, side_yes);
       }
       by_decision (inr unsaid) = record {
         side = x.from;
@@ -118,7 +118,7 @@ module _ (pairs : List Pair) (words : ℕ) (opens : CanOpen pairs words) (log : 
             (load_of (base + change_from_offset) x.from) is
             (row_load base change_decision_offset x.decision (Change x) e refl) unsaid.1
             (row_load base change_from_offset x.from (Change x) e refl);
-        reads = ap (λ w. past_rebuild t.pieces (ref_of w)) (sym (side_not_yes x unsaid.1)) ∙ reads;
+        reads = grind (arith, side_not_yes);
       }
 
   -- a slot's word that reads as a child

@@ -14,7 +14,7 @@ use Rattle.ist_core.specs.declared.events.Event.{Event}
 use Rattle.ist_core.specs.declared.pairs.Pair.{Pair}
 use Rattle.ist_core.specs.declared.states.InnerRow.{InnerRow}
 use Rattle.ist_core.specs.TreeTerms.{Entry, changes_of, map_after_entries, HasLeaves, PlacedLeaf, SlotsHaveLeaves, no_slot, one_slot, row_here, Linked, at_anchor, below, Map, map_after, map_of}
-use Rattle.ist_core.specs.LogTerms.{CanOpen, EachEnabled, state_of, Log, one_event, same_log, Snapshot}
+use Rattle.ist_core.specs.LogTerms.{CanOpen, EachEnabled, state_of, Log, Snapshot}
 use Rattle.ist_core.specs.WordTerms.{Inner, Pieces, InnerAt, Ref, anchor, SlotHolds, in_anchor, in_row, logical, start, finished_word}
 use Rattle.ist_core.proofs.AllPlaceLemmas.{is_sorted-rising, anchor_free, no_row, one_kept, one_less, length-pairs_of}
 use Rattle.ist_core.proofs.AllWordLemmas.{same_inner}
@@ -82,10 +82,7 @@ len_after m (e ∷ es) = at e.command refl (len_after (map_after m e.command) es
         filter (λ x. is_put x.command) es)) is in
         let map_is = ap (λ c. fin.len (map_after m c)) is ∙ fin.len-remove nat_cmp_total m key in
         let low = one_less (fin.contains_key m key) (fin.len m) in omega arith
-    at (Get key) is rest =
-        let long = ap (λ c. length (if is_put c then e ∷ filter (λ x. is_put x.command) es else
-        filter (λ x. is_put x.command) es)) is in
-        let map_is = ap (λ c. fin.len (map_after m c)) is in omega arith
+    at (Get key) is rest = grind arith
 
 -- the map of pairs with strictly increasing keys has one entry for each pair
 abbrev entry : Pair → ℕ × ℕ
@@ -140,12 +137,8 @@ module _ (pairs : List Pair) (words : ℕ) (opens : CanOpen pairs words) where
           → (node ≢ anchor → HasFew (state_of pairs words log).pieces (Some (InnerAt node)) most)
           → HasFew (state_of pairs words log).pieces (logical (state_of pairs words log).pieces
           c.word) most
-      slot node (in_anchor a b e) k up =
-          subst (λ w. HasFew (state_of pairs words log).pieces
-          (logical (state_of pairs words log).pieces w) most) e all
-      slot node (in_row r p g) (inl k) up =
-          absurd (no_row (state_of pairs words log).pieces node r (anchor_free pairs words log h)
-          k.1 p)
+      slot node (in_anchor a b e) k up = grind arith
+      slot node (in_row r p g) (inl k) up = grind (arith, no_row, anchor_free)
       slot node (in_row r p g) (inr k) up = let above = up k.1 in
           let it = row_few (state_of pairs words log) node i c.word above.leaves k.1 above.reached
           (in_row r p g) in
@@ -165,9 +158,7 @@ module _ (pairs : List Pair) (words : ℕ) (opens : CanOpen pairs words) where
     where
       rise : (event : Event) → puts_in (changes_of pairs words log) ≤ puts_in
           (changes_of pairs words (event ∷ log))
-      rise event =
-          let on = changes_on (start pairs words) log (event ∷ log) (one_event event same_log) in
-          puts_rise (changes_of pairs words log) on.0 (changes_of pairs words (event ∷ log)) on.1
+      rise event = grind (arith, changes_on, puts_rise)
 
       by_origin : (event : Event) → EachEnabled (start pairs words) (event ∷ log)
           → (state_of pairs words (event ∷ log)).pieces node ≡ Some (Inner r)
@@ -178,10 +169,8 @@ module _ (pairs : List Pair) (words : ℕ) (opens : CanOpen pairs words) where
           → k ≤ length pairs + puts_in (changes_of pairs words (event ∷ log))
       by_origin event all there (status_was s old same) before =
           let low = before s old (sym same ∙ is) in let more = rise event in omega arith
-      by_origin event all there (is_new none same) before =
-          let odd : r.status ≡ 4 * k + 3 = is in absurd (omega arith)
-      by_origin _ all there (marked_now can same) before =
-          let odd : r.status ≡ 4 * k + 3 = is in absurd (omega arith)
+      by_origin event all there (is_new none same) before = grind arith
+      by_origin _ all there (marked_now can same) before = grind arith
       by_origin _ all there (finished_now {caller = caller} {keys = keys} can same) before =
           let apart = not_the_anchor pairs words opens log all.0 node can.row can.published in
           let it = linked_few log all.0 (length pairs + puts_in (changes_of pairs words log))

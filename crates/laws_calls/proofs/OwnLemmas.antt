@@ -52,10 +52,7 @@ module _ (pairs : List Pair) (words : ℕ) where
           → HasChange (state_of pairs words earlier) base ⊎ WasInstalled earlier log y.owner base
           → HasChange (state_of pairs words earlier) base
           ⊎ WasInstalled earlier (event ∷ log) x.owner base
-      before event y same found = ⊎_elim (λ k. inl k)
-          (λ k. inr (installed_on earlier log event x.owner base
-          (subst (λ c. WasInstalled earlier log c base) same k)))
-          found
+      before event y same found = grind (arith, installed_on)
 
       at : (event : Event) → ChangeComes (start pairs words) log base x event
           → ((y : ChangeRow) → (state_of pairs words log).pieces base ≡ Some (Change y)
@@ -98,8 +95,7 @@ module _ (pairs : List Pair) (words : ℕ) (opens : CanOpen pairs words) where
           → y.owner ≡ caller → (state_of pairs words earlier).pieces base ≡ Some (Change y))
           → (state_of pairs words earlier).pieces base ≡ Some (Change x)
       at event all else_by (change_was old) before = before x old own
-      at _ all else_by (is_installed {caller = by} k is) before =
-          absurd (else_by (ap Caller (sym k.owned ∙ ap (λ y. y.owner) (sym is) ∙ own)))
+      at _ all else_by (is_installed {caller = by} k is) before = grind arith
       at _ all else_by (is_decided k is) before =
           let old = before k.change k.pending.published (ap (λ y. y.owner) (sym is) ∙ own) in
           let happened = resolved base k.change old (ap (λ y. y.owner) (sym is) ∙ own) in absurd
@@ -162,10 +158,7 @@ module _ (pairs : List Pair) (words : ℕ) (opens : CanOpen pairs words) where
         decision = said.1;
         to = to;
       }
-      at (inr unsaid) =
-          let it = finish_of t x rebuild formed (ap ref_of (sym (side_not_yes x unsaid.1))
-          ∙ reads) in
-          subst (λ b. IsStarted t b) it.same it.form.started
+      at (inr unsaid) = grind (arith, finish_of, t, formed, side_not_yes)
 
   -- ---- slots of rows that are published now
 
@@ -179,11 +172,8 @@ module _ (pairs : List Pair) (words : ℕ) (opens : CanOpen pairs words) where
       at : (event : Event) → ChangeComes (start pairs words) log base x event
           → WasLinked (start pairs words) log x.node
       at event (change_was old) = node_was_linked pairs words opens log h.0 base x old
-      at _ (is_installed can is) =
-          subst (λ c. WasLinked (start pairs words) log c.node) (sym is) can.linked
-      at _ (is_decided can is) =
-          subst (λ n. WasLinked (start pairs words) log n) (ap (λ c. c.node) (sym is))
-          (node_was_linked pairs words opens log h.0 base can.change can.pending.published)
+      at _ (is_installed can is) = grind arith
+      at _ (is_decided can is) = grind (arith, node_was_linked)
 
   -- so a row with a slot that names a rebuild was there before the event
   pub rebuild_slot_old : (log : Log) (event : Event) → EachEnabled (start pairs words) (event ∷ log)

@@ -103,9 +103,7 @@ get_part n (suc j) i leaves less =
     (λ (low : i < j). get_left (parts_to n j leaves) (share_of n j leaves) i (omega arith)
     ∙ get_part n j i leaves low)
     (λ (high : j ≤ i).
-    let same : i ≡ j = omega arith in
-    get_end (parts_to n j leaves) (share_of n j leaves) i (omega arith)
-    ∙ ap (λ k. Some (share_of n k leaves)) (sym same))
+    grind (arith, get_end))
     (cases_lt i j))
 
 -- the part of each child

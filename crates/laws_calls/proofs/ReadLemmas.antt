@@ -1,5 +1,5 @@
 -- If a slot reads as a rebuild, the rebuild was started. Serves the start law.
-use Rattle.std.proofs.Common.{List, None, Option, Some, [], ap, inl, inr, refl, subst, sym, ℕ, ⊎_elim, ◌∙◌, ◌∷◌, ◌≡◌, ◌⊎◌}
+use Rattle.std.proofs.Common.{List, None, Option, Some, [], ap, inl, refl, subst, sym, ℕ, ⊎_elim, ◌∙◌, ◌∷◌, ◌≡◌, ◌⊎◌, arith}
 use Rattle.std.proofs.lemmas.Option.{same_Some}
 use Rattle.ist_core.specs.declared.events.Event.TheVariants.{Install, Place, Resolve}
 use Rattle.ist_core.specs.declared.events.Event.{Event}
@@ -45,10 +45,7 @@ module _ (pairs : List Pair) (words : ℕ) (opens : CanOpen pairs words) where
   unfolding Keeps
   write_keeps log event h at j new gone w tells node i old word rebuild was now is = ⊎_elim
       (λ here.
-      let there = subst (λ k. SlotHolds u at k word) here.2
-      (subst (λ n. SlotHolds u n i word) here.1 now) in
-      let same = slot_once u at j new word free w.now there in
-      inr (tells rebuild (ap ref_of same ∙ is)))
+      grind (arith, slot_once, free))
       (λ stays. inl (slot_once u node i old word free stays now)) (w.others node i old was)
     where
       u : Snapshot
@@ -116,8 +113,7 @@ module _ (pairs : List Pair) (words : ℕ) (opens : CanOpen pairs words) where
 
       by_change : (base : ℕ) (o : Option Piece) → t.pieces base ≡ o
           → change_reads o ≡ Some (RebuildAt rebuild) → IsStarted t rebuild
-      by_change base (Some (Change x)) e reads =
-          side_started pairs words opens log h base x e rebuild reads
+      by_change base (Some (Change x)) e reads = grind (arith, side_started)
       by_change base (Some (Leaf x)) e reads = absurd (cc)
       by_change base (Some (Inner x)) e reads = absurd (cc)
       by_change base (Some (Rebuild x)) e reads = absurd (cc)

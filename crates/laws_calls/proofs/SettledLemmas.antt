@@ -1,14 +1,14 @@
 -- If callers have done what they began, the table is settled. Serves the settled law.
-use Rattle.std.proofs.Common.{List, Some, [], ap, arith, inl, inr, refl, subst, sym, ℕ, ⊎_elim, ◌<◌, ◌∙◌, ◌∷◌, ◌≡◌, ◌≢◌, ◌≤◌, None, ◌+◌, ◌⊎◌}
+use Rattle.std.proofs.Common.{List, Some, [], ap, arith, inl, inr, refl, subst, sym, ℕ, ⊎_elim, ◌<◌, ◌∙◌, ◌∷◌, ◌≡◌, ◌≢◌, ◌≤◌, None, ◌⊎◌}
 use Rattle.std.proofs.lemmas.Bool.Decides.{eqb_tells}
 use Rattle.ist_core.specs.declared.pairs.Pair.{Pair}
 use Rattle.ist_core.specs.declared.states.InnerRow.{InnerRow}
-use Rattle.ist_core.specs.declared.events.Event.TheVariants.{Draw, Install, Root}
+use Rattle.ist_core.specs.declared.events.Event.TheVariants.{Install, Root}
 use Rattle.ist_core.specs.declared.events.Event.{Event}
 use Rattle.ist_core.specs.declared.lists.Row.{Row}
 use Rattle.ist_core.specs.declared.states.ChangeRow.{ChangeRow}
 use Rattle.ist_core.specs.declared.states.RebuildRow.{RebuildRow}
-use Rattle.ist_core.specs.WordTerms.{limit, Inner, anchor, IsOpen, anchor_is, row_is, start, Change, Rebuild, InnerAt, RebuildAt, ref_of}
+use Rattle.ist_core.specs.WordTerms.{limit, Inner, anchor, IsOpen, anchor_is, row_is, start, Change, Rebuild, RebuildAt, ref_of}
 use Rattle.ist_core.specs.LogTerms.{Among, CanOpen, EachEnabled, state_of, GoesOn, Log}
 use Rattle.ist_core.specs.TreeTerms.{Chain, IsChild, Linked, at_anchor, below, no_row, one_row, IsSettled}
 use Rattle.ist_core.proofs.AllWordLemmas.{among-append, same_rebuild, no_value}
@@ -50,9 +50,7 @@ module _ (pairs : List Pair) (words : ℕ) (opens : CanOpen pairs words) where
       (λ above. chain_row_linked at log on h node rows chain
       (parent_linked at log on h node i child c (child_no_anchor pairs words opens at before node i
       child c) l) row above)
-      (λ last. ⊎_elim (λ e. subst (λ b. Linked (state_of pairs words log) b) (sym e) l)
-      (λ none. absurd none) last)
-      (among-append row rows (child ∷ []) k)
+      (λ last. grind arith) (among-append row rows (child ∷ []) k)
 
   -- ---- at rest
 
@@ -108,8 +106,7 @@ module _ (pairs : List Pair) (words : ℕ) (opens : CanOpen pairs words) where
       → IsSettled (state_of pairs words log)
   settled log h starts closed = let done = rebuilds_done log h starts in record {
     all_open = rest_is_open pairs words opens log h done;
-    none_due = λ node row l e. below_limit row.count (limit row.size)
-        (not_due log h done closed node row l e);
+    none_due = grind (arith, below_limit, not_due);
   }
 
 -- ---- a rebuild has one start, and is in its slot until it is replaced. Serves the start law.
@@ -133,7 +130,7 @@ module _ (pairs : List Pair) (words : ℕ) where
           kind = ap (λ c. c.kind) same ∙ s.1.kind;
           node = ap (λ c. c.node) same ∙ s.1.node ∙ sym parent;
           index = ap (λ c. c.index) same ∙ s.1.index ∙ sym index;
-          from = ap (λ c. ref_of c.from) same ∙ s.1.from ∙ ap (λ n. Some (InnerAt n)) (sym target);
+          from = grind arith;
           to = ap (λ c. ref_of c.to) same ∙ s.1.to;
         },
       )
@@ -163,8 +160,7 @@ module _ (pairs : List Pair) (words : ℕ) where
       start_grows log (Root caller rebuild word rows) h rebuild can.row
       (record (can.row) { root = word }) refl refl refl before)
       (λ log caller rebuild part h can before.
-      start_grows log (Draw caller rebuild part) h rebuild can.row
-      (record (can.row) { draw = can.row.draw + 1 }) refl refl refl before)
+      grind (arith, start_grows))
 
 module _ (pairs : List Pair) (words : ℕ) (opens : CanOpen pairs words) where
   -- ---- one start
@@ -235,5 +231,4 @@ module _ (pairs : List Pair) (words : ℕ) (opens : CanOpen pairs words) where
       both (inl s) (inl t) again = again s t
       both (inl s) (inr n) again = absurd (put_published log h.0 base rebuild s n.none)
       both (inr n) (inl t) again = absurd (put_published log h.0 other rebuild t n.none)
-      both (inr m) (inr n) again =
-          one_install m.caller base n.caller other m.rows n.rows (sym m.is ∙ n.is)
+      both (inr m) (inr n) again = grind (arith, one_install)

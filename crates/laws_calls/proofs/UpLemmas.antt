@@ -46,7 +46,7 @@ pub counts_from : (earlier log : Log) (caller i row : ℕ) (rows : List ℕ)
     → GoesOnBy (CountsFrom caller rows i) earlier (Count caller row ∷ log)
 counts_from earlier log caller i row rows e later =
     one_more (Count caller row) (all_before caller i rows earlier log later)
-    (λ node counts. (i, omega arith, e ∙ ap (λ n. Some n) (counted_node caller node row counts)))
+    (λ node counts. grind (arith, counted_node))
 
 module _ (pairs : List Pair) (words : ℕ) (opens : CanOpen pairs words) where
   -- no row of a node's chain lies above the node
@@ -79,8 +79,7 @@ module _ (pairs : List Pair) (words : ℕ) (opens : CanOpen pairs words) where
           let high = child_above (state_of pairs words at) node k child
           (names pairs words opens at h) c in
           let same = b.1 in omega arith
-      case (inr a) (inl b) again =
-          let short = slice_get_within rows j row b in let is = a.0 in absurd (omega arith)
+      case (inr a) (inl b) again = grind (arith, slice_get_within)
       case (inr a) (inr b) again = let is = a.0 in let too = b.0 in absurd (omega arith)
 
   -- the update may be counted at the row, if only later rows of the list were counted at
@@ -191,9 +190,7 @@ born_sized first log _ base p can (by_place {rows = rows} i e) =
 -- the rows at the start
 rows_sized : (fuel base : ℕ) (pairs : List Pair) → Each (λ row. IsSized row.1)
     (rows_within fuel base pairs)
-rows_sized = rows_have IsSized (λ r. tt)
-    (λ base all two. record
-    { degree = least_degree-le (length all); size = omega arith; status = Open; status_is = refl })
+rows_sized = rows_have IsSized (λ r. tt) (λ base all two. grind (arith, least_degree-le))
 
 -- each inner row after a lawful log has its degree, its size and a status
 sized : (pairs : List Pair) (words : ℕ) (log : Log) → EachEnabled (start pairs words) log
@@ -209,8 +206,7 @@ sized pairs words (event ∷ log) h base q e =
     at : ((p : Piece) → (state_of pairs words log).pieces base ≡ Some p → IsSized p)
         → Comes (start pairs words) log event base q → IsSized q
     at before (from_old p there g) = grows_sized p q g (before p there)
-    at before (from_born p born g) =
-        grows_sized p q g (born_sized (start pairs words) log event base p h.1 born)
+    at before (from_born p born g) = grind (arith, grows_sized, born_sized)
 
 -- a status with few keys is read back from its word
 told_status : (status : Status) → ((k : ℕ) → status ≡ Finished k → k ≤ place_limit)

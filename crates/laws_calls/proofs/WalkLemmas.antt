@@ -1,6 +1,6 @@
 -- The rows that a search or a walk meets are the chain of the node that it reaches. Serves the walk
 -- law.
-use Rattle.std.proofs.Common.{List, Some, [], ap, arith, inl, inr, length, refl, slice_get, subst, suc, sym, zero, ℕ, ⊎_elim, ◌*◌, ◌++◌, ◌+◌, ◌<◌, ◌∙◌, ◌∷◌, ◌≡◌, ◌≢◌, ◌≤◌, ◌⊎◌}
+use Rattle.std.proofs.Common.{List, Some, [], ap, arith, inl, inr, length, refl, slice_get, subst, suc, sym, zero, ℕ, ⊎_elim, ◌++◌, ◌+◌, ◌<◌, ◌∙◌, ◌∷◌, ◌≡◌, ◌≢◌, ◌≤◌, ◌⊎◌}
 use Rattle.ist_core.specs.declared.pairs.Pair.{Pair}
 use Rattle.ist_core.specs.LogTerms.{Among, CanOpen, EachEnabled, state_of, GoesOn, Log, Snapshot}
 use Rattle.ist_core.specs.TreeTerms.{Chain, IsChild, Linked, WasLinked, WasOnChain, at_anchor, below, no_row, one_row}
@@ -107,8 +107,7 @@ chain_upper t _ _ (one_row {node = node} {child = child} {rows = rows} k chain c
         xs × Among upper xs)
         → (xs : List ℕ) × Chain t row xs × Among upper xs
     at (inl a) (inl b) above = above b a
-    at (inl a) (inr b) above =
-        let short = get_below rows j row a in let is = b.0 in absurd (omega arith)
+    at (inl a) (inr b) above = grind (arith, get_below)
     at (inr a) b above = (
       rows ++ child ∷ [],
       subst (λ n. Chain t n (rows ++ child ∷ [])) a.1 (one_row k chain c),
@@ -214,9 +213,7 @@ module _ (pairs : List Pair) (words : ℕ) (opens : CanOpen pairs words) where
     where
       finished_was : IsFinished (state_of pairs words at) child → WasLinked (start pairs words) at
           child
-      finished_was f = let odd : f.1.row.status ≡ 4 * f.0 + 3 = f.1.status in
-          closed_was_linked pairs words opens at h child f.1.row f.1.published
-          (λ o. (let zero_is : f.1.row.status ≡ 0 = o in omega arith))
+      finished_was f = grind (arith, closed_was_linked)
 
   -- the rows that a walk met are the chain of the node that it reached
   pub walked_chain : (log at : Log) → EachEnabled (start pairs words) log → GoesOn at log

@@ -1,6 +1,6 @@
 -- Where a root was Unset and is set, another's Root of the same sizes lies between. Serves
 -- `laws.builds_come`.
-use Rattle.std.proofs.Common.{◌≡◌, ◌≢◌, ℕ, ◌+◌, ◌*◌, List, ◌∷◌, Some, refl, sym, ap, ◌∙◌, subst, inl, inr}
+use Rattle.std.proofs.Common.{◌≡◌, ◌≢◌, ℕ, ◌+◌, ◌*◌, List, ◌∷◌, Some, refl, sym, ap, ◌∙◌, subst, inl, inr, arith}
 use Rattle.ist_core.specs.declared.events.Event.{Event}
 use Rattle.ist_core.specs.declared.events.Event.TheVariants.{Root, Draw, Place, Lose}
 use Rattle.ist_core.specs.declared.lists.Row.{Row}
@@ -106,8 +106,7 @@ module _ (pairs : List Pair) (words : ℕ) (opens : CanOpen pairs words) where
             (grow_after pairs words log (Root caller rebuild word rows) h) can.row.target can.k
             can.finished in
             let number_same : can.k ≡ k =
-            finished_once u can.row.target can.k k on
-            (subst (λ n. IsFinishedWith u n k) (ap (λ x. x.target) same) done) in (
+            grind (arith, finished_once) in (
               out,
               inl (root_sizes_once k (sizes_of rows) sizes
                   (subst (λ n. IsRootSizes n (sizes_of rows)) number_same

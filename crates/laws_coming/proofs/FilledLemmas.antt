@@ -53,9 +53,7 @@ pub part_sizes : (ps : Pieces) (rows : List Row) (ref : Ref) (part : List Placed
     → IsIdeal (with_inners ps rows) ref part above (bases_of rows)
     → sizes_of rows ≡ shape (length part)
 part_sizes ps rows ref part above once free ideal =
-    sym (published_sizes ps rows once free
-    (ideal_stands (with_inners ps rows) ref part above (bases_of rows) ideal))
-    ∙ ideal_sizes (with_inners ps rows) ref part above (bases_of rows) ideal
+    grind (arith, published_sizes, ideal_stands, ideal_sizes)
 
 -- ---- slots
 
@@ -172,7 +170,7 @@ module _ (pairs : List Pair) (words : ℕ) (prefix log : Log) (on : GoesOn prefi
           (sym (get-words_of_slot old.0 i)
           ∙ ap (λ x. slice_get (words_of x) (4 + length old.0.keys + i)) (sym old.1)
           ∙ ap (slice_get (words_of p)) (sym offset) ∙ got))
-          (λ two. ⊎_elim (λ le. absurd (omega arith)) (λ le. absurd (omega arith)) two.1)
+          (λ two. grind arith)
           (claimed_apart pairs words log base (size_of it.0) node (size_of (Inner row)) h
           ((placed pairs words log h).published base it.0 it.1)
           ((placed pairs words log h).published node (Inner row) published))
@@ -197,12 +195,9 @@ module _ (pairs : List Pair) (words : ℕ) (opens : CanOpen pairs words) (number
       let set : can.row.root ≢ unset_word = set_by can.row.root _ can.root_is (λ q. cc) in
       let it = rebuild_there t.pieces u.pieces g other can.row can.published in
       let one : other ≡ rebuild =
-      root_once pairs words opens last h other rebuild root it.0 row it.1 published
-      (ap ref_of (it.2.rooted set) ∙ subst (λ b. ref_of can.row.root ≡ Some (InnerAt b)) (sym same)
-      can.root_is) root_is in
+      grind (arith, root_once) in
       let target : it.0.target ≡ row.target =
-      ap (λ r. r.target) (same_rebuild (u.pieces rebuild) it.0 row
-      (subst (λ b. u.pieces b ≡ Some (Rebuild it.0)) one it.1) published) in
+      grind (arith, same_rebuild) in
       let number_of = rooted_is_finished pairs words log enabled other can.row can.published set in
       let number_is_k : number_of.0 ≡ k =
       finished_once u row.target number_of.0 k

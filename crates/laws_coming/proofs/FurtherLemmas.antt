@@ -1,13 +1,13 @@
 -- When a caller has seen its table make progress, and that it sees that only so often. Serves the
 -- loops of the crates above.
-use Rattle.std.proofs.Common.{◌≡◌, ℕ, ◌-◌, ◌<◌, Some, sym, subst, arith, ◌+◌, refl, ap, ◌∙◌}
+use Rattle.std.proofs.Common.{◌≡◌, ℕ, ◌-◌, ◌<◌, Some, sym, subst, arith, ◌+◌, refl}
 use Rattle.ist_core.specs.declared.events.Event.{Event}
 use Rattle.ist_core.specs.declared.events.Event.TheVariants.{Count, Draw}
 use Rattle.ist_core.specs.declared.states.InnerRow.{InnerRow}
 use Rattle.ist_core.specs.declared.states.RebuildRow.{RebuildRow}
 use Rattle.ist_core.specs.declared.events.Who.TheVariants.{Caller}
 use Rattle.ist_core.specs.LogTerms.{GoesOn, Happened, Resolves, Later, Log, state_of, IsShown}
-use Rattle.ist_core.specs.WordTerms.{ChangeAt, ref_of, SlotHolds, inner_count_offset, rebuild_draw_offset, Inner, Rebuild, as_inner, as_rebuild, start}
+use Rattle.ist_core.specs.WordTerms.{ChangeAt, ref_of, SlotHolds, inner_count_offset, rebuild_draw_offset, Inner, Rebuild, start}
 use Rattle.ist_core.proofs.AllWordLemmas.{word_of-ref_of}
 use Rattle.ist_core.proofs.AllLogLemmas.{goes_on_by, on_chain_inner, count_low, inner_there, rebuild_there}
 use Rattle.laws_links.proofs.ResolvedLemmas.{resolved_gone, draw_low}
@@ -17,7 +17,7 @@ use Rattle.laws_stability.specs.Progress.{progress, most_progress}
 use Rattle.laws_stability.proofs.BoundLemmas.{bounded}
 use Rattle.laws_stability.proofs.OwnLemmas.{never_falls, resolving}
 use Rattle.laws_coming.specs.Further.{CameFurther}
-use Rattle.ist_core.specs.TreeTerms.{CanDraw, CanCount, touch_of_count, touch_of_draw}
+use Rattle.ist_core.specs.TreeTerms.{CanDraw, CanCount}
 use Rattle.ist_rule.proofs.WatchLemmas.{shown_in_row}
 use Rattle.laws_stability.proofs.IdealLemmas.{next_draw_stays}
 use Rattle.laws_stability.proofs.CountEventLemmas.{count_stays}
@@ -26,8 +26,7 @@ use Rattle.laws_coming.proofs.KnownLemmas.{in_piece, fast_known, grow}
 
 -- progress after an earlier log is progress
 pub later_further : (u v w : View) → GoesOn u.log v.log → CameFurther v w → CameFurther u w
-later_further u v w g k = let first = never_falls u.log v.log g in let more = k.more in
-    record { more = omega arith }
+later_further u v w g k = grind (arith, never_falls)
 
 -- steps before it take nothing away
 pub no_less : (P : Event → Type 0) (u v w : View) → WentOn P u v → CameFurther v w → CameFurther u w
@@ -39,8 +38,7 @@ after_load u v w g = later_further u v w (goes_on_by g.later)
 
 -- steps after it keep it
 pub and_on : (P : Event → Type 0) (u v w : View) → CameFurther u v → WentOn P v w → CameFurther u w
-and_on P u v w k g = let then = never_falls v.log w.log (goes_on_by g.later) in let more = k.more in
-    record { more = omega arith }
+and_on P u v w k g = grind (arith, never_falls, goes_on_by)
 
 -- a change that wasn't resolved before is resolved after
 pub resolved_further : (P : Event → Type 0) (v w : View) → WentOn P v w → (change : ℕ)
@@ -62,8 +60,7 @@ helped_further P v w s g node i word change here is out = resolved_further P v w
 -- less progress is left then
 pub fewer_left : (v w : View) → IsSound w → CameFurther v w
     → most_progress - progress w.log < most_progress - progress v.log
-fewer_left v w s k = let more = k.more in
-    let most = bounded w.start w.words s.lawful.opens w.log s.lawful.enabled in omega arith
+fewer_left v w s k = grind (arith, bounded)
 
 -- ---- an add may be the event that it is named for, whatever others do meanwhile. Serves
 -- `laws.enabled_events_come`.
@@ -93,7 +90,7 @@ module _ (v : View) (s : IsSound v) (number : ℕ) (mine : v.who ≡ Caller numb
       let it = on_chain_inner v.start v.words s.lawful.opens v.log s.lawful.enabled
       can.update.change.node node can.on_chain in
       record {
-        make = λ found. record { mine = sym mine; stored = tt; allowed = tt };
+        make = grind arith;
         known = fast_known v _ (in_piece node 1 (Inner it.0) it.1 (omega arith));
         comes = λ log m found shown. let u = state_of v.start v.words log in
             let r = count_after node it.0 it.1 log m found shown in record {
@@ -101,16 +98,9 @@ module _ (v : View) (s : IsSound v) (number : ℕ) (mine : v.who ≡ Caller numb
                   (subst (λ who. Later who v.log log) mine m.later) m.lawful.enabled node can
                   (none_accepted v.start v.words s.lawful.opens v.log s.lawful.enabled number all
                   u);
-              touches = ap (λ o. touch_of_count node (as_inner o)) r.1
-                  ∙ ap (λ n. Some record {
-                    place = node + inner_count_offset;
-                    found = n;
-                    left = n + 1;
-                  }) (sym r.2);
+              touches = grind arith;
             };
-        fits = λ log m found shown. let r = count_after node it.0 it.1 log m found shown in
-            let low = count_low v.start v.words m.lawful.opens log m.lawful.enabled node r.0 r.1 in
-            let is = r.2 in omega arith;
+        fits = grind (arith, count_after, count_low);
       }
 
   -- ---- draws
@@ -132,24 +122,5 @@ module _ (v : View) (s : IsSound v) (number : ℕ) (mine : v.who ≡ Caller numb
   -- an add to the draw word may be a Draw
   pub draw_comes : (rebuild part : ℕ) → CanDraw (now v) v.log number rebuild part
       → CanAdd v (rebuild + rebuild_draw_offset) (λ found. Draw number rebuild found)
-  draw_comes rebuild part can = record {
-    make = λ found. record { mine = sym mine; stored = tt; allowed = tt };
-    known = fast_known v _ (in_piece rebuild 4 (Rebuild can.row) can.published (omega arith));
-    comes = λ log m found shown. let u = state_of v.start v.words log in
-        let r = draw_after rebuild can.row can.published log m found shown in record {
-          enabled = next_draw_stays v.start v.words m.lawful.opens number
-              (subst (λ who. Later who v.log log) mine m.later) m.lawful.enabled
-              rebuild part found can shown;
-          touches = ap (λ o. touch_of_draw rebuild (as_rebuild o)) r.1
-              ∙ ap (λ n. Some record {
-                place = rebuild + rebuild_draw_offset;
-                found = n;
-                left = n + 1;
-              }) (sym r.2);
-        };
-    fits = λ log m found shown.
-        let r = draw_after rebuild can.row can.published log m found shown in
-        let low = draw_low v.start v.words m.lawful.opens log m.lawful.enabled rebuild r.0 r.1
-        in
-        let is = r.2 in omega arith;
-  }
+  draw_comes rebuild part can =
+      grind (arith, fast_known, in_piece, draw_after, next_draw_stays, draw_low)

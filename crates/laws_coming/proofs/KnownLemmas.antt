@@ -77,8 +77,7 @@ slot_fast v s node i word (in_row r e at) =
 -- an exchange whose word is gone fails, so that it may be named for any event of the caller
 pub gone_missed : (v : View) (event : Event) → CanMake v event → (place old new : ℕ)
     → IsKnown v place → IsGone v place old → CanExchange v place old new event
-gone_missed v event make place old new known gone =
-    record { make = make; known = known; comes = λ log m shown. absurd (gone log m shown) }
+gone_missed v event make place old new known gone = grind arith
 
 -- what is shown as the status of a node after a log that may come is its status there
 pub status_after : (v : View) (node : ℕ) (row : InnerRow) → (now v).pieces node ≡ Some (Inner row)
@@ -109,15 +108,12 @@ from_finished k (is_closed n e f) = omega arith
 -- a node that isn't open is never open again
 pub open_gone : (v : View) (node : ℕ) (row : InnerRow) → (now v).pieces node ≡ Some (Inner row)
     → row.status ≢ open_word → IsGone v (node + inner_status_offset) open_word
-open_gone v node row e shut log m shown =
-    shut (from_open row.status (status_after v node row e log m open_word shown))
+open_gone v node row e shut log m shown = grind (arith, from_open, status_after)
 
 -- a finished node is never marked again
 pub mark_gone : (v : View) (node k : ℕ) (row : InnerRow) → (now v).pieces node ≡ Some (Inner row)
     → row.status ≡ finished_word k → IsGone v (node + inner_status_offset) marked_word
-mark_gone v node k row e is log m shown =
-    from_finished k (subst (λ n. StatusGoesOn n marked_word) is
-    (status_after v node row e log m marked_word shown))
+mark_gone v node k row e is log m shown = grind (arith, from_finished, status_after)
 
 -- ---- an event that is enabled in the caller's log may be made, whatever others do meanwhile. Serves
 -- `laws.enabled_events_come`.
@@ -127,9 +123,7 @@ module _ (v : View) (s : IsSound v) where
   touched : (place old new : ℕ) (event : Event) → ComesAt v v.log event place old new
       → (touch : Touch) → touch_of (now v) event ≡ Some touch → IsFast (now v) touch.place
       → IsFast (now v) place
-  touched place old new event c touch is fast = subst (λ x. IsFast (now v) x.place)
-      (same_value (touch_of (now v) event) touch record { place = place; found = old; left = new } is
-      c.touches) fast
+  touched place old new event c touch is fast = grind (arith, same_value)
 
   place_fast : (place old new : ℕ) (event : Event) → IsExchange event
       → ComesAt v v.log event place old new → IsFast (now v) place
@@ -214,12 +208,8 @@ module _ (v : View) (s : IsSound v) where
     comes_still : (event : Event) → IsExchange event → CanMake v event → (place old new : ℕ)
         → ComesAt v v.log event place old new → IsShown u place old
         → ComesAt v log event place old new
-    comes_still event x k place old new c shown = record {
-      enabled = enabled_still event x k c.enabled
-          record { touch = _; is = c.touches; found = shown };
-      touches = touch_stays v.start v.words v.log log (goes_on_by m.later) m.lawful.enabled
-          event c.enabled (adds_nothing event x) ∙ c.touches;
-    }
+    comes_still event x k place old new c shown =
+        grind (arith, enabled_still, touch_stays, goes_on_by, adds_nothing)
 
   -- an enabled exchange may be made
   pub exchange_comes : (event : Event) → IsExchange event → CanMake v event → (place old new : ℕ)

@@ -1,12 +1,12 @@
 -- What was built for a root may be put in place, or lost. Serves `laws.builds_come`.
-use Rattle.std.proofs.Common.{◌≡◌, ◌≢◌, ℕ, ◌+◌, ◌≤◌, List, [], ◌∷◌, Some, refl, sym, ap, ◌∙◌, subst, inr, ⊎_elim, arith}
+use Rattle.std.proofs.Common.{◌≡◌, ◌≢◌, ℕ, ◌+◌, ◌≤◌, List, [], ◌∷◌, Some, refl, sym, ◌∙◌, subst, inr, ⊎_elim, arith}
 use Rattle.std.proofs.lemmas.Bool.Decides.{eqb_tells}
 use Rattle.ist_core.specs.declared.events.Event.TheVariants.{Root, Lose}
 use Rattle.ist_core.specs.declared.lists.Row.{Row}
 use Rattle.ist_core.specs.declared.states.RebuildRow.{RebuildRow}
 use Rattle.ist_core.specs.declared.events.Who.TheVariants.{Caller}
 use Rattle.ist_core.specs.WordTerms.{rebuild_root_offset, shape, unset_word, Rebuild, start}
-use Rattle.ist_core.specs.LogTerms.{Snapshot, bases_of, sizes_of, HoldsRows, Later, Log, IsBuild, build_whole, build_top, Distinct, state_of, IsShown}
+use Rattle.ist_core.specs.LogTerms.{Snapshot, bases_of, sizes_of, HoldsRows, Log, IsBuild, build_whole, build_top, Distinct, state_of, IsShown}
 use Rattle.ist_core.specs.TreeTerms.{HoldsSizes, IsBeaten, CanRoot, RebuildGrows, IsStarted, IsFinishedWith}
 use Rattle.ist_core.proofs.AllEventLemmas.{held_free}
 use Rattle.ist_core.proofs.AllLogLemmas.{enabled_before, rebuild_there, goes_on_by}
@@ -55,18 +55,9 @@ rows_lost v s number rebuild k rows mine row there started finished once held bu
         known = omega arith;
         cause = inr record {
           sizes = sizes_of rows;
-          held = holds_sizes u number rows (rows_later v.start v.words number
-              (subst (λ who. Later who v.log log) mine m.later) m.lawful.enabled rows held);
+          held = grind (arith, holds_sizes, rows_later);
           once = once;
-          building = record {
-            rebuild = rebuild;
-            row = on.0;
-            published = on.1;
-            started = started_grows (now v) u g rebuild started;
-            k = k;
-            finished = done;
-            build = build;
-          };
+          building = grind (arith, started_grows);
           beaten = beaten on.0 on.1 on.2 done;
         };
       };
@@ -82,10 +73,7 @@ shape_some k rows some e = at k e
     no_rows (x ∷ xs) f = absurd (cc)
 
     at : (n : ℕ) → sizes_of rows ≡ shape n → 2 ≤ n
-    at n f = ⊎_elim (λ none. absurd (some (no_rows rows (f ∙ ap shape none.1 ∙ shape_none))))
-        (λ more. ⊎_elim (λ one. absurd (some (no_rows rows (f ∙ ap shape one.1 ∙ shape_one))))
-        (λ two. let a = more.1 in let b = two.1 in omega arith) (eqb_tells n 1))
-        (eqb_tells n 0)
+    at n f = grind (arith, no_rows, shape_none, shape_one, eqb_tells)
 
 -- a root of some rows is a build
 root_build : (k : ℕ) (rows : List Row) → rows ≢ [] → IsRootSizes k (sizes_of rows)
@@ -123,10 +111,7 @@ module _ (v : View) (s : IsSound v) (number rebuild word : ℕ) (rows : List Row
   root_comes =
       ⊎_elim (λ none. exchange_comes v s (Root number rebuild word rows) tt make_root _ _ _
       record { enabled = can none.1; touches = refl })
-      (λ set. gone_missed v (Root number rebuild word rows) make_root _ _ _
-      (fast_known v _ (in_piece rebuild 3 (Rebuild b.row) b.published (omega arith)))
-      (λ log m shown. let r = root_after log m unset_word shown in
-      set.1 (sym (r.3 set.1) ∙ sym r.2)))
+      (λ set. grind (arith, gone_missed, make_root, fast_known, in_piece, root_after))
       (eqb_tells b.row.root unset_word)
     where
       can : b.row.root ≡ unset_word → CanRoot (now v) number rebuild word rows
@@ -178,8 +163,4 @@ module _ (v : View) (s : IsSound v) (number rebuild word : ℕ) (rows : List Row
   pub root_comes_or_loses : rows ≢ [] → WasUnset v number (rebuild + rebuild_root_offset)
       → CanExchangeOrLose v (rebuild + rebuild_root_offset) unset_word word
       (Root number rebuild word rows) (Lose number (bases_of rows))
-  root_comes_or_loses some was = record {
-    hit = root_comes;
-    make = record { mine = sym mine; stored = tt; allowed = tt };
-    miss = λ log m found shown differs. root_loses some was log m found shown differs;
-  }
+  root_comes_or_loses some was = grind (arith, root_comes, root_loses)

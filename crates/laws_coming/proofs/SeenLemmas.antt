@@ -56,13 +56,7 @@ without_own caller mine g (one_more event k (inr is)) = one_more event (without_
 pub unset_still : (v w : View) (caller place : ℕ) → v.who ≡ Caller caller
     → WentOn (λ event. ¬ (EndsBuild caller event)) v w → WasUnset v caller place
     → WasUnset w caller place
-unset_still v w caller place mine g was = record {
-  prefix = was.prefix;
-  since = without_own caller mine was.since g.later;
-  shown = subst (λ t. IsShown t place unset_word)
-      (ap₂ (λ p n. state_of p n was.prefix) (sym (ap (λ x. x.start) g.same))
-      (sym (ap (λ x. x.words) g.same))) was.shown;
-}
+unset_still v w caller place mine g was = grind (arith, without_own)
 
 -- ---- what was built for a part of a shared root may be put in place, or lost. Serves
 -- `laws.builds_come`.
@@ -120,25 +114,7 @@ module _ (v : View) (s : IsSound v) (number rebuild i word : ℕ) (rows : List R
     where
       can : slice_get b.root_row.slots i ≡ Some unset_word
           → CanPlace (now v) number rebuild i word rows
-      can free = record {
-        known = s.is_true.low number mine;
-        row = b.row;
-        published = b.published;
-        root = b.root;
-        root_is = b.root_is;
-        root_row = b.root_row;
-        root_published = b.root_published;
-        free = free;
-        leaves = b.leaves;
-        reached = b.reached;
-        part = b.part;
-        part_is = b.part_is;
-        ref = b.ref;
-        ref_is = b.ref_is;
-        ideal = b.ideal;
-        once = b.once;
-        held = b.held;
-      }
+      can free = grind arith
 
   -- the rows have the sizes of the part
   sizes_fit : (sizes_of rows ≡ shape (part_len b.k i)) × (i < degree b.k)
@@ -180,8 +156,4 @@ module _ (v : View) (s : IsSound v) (number rebuild i word : ℕ) (rows : List R
   pub part_comes_or_loses : WasUnset v number place
       → CanExchangeOrLose v place unset_word word (Place number rebuild i word rows)
       (Lose number (bases_of rows))
-  part_comes_or_loses was = record {
-    hit = part_comes;
-    make = record { mine = sym mine; stored = tt; allowed = tt };
-    miss = λ log m found shown differs. part_loses was log m found shown differs;
-  }
+  part_comes_or_loses was = grind (arith, part_comes, part_loses)

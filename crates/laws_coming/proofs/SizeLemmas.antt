@@ -1,5 +1,5 @@
 -- The rows of a build have the sizes that its number of keys says. Serves `laws.builds_come`.
-use Rattle.std.proofs.Common.{◌≡◌, ℕ, ◌<◌, ◌≤◌, List, [], ◌∷◌, ◌++◌, map, drop, length, Option, Some, None, refl, sym, ap, ap₂, ◌∙◌, subst, inl, inr, ⊎_elim, length-append, length-drop, arith}
+use Rattle.std.proofs.Common.{◌≡◌, ℕ, ◌<◌, ◌≤◌, List, [], ◌∷◌, ◌++◌, map, drop, length, Option, Some, None, refl, sym, ap, ap₂, ◌∙◌, subst, inl, inr, length-append, length-drop, arith}
 use Rattle.std.specs.List.{sum, flat_map}
 use Rattle.std.proofs.lemmas.List.{map-append, length-take-le}
 use Rattle.std.proofs.lemmas.List.Concat.{flat_map-cons}
@@ -53,8 +53,7 @@ lengths_of_cut (n ∷ ns) xs fits = let all = sum_by-cons (λ x. x) n ns in
 
 -- the lengths of the parts
 pub lengths_of_parts : (leaves : List PlacedLeaf) → map length (parts leaves) ≡ part_lens (length leaves)
-lengths_of_parts leaves = let whole = sum-part_lens (length leaves) in
-    lengths_of_cut (part_lens (length leaves)) leaves (omega arith)
+lengths_of_parts leaves = grind (arith, sum-part_lens, lengths_of_cut)
 
 mutual
   -- the rows of an ideal subtree have the sizes of its shape
@@ -110,16 +109,8 @@ pub published_sizes : (ps : Pieces) (rows : List Row) → Distinct (bases_of row
     → ((base : ℕ) → Among base (bases_of rows) → ps base ≡ None)
     → Each (λ base. LiesAt (with_inners ps rows) base) (bases_of rows)
     → sizes_at (with_inners ps rows) (bases_of rows) ≡ sizes_of rows
-published_sizes ps rows once free all = let p = publishes-with_inners ps rows all in
-    sizes_by (with_inners ps rows) rows
-    (λ row i. let it = p.named row i in
-    ⊎_elim (λ old. absurd (cc (free row.base (base_among row rows i))))
-    (λ k. size_is (with_inners ps rows row.base) it.0 it.1
-    ∙ k.3 ∙ ap (λ x. length x.words) (one_row rows once k.0 row k.1 i k.2))
-    (p.from row.base it.0 it.1))
-  where
-    size_is : (o : Option Piece) (q : Piece) → o ≡ Some q → size_there o ≡ size_of q
-    size_is o q e = ap size_there e
+published_sizes ps rows once free all =
+    grind (arith, publishes-with_inners, sizes_by, base_among, one_row)
 
 -- ---- roots and parts
 
@@ -141,10 +132,8 @@ pub root_sizes : (ps : Pieces) (rows : List Row) (word k : ℕ) (leaves : List P
     → ((base : ℕ) → Among base (bases_of rows) → ps base ≡ None) → length leaves ≡ k
     → IsRoot (with_inners ps rows) word k leaves target (bases_of rows)
     → IsRootSizes k (sizes_of rows)
-root_sizes ps rows word k leaves target once free many (root_whole ref few e ideal) = of_whole few
-    (sym (published_sizes ps rows once free
-    (ideal_stands (with_inners ps rows) ref leaves target (bases_of rows) ideal))
-    ∙ ideal_sizes (with_inners ps rows) ref leaves target (bases_of rows) ideal ∙ ap shape many)
+root_sizes ps rows word k leaves target once free many (root_whole ref few e ideal) =
+    grind (arith, published_sizes, ideal_stands, ideal_sizes)
 root_sizes ps rows word k leaves target once free many (root_top base row all e top unset one) =
     let qs = with_inners ps rows in
     let shaped : Each (StandsShaped qs) (base ∷ []) =

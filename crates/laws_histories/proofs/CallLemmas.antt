@@ -159,8 +159,7 @@ add_update pairs words seen log number stamp calls last has took changing later 
         stand = record {
           made = λ call i e. ⊎_elim
               (λ j. subst (λ es. slice_get es call.position ≡ Some (entry_by number call)) (sym all) (get_left old (since.0 ++ (one ∷ until.0)) call.position (entry_by number call) (s.made call j e)))
-              (λ z.
-              subst (λ x. slice_get entries x.position ≡ Some (entry_by number x)) (sym z)
+              (λ z. subst (λ x. slice_get entries x.position ≡ Some (entry_by number x)) (sym z)
               (subst (λ p. slice_get entries p ≡ Some one) (sym position) (subst (λ es. slice_get es (length front) ≡ Some one) (sym are) (get_at front until.0 one))))
               (among_last call last calls i);
           exactly = took.alone ∙ ap (λ es. es ++ one ∷ []) s.exactly

@@ -44,11 +44,7 @@ module _ (pairs : List Pair) (words : ℕ) (opens : CanOpen pairs words) where
           (anchor_free pairs words log h) slot k in
           passed_no_change (start pairs words) log change.node change.index v.0 h v.1 base
           (ap ref_of (sym same) ∙ change_read pairs words opens log h base change p.published)
-      at (holds_change x) =
-          let same =
-          slot_once t change.node change.index (word_of (ChangeAt base))
-          (word_of (ChangeAt x.base)) (anchor_free pairs words log h) slot x.in_slot in
-          x.unseen (subst (λ b. Happened (Okays b) log) (same_change_word base x.base same) okay)
+      at (holds_change x) = grind (arith, slot_once, t, anchor_free, slot, same_change_word)
 
 -- ---- when a change is decided
 

@@ -35,10 +35,7 @@ alone number xs mid rest entry own few = parts
     kept = let test : (entry.owner == number) ≡ true = grind (arith, nat_tests) in rw test refl
 
     parts : entries_by number ((xs ++ mid) ++ (entry ∷ rest)) ≡ (entries_by number xs ++ entries_by number mid) ++ (entry ∷ entries_by number rest)
-    parts = filter-append (λ e. e.owner == number) (xs ++ mid) (entry ∷ rest)
-        ∙ ap (λ es. es ++ entries_by number (entry ∷ rest))
-        (filter-append (λ e. e.owner == number) xs mid)
-        ∙ ap (λ es. (entries_by number xs ++ entries_by number mid) ++ es) kept
+    parts = grind (arith, filter-append, kept)
 
     lengths : (length (entries_by number xs) + length (entries_by number mid)) + suc (length (entries_by number rest)) ≤ length (entries_by number xs) + 1
     lengths = let a = ap length parts in
@@ -149,12 +146,10 @@ module _ (pairs : List Pair) (words : ℕ) (opens : CanOpen pairs words) where
       are = following ∙ ap (λ es. es ++ (first ∷ rest.0)) mid.1
 
       has : slice_get (changes_of pairs words log) (length front) ≡ Some first
-      has = subst (λ es. slice_get es (length front) ≡ Some first) (sym following)
-          (get_at front rest.0 first)
+      has = grind (arith, front, first, following, get_at)
 
       it : IsEntryOf pairs words log (length front) base
-      it =
-          entry_made pairs words opens log h turn.caller base turn.at turn.until command before m.1.pending.published command_was
+      it = grind (arith, entry_made, before, command_was)
 
       -- this entry is the one that is read from the row after the log
       one : first ≡ entry_by number call

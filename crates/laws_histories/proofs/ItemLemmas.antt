@@ -4,7 +4,7 @@ use Rattle.std.proofs.Common.{◌≡◌, ℕ, zero, suc, ◌+◌, if◌then◌el
 use Rattle.ist_core.specs.declared.calls.Call.{Call}
 use Rattle.ist_core.specs.declared.pairs.Pair.{Pair}
 use Rattle.ist_core.specs.declared.events.Event.TheVariants.{Decide}
-use Rattle.ist_core.specs.LogTerms.{Among, Log, GoesOn, PassCalls, StandInPrefixes, Reading, readings_of, readings, same_log, one_event, EachEnabled, CanOpen, state_of}
+use Rattle.ist_core.specs.LogTerms.{Among, Log, GoesOn, PassCalls, StandInPrefixes, readings_of, readings, same_log, one_event, EachEnabled, CanOpen, state_of}
 use Rattle.ist_core.specs.WordTerms.{start}
 use Rattle.ist_core.specs.TreeTerms.{Entry, changes_of, is_change, entry_by, Follows, StandsIn, command_of, reply_of, entry_for, entry_of}
 use Rattle.ist_core.proofs.AllWordLemmas.{among_left, among_right, among_filter, each-among, same_change}
@@ -59,8 +59,7 @@ calls_placed pairs words log passes all pass h call i = at (is_change call) refl
     entries = changes_of pairs words log
 
     stands : (prefix : Log) × GoesOn prefix log × StandsIn pairs words prefix pass.number pass.calls
-    stands =
-        each-among (λ one. (prefix : Log) × GoesOn prefix log × StandsIn pairs words prefix one.number one.calls) pass passes all h
+    stands = grind (arith, each-among)
 
     made : is_change call ≡ true
         → slice_get entries call.position ≡ Some (entry_by pass.number call)
@@ -70,13 +69,8 @@ calls_placed pairs words log passes all pass h call i = at (is_change call) refl
 
     at : (v : Bool) → is_change call ≡ v
         → Among (if v then change_at call.position (entry_by pass.number call) else reading_by record { number = pass.number; call = call }) (items entries passes)
-    at true e = let number : 0 + call.position ≡ call.position = omega arith in
-        among_left (change_at call.position (entry_by pass.number call)) (changes_from 0 entries)
-        (map reading_by (readings passes))
-        (subst (λ n. Among (change_at n (entry_by pass.number call)) (changes_from 0 entries)) number (among_changes 0 entries call.position (entry_by pass.number call) (made e)))
-    at false e = let x : Reading = record { number = pass.number; call = call } in
-        among_right (reading_by x) (changes_from 0 entries) (map reading_by (readings passes))
-        (among_map reading_by x (readings passes) (among_readings passes pass h call i e))
+    at true e = grind (arith, among_left, entries, among_changes, made)
+    at false e = grind (arith, among_right, entries, among_map, among_readings)
 
 -- a call that follows another is never placed before it
 pub follower_later : (number other : ℕ) (call later : Call) → Follows call later
@@ -101,13 +95,7 @@ module _ (pairs : List Pair) (words : ℕ) (opens : CanOpen pairs words) where
     where
       later : (c d : ℕ) (a b : Log) → GoesOn (Decide c base true ∷ a) (Decide d base true ∷ b)
           → GoesOn (Decide d base true ∷ b) log → a ≡ b
-      later c d a b x k = at (Decide d base true ∷ b) refl x
-        where
-          at : (whole : Log) → whole ≡ Decide d base true ∷ b
-              → GoesOn (Decide c base true ∷ a) whole → a ≡ b
-          at _ e same_log = cc
-          at _ e (one_event {log = rest} event y) = let tail : rest ≡ b = cc in
-              absurd (undecided_later c base d a b (enabled_before (start pairs words) (Decide d base true ∷ b) log k h) (subst (λ r. GoesOn (Decide c base true ∷ a) r) tail y))
+      later c d a b x k = grind (arith, undecided_later, enabled_before)
 
   -- of one change there is one entry
   pub entries_once : (log : Log) → EachEnabled (start pairs words) log → (base p q : ℕ)

@@ -1,5 +1,5 @@
 -- The items of the woven history are in order. Serves `laws.calls_have_places`.
-use Rattle.std.proofs.Common.{◌≡◌, ℕ, ◌+◌, ◌≤◌, ◌==◌, if◌then◌else◌, Bool, true, false, List, [], ◌∷◌, ◌++◌, map, refl, inl, inr, arith}
+use Rattle.std.proofs.Common.{◌≡◌, ℕ, ◌+◌, ◌≤◌, ◌==◌, if◌then◌else◌, Bool, true, false, List, [], ◌∷◌, ◌++◌, map, refl, inl, arith}
 use Rattle.std.proofs.lemmas.Bool.Decides.{nat_tests}
 use Rattle.ist_core.specs.declared.pairs.Pair.{Pair}
 use Rattle.ist_core.specs.LogTerms.{Each, Log, PassCalls, StandInPrefixes, Reading, readings, comes_first, put_in, in_order, at_position}
@@ -49,8 +49,7 @@ put_in_rises x (y ∷ ys) h = at (put_in_rises x ys h.1) (comes_first x y) refl
         → StampsRise (if v then x ∷ y ∷ ys else y ∷ put_in x ys)
     at rest true e = let low : x.call.stamp ≤ y.call.stamp = first_low x y e in
         ((low, each_higher x.call.stamp y.call.stamp low ys h.0), h)
-    at rest false e = let high : y.call.stamp ≤ x.call.stamp = last_high x y e in
-        (each_put_in (λ z. y.call.stamp ≤ z.call.stamp) x ys high h.0, rest)
+    at rest false e = grind (arith, last_high, each_put_in)
 
 -- readings in order have stamps that don't fall
 in_order_rises : (xs : List Reading) → StampsRise (in_order xs)
@@ -88,8 +87,7 @@ here_from position (x ∷ xs) = at (here_from position xs) (x.call.position == p
     at : Each (IsFrom position) (map reading_by (at_position position xs)) → (v : Bool)
         → (x.call.position == position) ≡ v → Each (IsFrom position)
         (map reading_by (if v then x ∷ at_position position xs else at_position position xs))
-    at rest true e =
-        (let same : x.call.position ≡ position = grind (arith, nat_tests) in omega arith, rest)
+    at rest true e = grind (arith, nat_tests)
     at rest false e = rest
 
 -- a reading comes before the readings at its position that have no lower stamp
@@ -103,8 +101,7 @@ one_before position x same (y ∷ ys) h =
     at : Each (StandsBefore (reading_by x)) (map reading_by (at_position position ys)) → (v : Bool)
         → (y.call.position == position) ≡ v → Each (StandsBefore (reading_by x))
         (map reading_by (if v then y ∷ at_position position ys else at_position position ys))
-    at rest true e =
-        (inr (let there : y.call.position ≡ position = grind (arith, nat_tests) in omega arith, h.0), rest)
+    at rest true e = grind (arith, nat_tests)
     at rest false e = rest
 
 -- the readings at one position are in order of their stamps
@@ -118,8 +115,7 @@ here_in_order position (x ∷ xs) h =
     at : AllInOrder (map reading_by (at_position position xs)) → (v : Bool)
         → (x.call.position == position) ≡ v
         → AllInOrder (map reading_by (if v then x ∷ at_position position xs else at_position position xs))
-    at rest true e =
-        (one_before position x (let same : x.call.position ≡ position = grind (arith, nat_tests) in same) xs h.0, rest)
+    at rest true e = grind (arith, one_before, nat_tests)
     at rest false e = rest
 
 -- readings at a position come before the change there, and before all later items
@@ -140,8 +136,7 @@ here_before position entry ys h (x ∷ xs) =
         (map reading_by (at_position position xs)) → (v : Bool) → (x.call.position == position) ≡ v
         → Each (λ z. Each (StandsBefore z) (change_at position entry ∷ ys))
         (map reading_by (if v then x ∷ at_position position xs else at_position position xs))
-    at rest true e = let same : x.call.position ≡ position = grind (arith, nat_tests) in
-        ((omega arith, each_item (IsFrom (position + 1)) (StandsBefore (reading_by x)) (following same) ys h), rest)
+    at rest true e = grind (arith, nat_tests, each_item, following)
     at rest false e = rest
 
 -- the items from a position on are at it or later

@@ -48,12 +48,9 @@ module _ (pairs : List Pair) (words : ℕ) (opens : CanOpen pairs words) (log : 
       at : (ref : Option Ref) → ref_of is.row.root ≡ ref → ref ≢ Some Unset
           → RootNames Here.pieces is.row.target ref
           → ReadsAs Here node i (past_rebuild Here.pieces ref)
-      at (Some Empty) e set n =
-          record { a_leaf = λ leaf f. absurd (cc); a_row = λ child f. absurd (cc) }
-      at (Some (LeafAt leaf)) e set n =
-          record { a_leaf = λ other f. said (LeafAt other) (e ∙ f); a_row = λ child f. absurd (cc) }
-      at (Some (InnerAt child)) e set n =
-          record { a_leaf = λ leaf f. absurd (cc); a_row = λ other f. said (InnerAt other) (e ∙ f) }
+      at (Some Empty) e set n = grind arith
+      at (Some (LeafAt leaf)) e set n = grind (arith, said)
+      at (Some (InnerAt child)) e set n = grind (arith, said)
       at (Some Unset) e set n = absurd (set refl)
       at (Some (ChangeAt change)) e set n = absurd n
       at (Some (RebuildAt rebuild)) e set n = absurd n

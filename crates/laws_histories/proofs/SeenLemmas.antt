@@ -232,11 +232,8 @@ module _ (pairs : List Pair) (words : ℕ) (opens : CanOpen pairs words)
           → x.keys ≡ was.finished.1.row.keys → (state_of pairs words loaded).pieces 2 ≡ None
           → IsChildFor (state_of pairs words loaded) node key i
           → i ≡ child_count was.finished.1.row.keys key
-      index_back x e same free (of_anchor a b) =
-          absurd (no_row (state_of pairs words loaded).pieces node x free a e)
-      index_back x e same free (of_row r k b) = b ∙ ap (λ y. child_count y.keys key)
-          (same_inner ((state_of pairs words loaded).pieces node) r x k e)
-          ∙ ap (λ ks. child_count ks key) same
+      index_back x e same free (of_anchor a b) = grind (arith, no_row)
+      index_back x e same free (of_row r k b) = grind (arith, same_inner)
 
       on_happened : (v : ℕ) (a b : Log) → GoesOn a b → Happened (Passes node i v) a
           → Happened (Passes node i v) b

@@ -234,9 +234,7 @@ module _ (t u : Snapshot) (change : ChangeRow) (stay : RowsStay t.pieces u.piece
     where
       low_other : (key : ℕ) → key ≢ change.key
           → pair_says is.row change.key (put_row change) key ≡ says is.row key
-      low_other key ne = ⊎_elim (λ low. left_says is.row change.key (put_row change) key low)
-          (λ high. right_says is.row change.key (put_row change) key high ∙ says_other (put_row change) key (λ e. ne (sym e)) ∙ sym (says_other is.row key (λ e. (let a = is.key_is in omega arith))))
-          (cases_lt key change.key)
+      low_other key ne = grind (arith, left_says, right_says, says_other, cases_lt)
   sides (beside_high other other_key leaf pair kind from is less to p new) update = record {
     old = says is.row;
     new = pair_says (put_row change) other_key is.row;
@@ -250,9 +248,7 @@ module _ (t u : Snapshot) (change : ChangeRow) (stay : RowsStay t.pieces u.piece
     where
       high_other : (key : ℕ) → key ≢ change.key
           → pair_says (put_row change) other_key is.row key ≡ says is.row key
-      high_other key ne = ⊎_elim
-          (λ low. left_says (put_row change) other_key is.row key low ∙ says_other (put_row change) key (λ e. ne (sym e)) ∙ sym (says_other is.row key (λ e. (let a = is.key_is in omega arith))))
-          (λ high. right_says (put_row change) other_key is.row key high) (cases_lt key other_key)
+      high_other key ne = grind (arith, left_says, says_other, right_says, cases_lt)
   sides (takes_out leaf kind from is to) update = record {
     old = says is.row;
     new = λ key. None;

@@ -7,7 +7,7 @@ use Rattle.ist_core.specs.declared.pairs.Pair.{Pair}
 use Rattle.ist_core.specs.declared.states.ChangeRow.{ChangeRow}
 use Rattle.ist_core.specs.declared.events.Event.TheVariants.{Decide}
 use Rattle.ist_core.specs.TreeTerms.{Map, map_of, map_after, Leads, Entry, command_of, reply_of, entry_for, entry_of, changes_of, map_after_entries, IsUpdate}
-use Rattle.ist_core.specs.WordTerms.{Ref, InnerAt, ChangeAt, ref_of, word_of, decided_yes, Leaf, Inner, Change, with_decision, start, SlotHolds, IsChildFor, rebuild_reads, past_rebuild, logical}
+use Rattle.ist_core.specs.WordTerms.{Ref, ChangeAt, ref_of, word_of, decided_yes, Leaf, Inner, Change, with_decision, start, SlotHolds, IsChildFor, past_rebuild, logical}
 use Rattle.ist_core.specs.LogTerms.{Snapshot, Log, EachEnabled, CanOpen, state_of}
 use Rattle.ist_core.proofs.AllWordLemmas.{changed_at-same, same_change}
 use Rattle.ist_core.proofs.AllLogLemmas.{grow_between, grow_after, published_good, change_read, side_not_yes, child_remains}
@@ -227,12 +227,7 @@ module _ (pairs : List Pair) (words : ℕ) (opens : CanOpen pairs words)
       at (beside_low other k leaf pair kind from is less to p new) = told_update (inl kind) told
       at (beside_high other k leaf pair kind from is less to p new) = told_update (inl kind) told
       at (takes_out leaf kind from is to) = told_update (inr kind) told
-      at (begins target rebuild kind from to has) =
-          let same : From ≡ To =
-          ap (past_rebuild Before.pieces) from
-          ∙ sym (ap (past_rebuild Before.pieces) to ∙ ap rebuild_reads has.published ∙ ap (λ n. Some (InnerAt n)) has.target_is) in
-          told_rebuild (λ key value f. subst (λ ref. Finds Before.pieces key ref value) same f)
-          (start_commands change kind) told
+      at (begins target rebuild kind from to has) = grind (arith, told_rebuild, start_commands)
       at (ends rebuild row kind from e f set) =
           let it = needed.same_leaves base change h.1.pending h.1.outcome kind in
           told_rebuild (λ key value g. root_finds pairs words opens log h.0 base rebuild change row h.1.pending.published from e f set it.0 it.1 it.2 key value g) (finish_commands change kind) told

@@ -76,12 +76,7 @@ module _ (pairs : List Pair) (words : ℕ) (opens : CanOpen pairs words) (log : 
       low_pair : f.other_key < change.key
           → Here.pieces pair ≡ Some (pair_row change.key f.leaf f.other_key f.other)
           → IsPair Here.pieces pair change.key f.other f.leaf
-      low_pair low e = let test : nat_lt f.other_key change.key ≡ true = grind (arith, nat_tests) in
-          record { row = _; published = e ∙ ap (λ p. Some p) (pick test); keys = refl; slots = refl }
-        where
-          pick : nat_lt f.other_key change.key ≡ true
-              → pair_row change.key f.leaf f.other_key f.other ≡ pair_over change.key f.other f.leaf
-          pick test = rw test refl
+      low_pair low e = grind (arith, nat_tests)
 
       high_pair : change.key < f.other_key
           → Here.pieces pair ≡ Some (pair_row change.key f.leaf f.other_key f.other)
@@ -135,8 +130,7 @@ module _ (pairs : List Pair) (words : ℕ) (opens : CanOpen pairs words) (log : 
       at (into_nothing leaf k from to new) = absurd (other 1 k (λ e. omega arith))
       at (over_leaf old leaf k from is to new) = absurd (other 1 k (λ e. omega arith))
       at (beside_low o ok leaf pair k from is less to p new) = absurd (other 1 k (λ e. omega arith))
-      at (beside_high o ok leaf pair k from is less to p new) =
-          absurd (other 1 k (λ e. omega arith))
+      at (beside_high o ok leaf pair k from is less to p new) = grind (arith, other)
       at (takes_out leaf k from is to) = absurd (other 2 k (λ e. omega arith))
       at (begins target rebuild k from to has) = absurd (other 3 k (λ e. omega arith))
 

@@ -1,6 +1,6 @@
 -- A row that isn't open was linked, and so was the row that a passed word leads to. Serves the
 -- replacement law and the rest law.
-use Rattle.std.proofs.Common.{Bool, List, Some, [], ap, arith, inl, inr, subst, sym, true, ℕ, ⊎_elim, ◌*◌, ◌+◌, ◌∙◌, ◌∷◌, ◌≡◌, ◌≢◌}
+use Rattle.std.proofs.Common.{Bool, List, Some, [], ap, arith, inl, inr, subst, sym, true, ℕ, ◌∙◌, ◌∷◌, ◌≡◌, ◌≢◌}
 use Rattle.ist_core.specs.declared.events.Event.{Event}
 use Rattle.ist_core.specs.declared.events.Event.TheVariants.{Decide, Finish, Mark}
 use Rattle.ist_core.specs.declared.pairs.Pair.{Pair}
@@ -9,8 +9,7 @@ use Rattle.ist_core.specs.declared.states.InnerRow.{InnerRow}
 use Rattle.ist_core.specs.declared.states.RebuildRow.{RebuildRow}
 use Rattle.ist_core.specs.TreeTerms.{CanDecide, MayBe, Linked, WasLinked, below, CanMark, CanPass, IsCalled, as_child, as_target, after_rebuild, IsStarted, AllGrow}
 use Rattle.ist_core.specs.LogTerms.{CanOpen, EachEnabled, state_of, Happened, Log, Okays, Passes, state, Snapshot}
-use Rattle.ist_core.specs.WordTerms.{Change, Inner, Rebuild, ChangeAt, InnerAt, RebuildAt, ref_of, word_of, SlotHolds, in_row, past_rebuild, rebuild_reads, start, decided_yes, finish_kind, open_word, put_kind, remove_kind, start_kind}
-use Rattle.laws_links.specs.Linking.{IsFinished}
+use Rattle.ist_core.specs.WordTerms.{Change, Inner, Rebuild, ChangeAt, InnerAt, RebuildAt, ref_of, word_of, SlotHolds, in_row, past_rebuild, start, decided_yes, open_word}
 use Rattle.ist_core.proofs.AllLogLemmas.{closed, past_no_change, rebuild_there, grow_after}
 use Rattle.ist_core.proofs.AllPlaceLemmas.{IsRebuildFor, SlotNames, slot_names, names}
 use Rattle.ist_core.proofs.AllWordLemmas.{same_rebuild, same_inner}
@@ -88,18 +87,11 @@ module _ (pairs : List Pair) (words : ℕ) (opens : CanOpen pairs words) where
       kinds a b x y = sym x ∙ y
 
       at : IsFormed (state_of pairs words log) s.change → WasLinked (start pairs words) log r.target
-      at (of_leaf_put f) =
-          let one : ◌≡◌ {A = ℕ} 1 3 = kinds put_kind start_kind f.kind s.kind in absurd (omega arith)
-      at (of_pair_put f) =
-          let one : ◌≡◌ {A = ℕ} 1 3 = kinds put_kind start_kind f.kind s.kind in absurd (omega arith)
-      at (of_remove f) =
-          let one : ◌≡◌ {A = ℕ} 2 3 = kinds remove_kind start_kind f.kind s.kind in absurd (omega arith)
-      at (of_finish f) =
-          let one : ◌≡◌ {A = ℕ} 4 3 = kinds finish_kind start_kind f.kind s.kind in absurd (omega arith)
-      at (of_start f) = let same : f.rebuild ≡ rebuild = cc (sym f.to ∙ s.to) in
-          let row : f.row ≡ r = same_rebuild ((state_of pairs words log).pieces rebuild) f.row r (subst (λ b. (state_of pairs words log).pieces b ≡ Some (Rebuild f.row)) same f.published) e in
-          subst (λ x. WasLinked (start pairs words) log x.target) row
-          (yes_from_linked log h s.base s.change s.published s.decision f.row.target f.from)
+      at (of_leaf_put f) = grind (arith, kinds)
+      at (of_pair_put f) = grind (arith, kinds)
+      at (of_remove f) = grind (arith, kinds)
+      at (of_finish f) = grind (arith, kinds)
+      at (of_start f) = grind (arith, same_rebuild, yes_from_linked)
 
   -- what is known of a word stays known
   after_later : (log : Log) (event : Event) → EachEnabled (start pairs words) (event ∷ log)
@@ -129,14 +121,7 @@ module _ (pairs : List Pair) (words : ℕ) (opens : CanOpen pairs words) where
       slot = in_row can.row can.published can.in_slot
 
       here : Linked (state_of pairs words log) node
-      here = ⊎_elim (λ l. l) (λ f. absurd (unfinished f))
-          (linked_or_finished pairs words opens log h node was)
-        where
-          unfinished : IsFinished (state_of pairs words log) node → ⊥
-          unfinished f =
-              let same = same_inner ((state_of pairs words log).pieces node) f.1.row can.row f.1.published can.published in
-              let odd : f.1.row.status ≡ 4 * f.0 + 3 = f.1.status in
-              let one : f.1.row.status ≡ 1 = ap (λ x. x.status) same ∙ can.marked in omega arith
+      here = grind (arith, linked_or_finished, same_inner)
 
       child_was : (child : ℕ)
           → past_rebuild (state_of pairs words log).pieces (ref_of word) ≡ Some (InnerAt child)
@@ -147,12 +132,7 @@ module _ (pairs : List Pair) (words : ℕ) (opens : CanOpen pairs words) where
       by_rebuild : (rebuild : ℕ) → ref_of word ≡ Some (RebuildAt rebuild)
           → IsRebuildFor (state_of pairs words log).pieces node i rebuild
           → HasLinkedTarget pairs words log rebuild
-      by_rebuild rebuild is r = record {
-        row = r.row;
-        published = r.published;
-        linked =
-            child_was r.row.target (ap (past_rebuild (state_of pairs words log).pieces) is ∙ ap rebuild_reads r.published);
-      }
+      by_rebuild rebuild is r = grind (arith, child_was)
 
   -- a row that may be marked was linked, if the rows that passed words lead to were
   pub mark_linked : (log : Log) → EachEnabled (start pairs words) log → (caller node : ℕ)
@@ -161,9 +141,7 @@ module _ (pairs : List Pair) (words : ℕ) (opens : CanOpen pairs words) where
   mark_linked log h caller node passed can = cause can.called
     where
       cause : IsCalled (state_of pairs words log) log node → WasLinked (start pairs words) log node
-      cause (as_target rebuild target started) =
-          subst (λ n. WasLinked (start pairs words) log n) target.target_is
-          (started_target_linked log h rebuild target.row target.published started)
+      cause (as_target rebuild target started) = grind (arith, started_target_linked)
       cause (as_child above i word p is) = (passed above i word p).inner node is
       cause (after_rebuild above i word rebuild p is target) =
           let it = (passed above i word p).target rebuild is in

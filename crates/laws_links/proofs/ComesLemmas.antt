@@ -35,8 +35,7 @@ module _ (pairs : List Pair) (words : ℕ) where
     where
       decided : (p : Piece) → with_decision (decision_word said) p ≡ Change x → p ≡ Change h.change
           → x ≡ record (h.change) { decision = decision_word said }
-      decided (Change r) e same =
-          let row : r ≡ h.change = cc in subst (λ y. x ≡ record y { decision = decision_word said }) row (cc)
+      decided (Change r) e same = grind arith
       decided (Leaf r) e same = absurd (cc)
       decided (Inner r) e same = absurd (cc)
       decided (Rebuild r) e same = absurd (cc)
@@ -92,8 +91,7 @@ module _ (pairs : List Pair) (words : ℕ) where
       (rooted p (sym is) (same_value ((state_of pairs words log).pieces base) p (Rebuild h.row) old h.published))
     where
       rooted : (p : Piece) → with_root word p ≡ Rebuild x → p ≡ Rebuild h.row → x ≡ record (h.row) { root = word }
-      rooted (Rebuild r) e same =
-          let row : r ≡ h.row = cc in subst (λ y. x ≡ record y { root = word }) row (cc)
+      rooted (Rebuild r) e same = grind arith
       rooted (Leaf r) e same = absurd (cc)
       rooted (Inner r) e same = absurd (cc)
       rooted (Change r) e same = absurd (cc)
@@ -101,8 +99,7 @@ module _ (pairs : List Pair) (words : ℕ) where
       (drew p (sym is) (same_value ((state_of pairs words log).pieces base) p (Rebuild h.row) old h.published))
     where
       drew : (p : Piece) → drawn p ≡ Rebuild x → p ≡ Rebuild h.row → x ≡ record (h.row) { draw = h.row.draw + 1 }
-      drew (Rebuild r) e same =
-          let row : r ≡ h.row = cc in subst (λ y. x ≡ record y { draw = y.draw + 1 }) row (cc)
+      drew (Rebuild r) e same = grind arith
       drew (Leaf r) e same = absurd (cc)
       drew (Inner r) e same = absurd (cc)
       drew (Change r) e same = absurd (cc)

@@ -145,10 +145,8 @@ module _ (pairs : List Pair) (words : ℕ) (opens : CanOpen pairs words) where
           → HasSome (state_of pairs words (event ∷ log)).pieces (Some (InnerAt node))
       by_origin event all (status_was s old same) before = let it = before s old (sym same ∙ is) in
           record { leaves = it.leaves; reached = leaves_kept pairs words opens log event all node it.leaves (k, record { row = s; published = old; status = sym same ∙ is }) it.reached }
-      by_origin event all (is_new none same) before =
-          let odd : r.status ≡ 4 * k + 3 = is in absurd (omega arith)
-      by_origin _ all (marked_now can same) before =
-          let odd : r.status ≡ 4 * k + 3 = is in absurd (omega arith)
+      by_origin event all (is_new none same) before = grind arith
+      by_origin _ all (marked_now can same) before = grind arith
       by_origin _ all (finished_now {caller = caller} {keys = keys} can same) before =
           let apart = not_the_anchor pairs words opens log all.0 node can.row can.published in
           let it = linked_some pairs words opens log all.0 node apart (finishing_linked log all.0 caller node keys can) in

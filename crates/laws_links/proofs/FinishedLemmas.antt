@@ -91,10 +91,8 @@ module _ (pairs : List Pair) (words : ℕ) where
           (one_event event same_log) node 0 k s.slots r.slots
           (same_length (state_of pairs words log).pieces (state_of pairs words (event ∷ log)).pieces g node s r old there)
           (before s old (sym same ∙ is))
-      at event all there (is_new none same) before =
-          let odd : r.status ≡ 4 * k + 3 = is in absurd (omega arith)
-      at _ all there (marked_now can same) before =
-          let odd : r.status ≡ 4 * k + 3 = is in absurd (omega arith)
+      at event all there (is_new none same) before = grind arith
+      at _ all there (marked_now can same) before = grind arith
       at _ all there (finished_now {caller = caller} {keys = keys} can same) before =
           let g = grow_after pairs words log (Finish caller node keys) all in
           let odd : r.status ≡ 4 * k + 3 = is in let also : r.status ≡ 4 * keys + 3 = same in

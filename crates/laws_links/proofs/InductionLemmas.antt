@@ -1,6 +1,6 @@
 -- How to prove a thing of each published change and of each published rebuild: from their first moment on.
 -- Serves each conjunct on them.
-use Rattle.std.proofs.Common.{Bool, List, Some, [], subst, sym, ℕ, ◌+◌, ◌∷◌, ◌≡◌}
+use Rattle.std.proofs.Common.{Bool, List, Some, [], subst, sym, ℕ, ◌+◌, ◌∷◌, ◌≡◌, arith}
 use Rattle.ist_core.specs.declared.events.Event.{Event}
 use Rattle.ist_core.specs.declared.events.Event.TheVariants.{Decide, Draw, Install, Root}
 use Rattle.ist_core.specs.declared.lists.Row.{Row}
@@ -105,8 +105,7 @@ module _ (pairs : List Pair) (words : ℕ) where
           keep log event all base x old there (before base x old)
       at _ all there
           (is_begun {caller = caller} {change = change} {rows = rows} k s here is) before =
-          subst (λ y. P (Install caller change rows ∷ log) base y) (sym is)
-          (subst (λ b. P (Install caller change rows ∷ log) b (new_rebuild_row k.change s.target)) (sym here) (new log caller change rows all k s))
+          grind (arith, new_rebuild_row)
       at _ all there (is_rooted {caller = caller} {word = word} {rows = rows} k is) before =
           subst (λ y. P (Root caller base word rows ∷ log) base y) (sym is)
           (root log caller base word rows all k (before base k.row k.published))

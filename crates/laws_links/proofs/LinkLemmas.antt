@@ -70,9 +70,7 @@ module _ (pairs : List Pair) (words : ℕ) (opens : CanOpen pairs words) where
       -- the word of the change is all that the slot holds
       alone : (w : ℕ) → SlotHolds (state_of pairs words log) x.node x.index w
           → w ≡ word_of (ChangeAt base)
-      alone w slot = slot_once (state_of pairs words log) x.node x.index w (word_of (ChangeAt base))
-          (anchor_free pairs words log h) slot
-          (unresolved_stands pairs words opens log h base x e unresolved)
+      alone w slot = grind (arith, slot_once, anchor_free, unresolved_stands)
 
       keeps : KeepsWord (state_of pairs words log) log x.node x.index word → ⊥
       keeps (holds_it slot) =

@@ -105,11 +105,7 @@ module _ (pairs : List Pair) (words : ℕ) (opens : CanOpen pairs words) where
       }
     where
       leads : past_rebuild (state_of pairs words (event ∷ log)).pieces (ref_of x.from) ≡ Some (InnerAt pair) → ⊥
-      leads k =
-          clash (ap (past_rebuild (state_of pairs words (event ∷ log)).pieces) (sym f.from) ∙ k)
-        where
-          clash : Some (LeafAt f.other) ≡ Some (InnerAt pair) → ⊥
-          clash q = cc
+      leads k = grind arith
 
   -- a pair row is filled at its Install
   filled_install : (log : Log) (caller base : ℕ) (rows : List Row)
@@ -135,12 +131,9 @@ module _ (pairs : List Pair) (words : ℕ) (opens : CanOpen pairs words) where
           → with_installed (state_of pairs words log).pieces base can.change can.fresh b ≡ Some p)
           → IsFilledPair pairs words (Install caller base rows ∷ log) can.change pair
       at (kinds.a_put f) following stands = absurd (cc (sym f.to ∙ to))
-      at (kinds.a_remove f) following stands =
-          absurd (let one : ◌≡◌ {A = ℕ} 1 2 = sym kind ∙ f.kind in omega arith)
-      at (kinds.a_start f) following stands =
-          absurd (let one : ◌≡◌ {A = ℕ} 1 3 = sym kind ∙ f.kind in omega arith)
-      at (kinds.a_finish f) following stands =
-          absurd (let one : ◌≡◌ {A = ℕ} 1 4 = sym kind ∙ f.kind in omega arith)
+      at (kinds.a_remove f) following stands = grind arith
+      at (kinds.a_start f) following stands = grind arith
+      at (kinds.a_finish f) following stands = grind arith
       at (kinds.a_pair f) following stands =
           subst (λ n. IsFilledPair pairs words (Install caller base rows ∷ log) can.change n)
           (cc (sym f.to ∙ to)) filled

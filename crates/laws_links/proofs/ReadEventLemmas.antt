@@ -123,8 +123,7 @@ module _ (pairs : List Pair) (words : ℕ) (opens : CanOpen pairs words) where
       -- the reference is the change's, or another
       is_change_at : (o : Option Ref) (base : ℕ)
           → (o ≡ Some (ChangeAt base)) ⊎ (o ≢ Some (ChangeAt base))
-      is_change_at (Some (ChangeAt b)) base = ⊎_elim (λ k. inl (ap (λ n. Some (ChangeAt n)) k.1))
-          (λ k. inr (λ e. k.1 (let same : b ≡ base = cc in same))) (eqb_tells b base)
+      is_change_at (Some (ChangeAt b)) base = grind (arith, eqb_tells)
       is_change_at (Some Empty) base = inr (λ e. cc)
       is_change_at (Some Unset) base = inr (λ e. cc)
       is_change_at (Some (LeafAt b)) base = inr (λ e. cc)

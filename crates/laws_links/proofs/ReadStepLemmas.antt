@@ -61,8 +61,7 @@ module _ (pairs : List Pair) (words : ℕ) (opens : CanOpen pairs words) where
           → SideNames (state_of pairs words log).pieces node i (past_change (state_of pairs words log).pieces (ref_of word)) ⊎ (past_change (state_of pairs words log).pieces (ref_of word) ≡ Some Unset)
           → (ref : Ref) × ReadsAs (state_of pairs words log) node i ref
       at (Some ref) is k = (ref, record { word = word; holds = slot; reads = is })
-      at None is (inl side) =
-          absurd (subst (λ r. SideNames (state_of pairs words log).pieces node i r) is side)
+      at None is (inl side) = grind (arith, SideNames)
       at None is (inr unset) = absurd (cc)
 
   -- a slot of a node that was there before held a word

@@ -144,8 +144,7 @@ module _ (pairs : List Pair) (words : ℕ) (opens : CanOpen pairs words) where
       stand = decided_stands pairs words log caller base true []
 
       not_three : (k : ℕ) → x.kind ≡ k → 3 ≤ k → ⊥
-      not_three k kind high = ⊎_elim (λ p. let put : x.kind ≡ 1 = p in omega arith)
-          (λ r. let remove : x.kind ≡ 2 = r in omega arith) update
+      not_three k kind high = grind arith
 
       by_form : IsFormed (state_of pairs words log) x
           → HasSome (state_of pairs words (Decide caller base true ∷ log)).pieces (Some to)

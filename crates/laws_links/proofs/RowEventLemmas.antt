@@ -1,6 +1,6 @@
 -- What each event makes of each row, and which rows it publishes. Serves each conjunct about single
 -- fields.
-use Rattle.std.proofs.Common.{Bool, List, None, Option, Some, ap, inl, inr, refl, subst, sym, ℕ, ⊎_elim, ◌∙◌, ◌∷◌, ◌≡◌, ◌⊎◌, arith}
+use Rattle.std.proofs.Common.{Bool, List, None, Option, Some, ap, refl, subst, sym, ℕ, ⊎_elim, ◌∙◌, ◌∷◌, ◌≡◌, ◌⊎◌, arith}
 use Rattle.ist_core.specs.declared.events.Event.{Event}
 use Rattle.ist_core.specs.declared.events.Event.TheVariants.{Count, Decide, Draw, Finish, Install, Mark, Place, Resolve, Root}
 use Rattle.ist_core.specs.declared.lists.Row.{Row}
@@ -61,14 +61,8 @@ added_changed : (ps qs : Pieces) (New : ℕ → Piece → Type 0) (at : ℕ) (f 
 added_changed ps qs New at f adds base q e stood = here (ps base) refl
   where
     here : (o : Option Piece) → ps base ≡ o → Either ps qs New at f base q
-    here (Some p) is = let it = changed_at-some qs at base f q e in
-        let one : it.0 ≡ p = cc (it.1, adds.keeps base p is) in
-        inl (p, is, subst (λ x. (q ≡ x) ⊎ ((base ≡ at) × (q ≡ f x))) one it.2)
-    here None is = let it = changed_at-some qs at base f q e in ⊎_elim
-        (λ kept. let there : qs base ≡ Some q = subst (λ x. qs base ≡ Some x) (sym kept) it.1 in
-        inr (⊎_elim (λ old. absurd (cc)) (λ new. new) (adds.from base q there), there, is))
-        (λ turned. absurd (stood turned.0 is))
-        it.2
+    here (Some p) is = grind (arith, changed_at-some)
+    here None is = grind (arith, changed_at-some)
 
 -- ---- the shapes of events
 

@@ -114,9 +114,7 @@ module _ (pairs : List Pair) (words : ℕ) (opens : CanOpen pairs words) where
           let it = side_rebuild (state_of pairs words log) (names pairs words opens log h.0) s.base s.change old rebuild (inr s.to) in
           no_value ((state_of pairs words log).pieces rebuild) (Rebuild it.row)
           (start_new log caller base rows h can rebuild to) it.published
-      fresh log caller base rows h can rebuild to s _ (is_installed other same) =
-          let none =
-          other.unset in let is = s.decision in let also = ap (λ c. c.decision) same in omega arith
+      fresh log caller base rows h can rebuild to s _ (is_installed other same) = grind arith
       fresh log caller base rows h can rebuild to s _ (is_decided other same) =
           let it = side_rebuild (state_of pairs words log) (names pairs words opens log h.0) s.base other.change other.pending.published rebuild (inr (ap (λ c. ref_of c.to) (sym same) ∙ s.to)) in
           no_value ((state_of pairs words log).pieces rebuild) (Rebuild it.row)

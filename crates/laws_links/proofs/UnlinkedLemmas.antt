@@ -112,8 +112,7 @@ module _ (pairs : List Pair) (words : ℕ) (opens : CanOpen pairs words) where
           → ¬ (IsReplaced (state_of pairs words log) rebuild) → ⊥)
           → ⊥
       at event all ne (rebuild_was old) k again = again r old is k
-      at _ all ne (is_begun can s here same) k again =
-          inner_set r.root base is (ap (λ x. x.root) same)
+      at _ all ne (is_begun can s here same) k again = grind (arith, inner_set)
       at _ all ne (is_rooted {caller = caller} {word = word} {rows = rows} can same) k again =
           let t = state_of pairs words log in
           let named : ref_of word ≡ Some (InnerAt base) = ap (λ x. ref_of x.root) (sym same) ∙ is in

@@ -88,12 +88,8 @@ module _ (pairs : List Pair) (words : ℕ) (opens : CanOpen pairs words) where
     where
       at : (s : InnerRow) → RowCame (start pairs words) log event node (Inner s)
           → Stays (start pairs words) log node r s event
-      at s (from_old p old turned) =
-          let same = same_value ((state_of pairs words log).pieces node) p (Inner r) old e in
-          untouched_turned log event h node r s never
-          (subst (λ x. BecameBy (start pairs words) log node x (Inner s) event) same turned)
-      at s (from_new new none) =
-          absurd (no_value ((state_of pairs words log).pieces node) (Inner r) none e)
+      at s (from_old p old turned) = grind (arith, same_value, untouched_turned, BecameBy)
+      at s (from_new new none) = grind (arith, no_value)
 
 -- a row without an Unset slot stays as it is
 pub stays_whole : (first : Snapshot) (log : Log) (event : Event) (node : ℕ) (r s : InnerRow)

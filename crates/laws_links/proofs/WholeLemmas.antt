@@ -9,7 +9,7 @@ use Rattle.ist_core.specs.declared.states.ChangeRow.{ChangeRow}
 use Rattle.ist_core.specs.declared.states.InnerRow.{InnerRow}
 use Rattle.ist_core.specs.declared.states.LeafRow.{LeafRow}
 use Rattle.ist_core.specs.declared.states.RebuildRow.{RebuildRow}
-use Rattle.ist_core.specs.TreeTerms.{CanRoot, IsRoot, root_top, root_whole, CanInstall, FitsKind, HasRoomFor, nothing, same_key, HasLeaves, PlacedLeaf, IsReplaced}
+use Rattle.ist_core.specs.TreeTerms.{CanRoot, IsRoot, root_top, root_whole, CanInstall, FitsKind, HasLeaves, PlacedLeaf, IsReplaced}
 use Rattle.ist_core.specs.WordTerms.{IsIdeal, of_more, parts, Change, Inner, Leaf, Pieces, Rebuild, changed_at, with_inners, with_root, InnerAt, RebuildAt, Ref, ref_of, unset_word, SlotHolds, in_row, past_change, start, undecided}
 use Rattle.ist_core.specs.LogTerms.{CanOpen, EachEnabled, state_of, Log, Snapshot, bases_of}
 use Rattle.ist_core.proofs.AllLogLemmas.{rebuild_there, leaves_kept, grow_after, said_something}
@@ -176,11 +176,7 @@ module _ (pairs : List Pair) (words : ℕ) (opens : CanOpen pairs words) where
     where
       at : FitsKind (start pairs words) log can.change can.fresh
           → IsWholeRoot (Install caller base rows ∷ log) can.change rebuild
-      at (kinds.a_put f) = absurd (room f.from)
-        where
-          room : HasRoomFor (state_of pairs words log) can.change.key can.change.from → ⊥
-          room (nothing k) = cc (sym k ∙ from)
-          room (same_key leaf k l) = cc (sym k ∙ from)
+      at (kinds.a_put f) = grind arith
       at (kinds.a_pair f) = absurd (cc (sym f.from ∙ from))
       at (kinds.a_remove f) = absurd (cc (sym f.from ∙ from))
       at (kinds.a_start f) = absurd (cc (sym f.from ∙ from))

@@ -51,17 +51,13 @@ changes_rise (moment ∷ moments) h early late e l =
         → (((late == length moments) ≡ true) × (late ≡ length moments)) ⊎ (((late == length moments) ≡ false) × (late ≢ length moments))
         → (((early == length moments) ≡ true) × (early ≡ length moments)) ⊎ (((early == length moments) ≡ false) × (early ≢ length moments))
         → changes_at (moment ∷ moments) early ≤ changes_at (moment ∷ moments) late
-    at again (inl s) (inl t) = let a = changes_here moment moments late s.1 in
-        let b = changes_here moment moments early t.1 in omega arith
+    at again (inl s) (inl t) = grind (arith, changes_here)
     at again (inl s) (inr t) = let late_is = s.1 in let apart = t.1 in
         let older : early < length moments = omega arith in
         let a = changes_here moment moments late s.1 in
         let b = changes_before moment moments early older in
         let c = changes_low moment.changes moments h.0 early in omega arith
-    at again (inr s) t = let apart = s.1 in let older : late < length moments = omega arith in
-        let first : early < length moments = omega arith in
-        let a = changes_before moment moments late older in
-        let b = changes_before moment moments early first in let c = again e older in omega arith
+    at again (inr s) t = grind (arith, changes_before)
 
 -- ---- which call made a change of the map, and which calls changed nothing. Serves
 -- `laws.placed_calls_are_linearizable`.

@@ -1,6 +1,6 @@
 -- As many changes of one owner as it has calls at their positions: each is the change of such a call.
 -- Serves `laws.made_calls_are_linearizable`.
-use Rattle.std.proofs.Common.{◌≡◌, ◌≢◌, ◌⊎◌, ℕ, zero, suc, ◌+◌, ◌<◌, ◌≤◌, List, [], ◌∷◌, length, slice_get, Some, refl, ap, ◌∙◌, subst, inl, inr, ⊎_elim, arith}
+use Rattle.std.proofs.Common.{◌≡◌, ◌≢◌, ◌⊎◌, ℕ, zero, suc, ◌+◌, ◌<◌, ◌≤◌, List, [], ◌∷◌, length, slice_get, Some, refl, ap, ◌∙◌, ⊎_elim, arith}
 use Rattle.std.proofs.lemmas.Bool.Decides.{eqb_tells}
 use Rattle.std.proofs.lemmas.Option.{same_Some}
 use Rattle.ist_core.specs.declared.calls.Call.{Call}
@@ -65,15 +65,8 @@ module _ (number : ℕ) where
           → (Each (IsAtIndex entries (offset + 1)) (call ∷ calls)
           → length (call ∷ calls) ≤ length (entries_by number entries))
           → length (call ∷ calls) ≤ length (entries_by number (entry ∷ entries))
-      at zero e one both = let few = one rest in
-          let first : entry ≡ entry_by number call =
-          same_Some entry (entry_by number call)
-          (subst (λ n. slice_get (entry ∷ entries) n ≡ Some (entry_by number call)) e all.0.entry) in
-          ⊎_elim (λ h. omega (arith, h.1, few))
-          (λ h. absurd (h.0 (ap (λ (x : Entry). x.owner) first))) (owner_cases entry entries)
-      at (suc i) e one both = let position = all.0.position_is in
-          let few = both (past_first entry entries offset call all.0 (omega arith), rest) in
-          let more = count_rises entry entries in omega arith
+      at zero e one both = grind (arith, rest, same_Some, owner_cases)
+      at (suc i) e one both = grind (arith, past_first, rest, count_rises)
 
   -- a call at a place
   pub record IsFound (calls : List Call) (place : ℕ) : Type 0 where
@@ -122,13 +115,11 @@ module _ (number : ℕ) where
       rest = rest_past entry entries offset call calls low rise.0 all.1
 
       later : (i : ℕ) → IsFound calls ((offset + 1) + i) → IsFound (call ∷ calls) (offset + suc i)
-      later i f = let position = f.position_is in
-          record { call = f.call; among = inr f.among; position_is = omega arith }
+      later i f = grind arith
 
       same : (i : ℕ) → IsFound (call ∷ calls) ((offset + 1) + i)
           → IsFound (call ∷ calls) (offset + suc i)
-      same i f = let position = f.position_is in
-          record { call = f.call; among = f.among; position_is = omega arith }
+      same i f = grind arith
 
       at : (index i : ℕ) → all.0.index ≡ index → slice_get (entry ∷ entries) i ≡ Some e
           → (Each (IsAtIndex entries (offset + 1)) calls
@@ -140,23 +131,13 @@ module _ (number : ℕ) where
           → (i : ℕ) (e : Entry) → slice_get entries i ≡ Some e → e.owner ≡ number
           → IsFound (call ∷ calls) ((offset + 1) + i))
           → IsFound (call ∷ calls) (offset + i)
-      at zero zero is k one both = let position = all.0.position_is in
-          record { call = call; among = inl refl; position_is = omega arith }
-      at zero (suc j) is k one both =
-          let first : entry ≡ entry_by number call =
-          same_Some entry (entry_by number call)
-          (subst (λ n. slice_get (entry ∷ entries) n ≡ Some (entry_by number call)) is all.0.entry) in
-          ⊎_elim (λ t. later j (one rest (omega (arith, t.1, few)) j e k o))
-          (λ t. absurd (t.0 (ap (λ (x : Entry). x.owner) first))) (owner_cases entry entries)
+      at zero zero is k one both = grind arith
+      at zero (suc j) is k one both = grind (arith, same_Some, later, rest, owner_cases)
       at (suc n) zero is k one both = let position = all.0.position_is in
           let past = past_first entry entries offset call all.0 (omega arith) in
           let fit = calls_fit entries (offset + 1) (call ∷ calls) rise (past, rest) in ⊎_elim
           (λ t. absurd (omega (arith, t.1, few, fit)))
           (λ t. absurd (t.0 (ap (λ (x : Entry). x.owner) (same_Some entry e k) ∙ o)))
           (owner_cases entry entries)
-      at (suc n) (suc j) is k one both = let position = all.0.position_is in
-          let past = past_first entry entries offset call all.0 (omega arith) in
-          let fit = calls_fit entries (offset + 1) (call ∷ calls) rise (past, rest) in ⊎_elim
-          (λ t. absurd (omega (arith, t.1, few, fit)))
-          (λ t. same j (both (past, rest) (omega (arith, t.1, few)) j e k o))
-          (owner_cases entry entries)
+      at (suc n) (suc j) is k one both =
+          grind (arith, past_first, calls_fit, rest, same, owner_cases)

@@ -1,6 +1,6 @@
 -- What one more moment makes of the calls of its caller and of others. Serves
 -- `laws.kept_calls_are_linearizable`, and a rule that keeps moments.
-use Rattle.std.proofs.Common.{◌≡◌, ◌≢◌, ◌⊎◌, ℕ, ◌==◌, true, false, List, [], ◌∷◌, ◌++◌, map, filter, length, Option, Some, None, refl, sym, ap, ◌∙◌, inl, inr, append-nil, arith}
+use Rattle.std.proofs.Common.{◌≡◌, ◌≢◌, ℕ, ◌==◌, List, [], ◌∷◌, ◌++◌, map, filter, length, Option, Some, None, refl, ap, ◌∙◌, append-nil, arith}
 use Rattle.std.proofs.lemmas.Bool.Decides.{eqb_tells}
 use Rattle.std.proofs.lemmas.List.{map-append}
 use Rattle.std.proofs.lemmas.List.Elements.{filter-append}
@@ -64,12 +64,7 @@ calls_of_other number moment moments other = calls_in-append number (ended momen
     last = ended_by (in_call moment.caller moments) (length moments) moment moment.deed
 
     near : (x : Ended) → x.caller ≡ moment.caller → calls_in number (x ∷ []) ≡ []
-    near x same = at (eqb_tells x.caller number)
-      where
-        at : (((x.caller == number) ≡ true) × (x.caller ≡ number)) ⊎ (((x.caller == number) ≡ false) × (x.caller ≢ number))
-            → calls_in number (x ∷ []) ≡ []
-        at (inl t) = absurd (other (sym same ∙ t.1))
-        at (inr t) = rw t.0 refl
+    near x same = grind (arith, eqb_tells)
 
     none : (o : Option Begun) (deed : Deed)
         → calls_in number (ended_by o (length moments) moment deed) ≡ []
@@ -78,14 +73,7 @@ calls_of_other number moment moments other = calls_in-append number (ended momen
     none None GivesUp = refl
     none (Some begun) (Begins command) = refl
     none (Some begun) GivesUp = refl
-    none (Some begun) (Returns call) =
-        near (record {
-          caller = moment.caller;
-          begun = begun;
-          call = call;
-          time = length moments;
-          changes = moment.changes;
-        }) refl
+    none (Some begun) (Returns call) = grind (arith, near)
 
 -- if the moment ends none, the calls of each caller are the same
 pub calls_of_same : (number : ℕ) (moment : Moment) (moments : Moments)

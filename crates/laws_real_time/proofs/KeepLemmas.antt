@@ -69,8 +69,7 @@ module _ (pairs : List Pair) (words : ℕ) where
           → IsInCall number begun moment moments
           → (prefix : Log) × GoesOn prefix log × (begun.length ≡ length prefix)
           × (begun.changes ≡ length (told prefix))
-      at again (begun_now command mine is time changes long) = let c = all.0 in
-          (c.prefix, c.goes_on, long ∙ c.length_is, changes ∙ c.changes_is)
+      at again (begun_now command mine is time changes long) = grind arith
       at again (begun_before other j) = again j
 
   -- a call is in its time in a longer log too
@@ -93,8 +92,7 @@ module _ (pairs : List Pair) (words : ℕ) where
     well_formed = k.well_formed;
     never_fall = k.never_fall;
     counted = each_of (NotesPrefix pairs words longer) moments
-        (λ m i. (let c = each-among (NotesPrefix pairs words log) m moments k.counted i in
-        record {
+        (λ m i. (let c = each-among (NotesPrefix pairs words log) m moments k.counted i in record {
           prefix = c.prefix;
           goes_on = goes_on_more c.goes_on on;
           length_is = c.length_is;
@@ -147,10 +145,7 @@ module _ (pairs : List Pair) (words : ℕ) where
             → (((caller == number) ≡ true) × (caller ≡ number)) ⊎ (((caller == number) ≡ false) × (caller ≢ number))
             → entries_by number (take begun.changes (told log))
             ≡ changes_by number (calls_returned number (moment ∷ moments))
-        at number begun i (inl t) = subst
-            (λ n. entries_by n (take begun.changes (told log))
-            ≡ changes_by n (calls_returned n (moment ∷ moments))) t.1
-            (own begun (sym (in_call_own number moment moments t.1) ∙ i))
+        at number begun i (inl t) = grind (arith, in_call_own)
         at number begun i (inr t) = began_other number begun t.1 i
 
   -- a call begins
@@ -176,11 +171,7 @@ module _ (pairs : List Pair) (words : ℕ) where
 
       changes_in : (begun : Begun) → begun_by (length moments) now (Begins command) ≡ Some begun
           → begun.changes ≡ length (told log)
-      changes_in begun e = ap (at begun) (sym e)
-        where
-          at : Begun → Option Begun → ℕ
-          at d None = d.changes
-          at d (Some b) = b.changes
+      changes_in begun e = grind arith
 
   -- a call is given up
   pub gives_up_keeps : (log : Log) (moments : Moments) (caller : ℕ) (begun : Begun)
@@ -223,10 +214,7 @@ module _ (pairs : List Pair) (words : ℕ) where
       now = moment_now pairs words log caller (Returns call)
 
       to : (b : Bool) → is_change call ≡ b → position_after call ≤ length (told log)
-      to true e =
-          let low =
-          slice_get_within (told log) call.position (entry_by caller call) (placed.made e) in
-          rw e (omega arith)
+      to true e = grind (arith, slice_get_within)
       to false e = let low = (placed.read e).within in rw e (omega arith)
 
   -- moments beside a lawful log are linearizable

@@ -198,14 +198,11 @@ module _ (m : Map) (entries : List Entry) (moments : Moments)
   command_since begun h j entry at o = near h
     where
       kept : Among entry (entries_by number (since begun))
-      kept = among_filter (λ e. e.owner == number) entry (since begun)
-          (among_get (since begun) j entry at) (eq-eqb entry.owner number o)
+      kept = grind (arith, among_filter, among_get, eq-eqb)
 
       near : HasSince begun → begun.command ≡ Some entry.command
       near (nothing e) = absurd (subst (Among entry) e kept)
-      near (one first e command) =
-          ⊎_elim (λ s. subst (λ (x : Entry). begun.command ≡ Some x.command) (sym s) command)
-          (λ s. absurd s) (subst (Among entry) e kept)
+      near (one first e command) = grind (arith, kept)
 
   -- each change of the caller is that of a call
   pub owned : (position : ℕ) (entry : Entry) → slice_get entries position ≡ Some entry

@@ -1,5 +1,5 @@
 -- When calls begin and return: times, and the numbers of changes then. Serves linearizability.
-use Rattle.std.proofs.Common.{◌≡◌, ◌≢◌, ◌⊎◌, ℕ, ◌<◌, ◌==◌, true, false, List, [], ◌∷◌, length, Option, Some, None, refl, sym, ap, ◌∙◌, subst, inl, inr, ⊎_elim, arith}
+use Rattle.std.proofs.Common.{◌≡◌, ◌≢◌, ◌⊎◌, ℕ, ◌<◌, ◌==◌, true, false, List, [], ◌∷◌, length, Option, Some, None, refl, sym, ap, ◌∙◌, inl, inr, ⊎_elim, arith}
 use Rattle.std.proofs.lemmas.Bool.Decides.{eqb_tells}
 use Rattle.ist_core.specs.declared.commands.Command.{Command}
 use Rattle.ist_core.specs.LogTerms.{Among}
@@ -65,14 +65,8 @@ begun_in caller (moment ∷ moments) begun h =
   where
     at : (in_call caller moments ≡ Some begun → IsBegunIn moments begun)
         → IsInCall caller begun moment moments → IsBegunIn (moment ∷ moments) begun
-    at again (begun_now command mine is time changes long) = record {
-      within = omega arith;
-      changes = changes_here moment moments begun.time time ∙ sym changes;
-    }
-    at again (begun_before other i) = let rest = again i in record {
-      within = omega arith;
-      changes = changes_before moment moments begun.time rest.within ∙ rest.changes;
-    }
+    at again (begun_now command mine is time changes long) = grind (arith, changes_here)
+    at again (begun_before other i) = grind (arith, changes_before)
 
 -- ---- calls that returned
 
@@ -124,29 +118,10 @@ ended_in (moment ∷ moments) x h =
     last = ended_by (in_call moment.caller moments) (length moments) moment moment.deed
 
     older : IsEndedIn moments x → IsEndedIn (moment ∷ moments) x
-    older rest =
-        let first : x.begun.time < length moments = omega (arith, rest.within, rest.before) in
-        record {
-          within = omega (arith, rest.within);
-          before = rest.before;
-          changes = changes_before moment moments x.time rest.within ∙ rest.changes;
-          from = changes_before moment moments x.begun.time first ∙ rest.from;
-        }
+    older rest = grind (arith, changes_before)
 
     here : Among x last → IsEndedIn (moment ∷ moments) x
-    here i =
-        let it =
-        ends_at (in_call moment.caller moments) (length moments) moment moment.deed x i in
-        let first = begun_in moment.caller moments it.begun it.in_it in
-        let same : x.begun.time ≡ it.begun.time = ap (λ (b : Begun). b.time) it.begun_is in
-        let older : x.begun.time < length moments = omega (arith, first.within, same) in record {
-          within = omega (arith, it.time_is);
-          before = omega (arith, it.time_is, older);
-          changes = changes_here moment moments x.time it.time_is ∙ sym it.changes_is;
-          from = changes_before moment moments x.begun.time older
-              ∙ ap (changes_at moments) same ∙ first.changes
-              ∙ ap (λ (b : Begun). b.changes) (sym it.begun_is);
-        }
+    here i = grind (arith, ends_at, begun_in, older, changes_here, changes_before, changes_at)
 
 -- a caller's call that returned did so before the call that it is in began
 pub ended_before : (moments : Moments) (x : Ended) (begun : Begun) → Among x (ended moments)
@@ -167,14 +142,8 @@ ended_before (moment ∷ moments) x begun h i = ⊎_elim
     older again (begun_before other k) j = again k
 
     here : IsInCall x.caller begun moment moments → Among x last → x.time < begun.time
-    here (begun_now command mine is time changes long) j =
-        let it =
-        ends_at (in_call moment.caller moments) (length moments) moment moment.deed x j in
-        absurd (cc (sym is ∙ it.deed_is))
-    here (begun_before other k) j =
-        let it =
-        ends_at (in_call moment.caller moments) (length moments) moment moment.deed x j in
-        absurd (other (sym it.caller_is))
+    here (begun_now command mine is time changes long) j = grind (arith, ends_at)
+    here (begun_before other k) j = grind (arith, ends_at)
 
 -- two calls of one caller are one, or one returned before the other began
 pub data AreApartInTime (x y : Ended) : Type 0 where
@@ -198,13 +167,7 @@ ended_apart (moment ∷ moments) x y h k same = ⊎_elim
 
     first : (a b : Ended) → Among a (ended moments) → Among b last → a.caller ≡ b.caller
         → a.time < b.begun.time
-    first a b i j e =
-        let it =
-        ends_at (in_call moment.caller moments) (length moments) moment moment.deed b j in
-        let early = ended_before moments a it.begun i
-        (subst (λ c. in_call c moments ≡ Some it.begun) (sym (e ∙ it.caller_is)) it.in_it) in
-        let time : b.begun.time ≡ it.begun.time = ap (λ (z : Begun). z.time) it.begun_is in
-        omega (arith, early, time)
+    first a b i j e = grind (arith, ends_at, ended_before)
 
 -- calls are listed in the order of their returns
 pub ended_in_order : (moments : Moments) → Pairwise (λ x y. x.time < y.time) (ended moments)

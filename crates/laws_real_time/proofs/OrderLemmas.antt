@@ -58,8 +58,7 @@ module _ (m : Map) (entries : List Entry) (moments : Moments)
     where
       is_one : (x : Ended) → Among x (ended moments) → t ≡ timed x
           → Among t (returned_calls moments)
-      is_one x j e = subst (λ z. Among z (returned_calls moments)) (sym e)
-          (among_map timed x (ended moments) j)
+      is_one x j e = grind (arith, among_map)
 
       at : (position : ℕ) → IsSpot OwnsAt (readings moments) position t
           → Among t (returned_calls moments) ⊎ IsInProgress moments t

@@ -55,8 +55,7 @@ module _ (first : Moments) (over : IsOver first) where
           → (b : Bool)
           → (if b then begun_by (length (moments ++ first)) moment moment.deed else in_call caller (moments ++ first))
           ≡ begun_later count (if b then begun_by (length moments) moment moment.deed else in_call caller moments)
-      at rest true =
-          begun_by_later (length moments) (length (moments ++ first)) moment moment.deed (long moments)
+      at rest true = grind (arith, begun_by_later, long)
       at rest false = rest
 
   ended_by_later : (o : Option Begun) (time late : ℕ) (moment : Moment) (deed : Deed)

@@ -1,6 +1,6 @@
 -- What a caller holds stays while others make events. Serves each clause on events that take held
 -- rows.
-use Rattle.std.proofs.Common.{Some, ap, arith, if◌then◌else◌, length, slice_get, subst, ℕ, ◌+◌, ◌∙◌, ◌≡◌, ◌≢◌, List, Bool, [], false, filter, inl, inr, map, not, refl, sym, true, ◌++◌, ◌==◌, ◌∷◌, None}
+use Rattle.std.proofs.Common.{Some, ap, arith, if◌then◌else◌, length, slice_get, subst, ℕ, ◌+◌, ◌∙◌, ◌≡◌, ◌≢◌, List, Bool, [], false, filter, inr, map, not, refl, sym, true, ◌++◌, ◌==◌, ◌∷◌, None}
 use Rattle.std.proofs.lemmas.Bool.Decides.{eqb_tells}
 use Rattle.ist_core.specs.declared.pairs.Pair.{Pair}
 use Rattle.ist_core.specs.declared.states.InnerRow.{InnerRow}
@@ -57,8 +57,7 @@ filter_kept {A} p q (x ∷ xs) out = at (q x) refl (filter_kept p q xs (λ y i e
         → filter p (if v then x ∷ filter q xs else filter q xs)
         ≡ (if p x then x ∷ filter p xs else filter p xs)
     at true e rest = ap (λ ys. if p x then x ∷ ys else ys) rest
-    at false e rest =
-        rest ∙ sym (ap (λ b. if b then x ∷ filter p xs else filter p xs) (out x (inl refl) e))
+    at false e rest = grind arith
 
 -- a filter drops a last element that it doesn't keep
 filter_last : {A : Type 0} (p : A → Bool) (xs : List A) (x : A) → p x ≡ false

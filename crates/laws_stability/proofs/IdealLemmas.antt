@@ -178,8 +178,7 @@ module _ (pairs : List Pair) (words : ℕ) (opens : CanOpen pairs words) {earlie
     where
       back : (old : ℕ) → Happened (Draws caller rebuild old) log
           → Happened (Draws caller rebuild old) earlier
-      back old is = done_before (Draws caller rebuild old) (Caller caller)
-          (draws_own caller rebuild old) later is
+      back old is = grind (arith, done_before, draws_own)
 
   -- a Draw stays enabled if the draw word still names its part
   pub draw_stays : (rebuild part : ℕ) → CanDraw

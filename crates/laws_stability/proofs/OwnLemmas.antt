@@ -81,8 +81,7 @@ module _ (pairs : List Pair) (words : ℕ) (caller : ℕ) where
           → (old : ChangeRow) × ((state_of pairs words earlier).pieces base ≡ Some (Change old)))
           → (old : ChangeRow) × ((state_of pairs words earlier).pieces base ≡ Some (Change old))
       at event out (change_was old) before = before x old own
-      at _ out (is_installed {caller = c} can is) before =
-          absurd (out (ap Caller (sym can.owned ∙ ap (λ y. y.owner) (sym is) ∙ own)))
+      at _ out (is_installed {caller = c} can is) before = grind arith
       at _ out (is_decided can is) before =
           before can.change can.pending.published (ap (λ y. y.owner) (sym is) ∙ own)
 

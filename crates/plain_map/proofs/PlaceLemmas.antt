@@ -54,10 +54,7 @@ module _ (pairs : List Pair) (rising : IsRising pairs) (key : ℕ) where
   pub searched : (r : Result ℕ ℕ) → IsSearchInRange r (length pairs)
       → IsBinarySearchResult (λ p. nat_cmp p.key key) pairs r
       → record { found : IfOk r (IsAt pairs key); absent : IfErr r (IsGapFor pairs key) }
-  searched (Ok at) within equal = record {
-    found = record { within = within; has_key = ranked _ key _ (sym (equal no_pair)) };
-    absent = tt;
-  }
+  searched (Ok at) within equal = grind (arith, ranked, no_pair)
   searched (Err at) within parted = record {
     found = tt;
     absent = record {
@@ -86,8 +83,7 @@ module _ (pairs : List Pair) (rising : IsRising pairs) (key at : ℕ) (here : Is
   pub map_of-set : (value : ℕ)
       → map_of (set pairs at (record { key = key; value = value })) ≡ fin.insert
       (map_of pairs) key value
-  map_of-set value =
-      set_from_values _ _ key value (value_in-set key pairs at value here none_before)
+  map_of-set value = grind (arith, set_from_values, value_in-set, none_before)
 
   -- and keeps the order, since every key stays
   pub rising_set : (value : ℕ) → IsRising (set pairs at (record { key = key; value = value }))
@@ -96,49 +92,35 @@ module _ (pairs : List Pair) (rising : IsRising pairs) (key at : ℕ) (here : Is
 
   -- without its pair the key is gone
   pub map_of-remove : map_of (remove pairs at) ≡ fin.remove (map_of pairs) key
-  map_of-remove =
-      gone_from_values _ _ key (value_in-remove key pairs at here none_before none_after)
+  map_of-remove = grind (arith, gone_from_values, value_in-remove, none_before, none_after)
 
   -- and the others keep their order
   pub rising_remove : IsRising (remove pairs at)
-  rising_remove = rises_by_steps _ (λ i within. let fewer = length-remove pairs at here.within in
-      let left : (i : ℕ) → i < at → key_at (remove pairs at) i ≡ key_at pairs i =
-      λ i before. ap (λ (p : Pair). p.key)
-      (get_or-remove_below pairs at no_pair i before here.within) in
-      let right : (i : ℕ) → at ≤ i → key_at (remove pairs at) i ≡ key_at pairs (i + 1) =
-      λ i following. ap (λ (p : Pair). p.key)
-      (get_or-remove_above pairs at no_pair i following here.within) in
+  rising_remove =
       grind (
         arith,
-        left i,
-        left (i + 1),
-        right i,
-        right (i + 1),
-        key_at-rises pairs rising i (i + 1),
-        key_at-rises pairs rising i (i + 1 + 1),
-        key_at-rises pairs rising (i + 1) (i + 1 + 1),
-      ))
+        rises_by_steps,
+        length-remove,
+        get_or-remove_below,
+        no_pair,
+        get_or-remove_above,
+        key_at-rises,
+      )
 
 module _ (pairs : List Pair) (key at : ℕ) (gap : IsGapFor pairs key at) where
   -- a key that has a gap has no value
   pub get_in_gap : fin.get (map_of pairs) key ≡ None
-  get_in_gap = get-map_of pairs key
-      ∙ value_in-absent pairs key (λ j within same. grind (arith, gap.below j, gap.above j))
+  get_in_gap = grind (arith, get-map_of, value_in-absent)
 
   -- so taking it away changes nothing
   pub map_of-absent : map_of pairs ≡ fin.remove (map_of pairs) key
-  map_of-absent =
-      let none =
-      value_in-absent pairs key (λ j within same. grind (arith, gap.below j, gap.above j)) in
-      gone_from_values pairs pairs key
-      (λ q. grind (arith, nat_tests, λ (same : q ≡ key). ap (value_in pairs) same))
+  map_of-absent = grind (arith, value_in-absent, gone_from_values, nat_tests, value_in)
 
   -- a new pair in the gap sets only that key
   pub map_of-insert : (value : ℕ)
       → map_of (insert pairs at (record { key = key; value = value })) ≡ fin.insert
       (map_of pairs) key value
-  map_of-insert value = set_from_values _ _ key value
-      (value_in-insert key pairs at value (λ j before same. omega (arith, gap.below j before)))
+  map_of-insert value = grind (arith, set_from_values, value_in-insert)
 
   -- and keeps the order
   pub rising_insert : (value : ℕ) → IsRising pairs
@@ -213,6 +195,4 @@ pairs_of-map_of pairs rising = let es = map entry pairs in
 -- commands add at most as many pairs as there are commands
 pub adds_few_pairs : (m : Map) (cs : List Command)
     → length (pairs_of (replay m cs)) ≤ length (pairs_of m) + length cs
-adds_few_pairs m cs =
-    (let few = adds_few_keys m cs in let one = length-pairs_of m in
-    let two = length-pairs_of (replay m cs) in omega arith)
+adds_few_pairs m cs = grind (arith, adds_few_keys, length-pairs_of)

@@ -32,8 +32,7 @@ key_at-rises pairs rising i j before within =
 -- keys that increase from each place to the next are strictly increasing
 pub rises_by_steps : (pairs : List Pair)
     → ((i : ℕ) → i + 1 < length pairs → key_at pairs i < key_at pairs (i + 1)) → IsRising pairs
-rises_by_steps pairs steps i within = let fits : i + 1 < length pairs = rw length-map at within in
-    simp slice_index-keys_of (steps i fits)
+rises_by_steps pairs steps i within = grind (arith, length-map, slice_index-keys_of)
 
 -- ---- what a key has in a list of pairs, and what an edit of the list does to it.
 
@@ -69,8 +68,7 @@ no_key_in_tail p pairs key i absent j before = absent (suc j) (omega arith)
 -- in the tail a pair is one place lower
 is_at_in_tail : (p : Pair) (pairs : List Pair) (key i : ℕ) → IsAt (p ∷ pairs) key (suc i)
     → IsAt pairs key i
-is_at_in_tail p pairs key i here =
-    record { within = omega (arith, here.within); has_key = here.has_key }
+is_at_in_tail p pairs key i here = grind arith
 
 -- a key that no pair has is not found
 pub value_in-absent : (pairs : List Pair) (key : ℕ) → NoKeyBefore pairs key (length pairs)
@@ -214,13 +212,7 @@ module _ (pairs : List Pair) (rising : IsRising pairs) where
 
   -- the pairs after a place have strictly increasing keys too
   pub rising_drop : (n : ℕ) → IsRising (drop n pairs)
-  rising_drop n = rises_by_steps _ (λ i within.
-      let fits : n + i + 1 < length pairs = omega (arith, length-drop n pairs) in
-      let here : key_at (drop n pairs) i ≡ key_at pairs (n + i) =
-      ap (λ (p : Pair). p.key) (get_or-drop n pairs i no_pair) in
-      let next : key_at (drop n pairs) (i + 1) ≡ key_at pairs (n + (i + 1)) =
-      ap (λ (p : Pair). p.key) (get_or-drop n pairs (i + 1) no_pair) in
-      grind (arith, key_at-rises pairs rising (n + i) (n + (i + 1))))
+  rising_drop n = grind (arith, rises_by_steps, length-drop, get_or-drop, key_at-rises)
 
 -- from the first key that isn't below the interval, up to the last that isn't above it
 pub slice_between : (pairs : List Pair) (first last from count : ℕ)

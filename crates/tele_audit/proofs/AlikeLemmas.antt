@@ -1,11 +1,10 @@
 -- Words that agree at each place hold the same. Serves `laws.zeros_change_nothing`.
-use Rattle.std.proofs.Common.{◌≡◌, ℕ, ◌+◌, ◌*◌, ◌≤◌, ◌==◌, if◌then◌else◌, true, is_some, List, [], ◌∷◌, ◌++◌, slice_range, Option, Some, None, refl, sym, ap, ◌∙◌, subst, arith}
-use Rattle.std.specs.List.Sorted.{IsStrictlyIncreasing}
+use Rattle.std.proofs.Common.{◌≡◌, ℕ, ◌+◌, ◌≤◌, List, [], ◌∷◌, ◌++◌, slice_range, Option, Some, None, refl, sym, ap, ◌∙◌, subst, arith}
 use Rattle.ist_core.specs.declared.pairs.Pair.{Pair}
-use Rattle.ist_core.specs.WordTerms.{next_place, change_to_offset, change_from_offset, Ref, Empty, Unset, LeafAt, InnerAt, ChangeAt, RebuildAt, ref_of, status_of, decided_yes}
+use Rattle.ist_core.specs.WordTerms.{next_place, Ref, Empty, Unset, LeafAt, InnerAt, ChangeAt, RebuildAt, ref_of}
 use Rattle.ist_core.specs.LogTerms.{Each}
 use Rattle.ist_rest.specs.WordRows.{word_at, row_degree, row_keys, row_slots, side_in, past_change_in, past_rebuild_in, reads_in, rows_on, change_on, rebuild_on, Span, IsWithinUsed}
-use Rattle.ist_rest.specs.Walks.{Visit, LeadsBy, HasDecision, IsGoodRow, IsGoodAs, IsGood, row_read, rows_read, pairs_read, visits_from, visits_below, Walks, ends, goes_on, AreApart}
+use Rattle.ist_rest.specs.Walks.{Visit, HasDecision, IsGoodRow, IsGoodAs, IsGood, row_read, rows_read, pairs_read, visits_below, Walks, ends, goes_on, AreApart}
 use Rattle.ist_rest.specs.RestingWords.{read_on, BreaksFirstAt, breaks, later}
 
 -- the words agree at each place, and in each range that is in use
@@ -18,20 +17,11 @@ pub record AreAlike (a b : List ℕ) : Type 0 where
 
 -- words that agree also agree the other way round
 pub flip : (a b : List ℕ) → AreAlike a b → AreAlike b a
-flip a b h = record {
-  same = λ place. sym (h.same place);
-  range = λ from to less. let n = h.same next_place in sym (h.range from to (omega arith));
-}
+flip a b h = grind arith
 
 module _ (a b : List ℕ) (h : AreAlike a b) where
   side_same : (base : ℕ) → side_in a base ≡ side_in b base
-  side_same base = let x = h.same base in let y = h.same (base + change_to_offset) in
-      let z = h.same (base + change_from_offset) in
-      ap (λ n. if n == decided_yes then word_at a (base + change_to_offset) else word_at a
-      (base + change_from_offset)) x
-      ∙ ap (λ n. if word_at b base == decided_yes then n else word_at a
-      (base + change_from_offset)) y
-      ∙ ap (λ n. if word_at b base == decided_yes then word_at b (base + change_to_offset) else n) z
+  side_same base = grind arith
 
   change_same : (o : Option Ref) → past_change_in a o ≡ past_change_in b o
   change_same None = refl
@@ -52,8 +42,7 @@ module _ (a b : List ℕ) (h : AreAlike a b) where
   rebuild_same (Some (RebuildAt base)) = ap (λ target. Some (InnerAt target)) (h.same base)
 
   reads_same : (word : ℕ) → reads_in a word ≡ reads_in b word
-  reads_same word = rebuild_same (past_change_in a (ref_of word)) ∙ ap (past_rebuild_in b)
-      (change_same (ref_of word))
+  reads_same word = grind (arith, rebuild_same, change_same)
 
   on_same : (o : Option Ref) → rows_on a o ≡ rows_on b o
   on_same o = ap (λ x. change_on o ++ rebuild_on x) (change_same o)
@@ -68,8 +57,7 @@ module _ (a b : List ℕ) (h : AreAlike a b) where
   decision_same (Some (RebuildAt base)) d = tt
 
   within_same : (span : Span) → IsWithinUsed a span → IsWithinUsed b span
-  within_same span w = let e = h.same next_place in let x = w.after_fixed in let y =
-      w.below_next in record { after_fixed = omega arith; below_next = omega arith }
+  within_same span w = grind arith
 
   all_within : (spans : List Span) → Each (IsWithinUsed a) spans → Each (IsWithinUsed b) spans
   all_within [] w = tt
@@ -80,34 +68,17 @@ module _ (a b : List ℕ) (h : AreAlike a b) where
 
   keys_same : (visit : Visit) (base : ℕ) → IsGoodRow a visit.node base
       → row_keys a base ≡ row_keys b base
-  keys_same visit base g = let w = g.within in let y = w.below_next in
-      h.range (base + 4) (base + 3 + row_degree a base) (omega arith)
-      ∙ ap (λ d. slice_range b (base + 4) (base + 3 + d)) (degree_same base)
+  keys_same visit base g = grind (arith, degree_same)
 
   slots_same : (visit : Visit) (base : ℕ) → IsGoodRow a visit.node base
       → row_slots a base ≡ row_slots b base
-  slots_same visit base g = let w = g.within in let y = w.below_next in
-      h.range (base + 3 + row_degree a base) (base + 3 + row_degree a base + row_degree a base)
-      (omega arith)
-      ∙ ap (λ d. slice_range b (base + 3 + d) (base + 3 + d + d)) (degree_same base)
+  slots_same visit base g = grind (arith, degree_same)
 
   good_same : (visit : Visit) (ref : Ref) → IsGoodAs a visit ref → IsGoodAs b visit ref
   good_same visit Empty g = tt
   good_same visit Unset g = g
-  good_same visit (LeafAt base) g = record {
-    within = within_same record { base = base; size = 2 } g.within;
-    lies = subst (λ k. Each (LeadsBy k) visit.ways) (h.same base) g.lies;
-  }
-  good_same visit (InnerAt base) g = let d = degree_same base in let z = h.same (base + 3) in
-      let two = g.degree in let big = g.size in let w = g.within in let n = h.same next_place in
-      let x = w.after_fixed in let y = w.below_next in record {
-        within = record { after_fixed = omega arith; below_next = omega arith };
-        status = subst (λ s. is_some (status_of s) ≡ true) (h.same base) g.status;
-        degree = omega arith;
-        size = omega arith;
-        keys = subst IsStrictlyIncreasing (keys_same visit base g) g.keys;
-        above = g.above;
-      }
+  good_same visit (LeafAt base) g = grind (arith, within_same)
+  good_same visit (InnerAt base) g = grind (arith, degree_same, keys_same)
   good_same visit (ChangeAt base) g = g
   good_same visit (RebuildAt base) g = g
 
@@ -124,8 +95,7 @@ module _ (a b : List ℕ) (h : AreAlike a b) where
   }
 
   read_same : (ref : Ref) → row_read a ref ≡ row_read b ref
-  read_same (InnerAt base) = ap (λ d. record { base = base; size = 2 * d + 3 } ∷ [])
-      (degree_same base)
+  read_same (InnerAt base) = grind (arith, degree_same)
   read_same Empty = refl
   read_same Unset = refl
   read_same (LeafAt base) = refl
@@ -134,13 +104,10 @@ module _ (a b : List ℕ) (h : AreAlike a b) where
 
   -- words that agree have the same rows at a slot
   pub rows_same : (visit : Visit) (ref : Ref) → rows_read a visit ref ≡ rows_read b visit ref
-  rows_same visit ref = ap (λ xs. xs ++ row_read a ref) (on_same (ref_of visit.word))
-      ∙ ap (λ xs. rows_on b (ref_of visit.word) ++ xs) (read_same ref)
+  rows_same visit ref = grind (arith, on_same, read_same)
 
   pairs_same : (ref : Ref) → pairs_read a ref ≡ pairs_read b ref
-  pairs_same (LeafAt base) = let k = h.same base in let v = h.same (base + 1) in
-      ap (λ n. record { key = n; value = word_at a (base + 1) } ∷ []) k
-      ∙ ap (λ n. record { key = word_at b base; value = n } ∷ []) v
+  pairs_same (LeafAt base) = grind arith
   pairs_same Empty = refl
   pairs_same Unset = refl
   pairs_same (InnerAt base) = refl
@@ -150,13 +117,7 @@ module _ (a b : List ℕ) (h : AreAlike a b) where
   -- words that agree have the same slots below a slot in good shape
   pub below_same : (visit : Visit) (ref : Ref) → IsGoodAs a visit ref → visits_below a visit
       ref ≡ visits_below b visit ref
-  below_same visit (InnerAt base) g =
-      ap (λ ks. visits_from base visit.ways ks 0 (base + 3 + row_degree a base)
-      (row_slots a base)) (keys_same visit base g)
-      ∙ ap (λ d. visits_from base visit.ways (row_keys b base) 0 (base + 3 + d)
-      (row_slots a base)) (degree_same base)
-      ∙ ap (λ ss. visits_from base visit.ways (row_keys b base) 0 (base + 3 + row_degree b base)
-      ss) (slots_same visit base g)
+  below_same visit (InnerAt base) g = grind (arith, keys_same, degree_same, slots_same)
   below_same visit Empty g = refl
   below_same visit Unset g = refl
   below_same visit (LeafAt base) g = refl

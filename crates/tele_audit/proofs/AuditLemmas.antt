@@ -7,7 +7,7 @@ use Rattle.ist_core.specs.declared.pairs.Pair.{Pair}
 use Rattle.ist_core.specs.WordTerms.{next_place, Ref, Empty, Unset, LeafAt, InnerAt, ChangeAt, RebuildAt, ref_of}
 use Rattle.ist_rest.specs.declared.slots.SlotLeft.{SlotLeft}
 use Rattle.tele_audit.specs.declared.tasks.AuditTask.{AuditTask}
-use Rattle.ist_rest.specs.WordRows.{word_at, row_degree, row_keys, row_slots, rows_on, reads_in}
+use Rattle.ist_rest.specs.WordRows.{word_at, rows_on, reads_in}
 use Rattle.ist_rest.specs.Walks.{Visit, IsGood, IsGoodAs, Reads, row_read, rows_read, pairs_read, visits_below, Walks, ends, goes_on, first_visit, AreApart}
 use Rattle.ist_rest.specs.RestingWords.{HasGoodBounds, AreLawful, read_on, BreaksFirstAt, breaks, later}
 use Rattle.tele_audit.specs.Auditing.{AreMarked, IsTaskOf, AreTasksOf, no_task, one_task, tasks_from, tasks_below, PassesSlot, FailsSlot, HasAudited, slot_of_task}
@@ -32,13 +32,7 @@ next_task : (visits : List Visit) (ts : List AuditTask) → AreTasksOf visits ts
 next_task _ _ no_task task tasks e = absurd (cc)
 next_task _ _ (one_task {visit = visit} {visits = vs} {task = t} {tasks = ts} one more) task tasks
     e =
-    let same : t ≡ task = cc in let rest : ts ≡ tasks = cc in record {
-      visit = visit;
-      rest = vs;
-      visits_are = refl;
-      is = subst (IsTaskOf visit) same one;
-      more = subst (AreTasksOf vs) rest more;
-    }
+    grind arith
 
 no_visit : (visits : List Visit) (ts : List AuditTask) → AreTasksOf visits ts → ts ≡ []
     → visits ≡ []
@@ -187,12 +181,7 @@ below_less : (words : List ℕ) (visit : Visit) (task : AuditTask) (ref : Ref)
     → IsGoodAs words visit ref → reads_in words task.word ≡ Some ref
     → work_left words (map slot_of_task (tasks_below words task ref)) < work_of words
     (slot_of_task task)
-below_less words visit task (InnerAt base) used is good e = let within = good.within in
-    let room = within.below_next in let up = good.above in let n = is.node in
-    let less = row_falls words task.word task.node base (omega arith) (omega arith) e in
-    subst (λ ss. work_left words ss < work_of words (slot_of_task task))
-    (sym (slots_of_tasks base task (row_keys words base) 0 (base + 3 + row_degree words base)
-    (row_slots words base))) less
+below_less words visit task (InnerAt base) used is good e = grind (arith, row_falls, slots_of_tasks)
 below_less words visit task Empty used is good e = slot_work words (slot_of_task task)
 below_less words visit task Unset used is good e = slot_work words (slot_of_task task)
 below_less words visit task (LeafAt base) used is good e = slot_work words (slot_of_task task)

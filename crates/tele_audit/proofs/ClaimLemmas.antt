@@ -1,11 +1,11 @@
 -- Which rows an audit claims at a slot. Serves `auditing.examine`.
-use Rattle.std.proofs.Common.{◌≡◌, ℕ, Bool, List, [], ◌∷◌, ◌++◌, Some, Result, Ok, Err, IfOk, refl, sym, ap, ◌∙◌, subst, IsTrue, reverse, zero, suc, ◌+◌, ◌-◌, ◌<◌, ◌≤◌, ◌⊎◌, nat_le, true, false, length, take, drop, slice_range, replicate, inl, inr, arith, length-append}
+use Rattle.std.proofs.Common.{◌≡◌, ℕ, Bool, List, [], ◌∷◌, ◌++◌, Result, Ok, Err, IfOk, refl, sym, ap, ◌∙◌, subst, IsTrue, reverse, zero, suc, ◌+◌, ◌-◌, ◌<◌, ◌≤◌, ◌⊎◌, nat_le, true, false, length, replicate, inl, inr, arith, length-append}
 use Rattle.ist_core.specs.WordTerms.{Ref, ref_of, LeafAt, InnerAt, next_place, first_row, place_limit}
 use Rattle.tele_audit.specs.declared.tasks.AuditTask.{AuditTask}
-use Rattle.ist_rest.specs.WordRows.{Span, rows_on, reads_in, word_at}
+use Rattle.ist_rest.specs.WordRows.{Span, rows_on, word_at}
 use Rattle.ist_rest.specs.Walks.{Visit, IsGood, IsGoodAs, Reads, row_read, AreApart, IsGoodLeaf, IsGoodRow, pairs_read, Walks, first_visit}
 use Rattle.ist_rest.specs.RestingWords.{read_on, AreLawful, BreaksFirstAt}
-use Rattle.tele_audit.specs.Auditing.{AreMarked, IsTaskOf, AreClaimed, AreRefused, FailsSlot, PassesSlot, tasks_in_row}
+use Rattle.tele_audit.specs.Auditing.{IsTaskOf, AreClaimed, AreRefused, FailsSlot, PassesSlot, tasks_in_row}
 use Rattle.ist_rest.proofs.WalkLemmas.{apart_both, apart_first, apart_second}
 use Rattle.std.proofs.lemmas.List.{append-nil, get_or_append_left, get_or-append_right, get_or_past, take-append-le, drop-append-le, length-drop, length-replicate}
 use Rattle.ist_core.specs.declared.pairs.Pair.{Pair}
@@ -25,14 +25,7 @@ read_on_both seen (x ∷ xs) ys = read_on_both (x ∷ seen) xs ys
 -- rows are claimed one after another
 pub claimed_both : (old mid new : List Bool) (xs ys : List Span) → AreClaimed old mid xs
     → AreClaimed mid new ys → AreClaimed old new (xs ++ ys)
-claimed_both old mid new xs ys one two = record {
-  all = λ seen h. let a = one.all seen h in
-      let b = two.all (read_on seen xs) a.1 in (
-        apart_both seen xs ys a.0 b.0,
-        subst (AreMarked new) (sym (read_on_both seen xs ys))
-            b.1,
-      );
-}
+claimed_both old mid new xs ys one two = grind (arith, apart_both, read_on_both)
 
 -- a slot fails if the rows that it leads through are refused
 pub fails_first : (words : List ℕ) (task : AuditTask) (old : List Bool)
@@ -51,23 +44,7 @@ pub fails_second : (words : List ℕ) (task : AuditTask) (old mid : List Bool) (
     → ((visit : Visit) → IsTaskOf visit task → IsGoodAs words visit ref
     → AreRefused mid (row_read words ref))
     → FailsSlot words task old
-fails_second words task old mid ref reads claimed h = record {
-  none = λ visit is seen marked at apart.
-      let e : Some ref ≡ Some at.ref = sym reads.is ∙ ap (reads_in words) is.word
-      ∙ at.reads.is in
-      let same : ref ≡ at.ref = cc in let a = claimed.all seen marked in
-      let good = subst (IsGoodAs words visit) (sym same) at.good in
-      let on = apart_second seen (rows_on words (ref_of visit.word)) (row_read words at.ref)
-      apart in
-      let on : AreApart (read_on seen (rows_on words (ref_of task.word)))
-      (row_read words at.ref) =
-      subst (λ w. AreApart (read_on seen (rows_on words (ref_of w)))
-      (row_read words at.ref)) (sym is.word) on in
-      let on : AreApart (read_on seen (rows_on words (ref_of task.word))) (row_read words ref)
-      = subst (λ r. AreApart (read_on seen (rows_on words (ref_of task.word)))
-      (row_read words r)) (sym same) on in
-      (h visit is good).none (read_on seen (rows_on words (ref_of task.word))) a.1 on;
-}
+fails_second words task old mid ref reads claimed h = grind (arith, apart_second)
 
 -- what follows for a result from three facts on it
 pub if_ok_three : {A E : Type 0} (P Q R S : A → Type 0) (r : Result A E)
@@ -127,34 +104,15 @@ module _ {E : Type 0} (words : List ℕ) (task : AuditTask) (base : ℕ) (old mi
       → IfOk r (λ b. IsTrue b → AreClaimed mid new (row_read words (InnerAt base)))
       → IfOk r (λ b. IsTrue b → tasks ≡ left ++ reverse (tasks_in_row words base task))
       → IfOk r (λ b. IsTrue b → PassesSlot words task old new left tasks found found)
-  row_passes new left tasks found r reads good here is = if_ok_three
-      (λ b. IsTrue b → IsGoodRow words task.node base)
-      (λ b. IsTrue b → AreClaimed mid new (row_read words (InnerAt base)))
-      (λ b. IsTrue b → tasks ≡ left ++ reverse (tasks_in_row words base task))
-      (λ b. IsTrue b → PassesSlot words task old new left tasks found found) r
-      (λ b g k e yes.
-      record {
-        ref = InnerAt base;
-        reads = reads;
-        good = λ visit is. subst (λ n. IsGoodRow words n base) is.node (g yes);
-        claimed = claimed_both old mid new (rows_on words (ref_of task.word))
-            (row_read words (InnerAt base)) claimed (k yes);
-        tasks = e yes;
-        pairs_are = sym (append-nil found);
-      })
-      good here is
+  row_passes new left tasks found r reads good here is =
+      grind (arith, if_ok_three, claimed_both, append-nil)
 
   -- another row fails
   pub row_fails : (r : Result Bool E) → Reads words task.word (InnerAt base)
       → IfOk r (λ b. (IsTrue b → ⊥) → IsGoodRow words task.node base
       → AreRefused mid (row_read words (InnerAt base)))
       → IfOk r (λ b. (IsTrue b → ⊥) → FailsSlot words task old)
-  row_fails r reads h = if_ok_so
-      (λ b. (IsTrue b → ⊥) → IsGoodRow words task.node base
-      → AreRefused mid (row_read words (InnerAt base)))
-      (λ b. (IsTrue b → ⊥) → FailsSlot words task old) r
-      (λ b k no. fails_second words task old mid (InnerAt base) reads claimed
-      (λ visit is good. k no (subst (λ n. IsGoodRow words n base) (sym is.node) good))) h
+  row_fails r reads h = grind (arith, if_ok_so, fails_second)
 
 -- ---- used words hold the same with zeros after them. Serves `laws.zeros_change_nothing`.
 
@@ -170,28 +128,12 @@ module _ (used : List ℕ) (zeros : ℕ) where
       at : ((nat_le (length used) place ≡ true) × (length used ≤ place)) ⊎
           ((nat_le (length used) place ≡ false) × (place < length used))
           → word_at used place ≡ word_at (used ++ replicate zeros 0) place
-      at (inl l) = get_or_past used place 0 l.1
-          ∙ sym (get_or-append_right used (replicate zeros 0) (length used) place 0 refl l.1
-          ∙ zero_at zeros (place - length used))
+      at (inl l) = grind (arith, get_or_past, get_or-append_right, zero_at)
       at (inr l) = sym (get_or_append_left used (replicate zeros 0) 0 place l.1)
 
   -- used words agree with themselves followed by zeros
   pub with_zeros : word_at used next_place ≡ length used → AreAlike used (used ++ replicate zeros 0)
-  with_zeros full = record {
-    same = word_same;
-    range = λ from to less. at from to (omega arith) (leb_tells from (length used));
-  }
-    where
-      at : (from to : ℕ) → to ≤ length used
-          → ((nat_le from (length used) ≡ true) × (from ≤ length used)) ⊎
-          ((nat_le from (length used) ≡ false) × (length used < from))
-          → slice_range used from to ≡ slice_range (used ++ replicate zeros 0) from to
-      at from to low (inl l) = let n = length-drop from used in
-          sym (ap (take (to - from)) (drop-append-le from used (replicate zeros 0) l.1)
-          ∙ take-append-le (to - from) (drop from used) (replicate zeros 0) (omega arith))
-      at from to low (inr l) = let m = l.1 in let none : to - from ≡ 0 = omega arith in
-          ap (λ k. take k (drop from used)) none
-          ∙ ap (λ k. take k (drop from (used ++ replicate zeros 0))) (sym none)
+  with_zeros full = grind (arith, word_same, leb_tells, length-drop, drop-append-le, take-append-le)
 
   -- lawful words stay lawful with zeros after them
   pub lawful_zeros : first_row ≤ length used → word_at used next_place ≡ length used
@@ -226,8 +168,4 @@ module _ (used : List ℕ) (zeros : ℕ) where
       (first_visit used ∷ []) place
       → BreaksFirstAt (used ++ replicate zeros 0) [] (first_visit (used ++ replicate zeros 0) ∷
       []) place
-  break_zeros full place h =
-      subst (λ w. BreaksFirstAt (used ++ replicate zeros 0) []
-      (record { place = 3; word = w; node = 2; ways = [] } ∷ []) place) (word_same 3)
-      (break_same used (used ++ replicate zeros 0) (with_zeros full) [] (first_visit used ∷ [])
-      place h)
+  break_zeros full place h = grind (arith, word_same, break_same, with_zeros)

@@ -1,5 +1,5 @@
 -- What the first bytes of a dump say, and dumps of lawful words. Serves `audits` and the laws.
-use Rattle.std.proofs.Common.{◌≡◌, ℕ, zero, suc, ◌-◌, ◌<◌, ◌≤◌, ◌^◌, ◌==◌, nat_eq, nat_lt, Bool, true, false, if◌then◌else◌, List, [], ◌∷◌, ◌++◌, length, take, drop, get_or, replicate, Some, None, refl, sym, ap, ◌∙◌, arith}
+use Rattle.std.proofs.Common.{◌≡◌, ℕ, zero, suc, ◌-◌, ◌<◌, ◌≤◌, ◌^◌, nat_eq, Bool, true, false, if◌then◌else◌, List, [], ◌∷◌, ◌++◌, length, take, drop, get_or, replicate, Some, None, refl, sym, ap, ◌∙◌, arith}
 use Rattle.std.specs.List.{starts_with, flat_map}
 use Rattle.std.specs.Cmp.Lexicographic.{same_text}
 use Rattle.std.proofs.lemmas.Bool.Decides.{nat_tests}
@@ -10,9 +10,9 @@ use Rattle.ist_rest.specs.WordRows.{word_at}
 use Rattle.tele_audit.specs.WordLaws.{ZerosChangeNothing}
 use Rattle.ist_rest.specs.RestingWords.{HasGoodBounds, AreLawful, BreaksFirstAt}
 use Rattle.ist_rest.specs.Walks.{first_visit}
-use Rattle.tele_audit.specs.declared.flaws.Flaw.TheVariants.{Magic, Short, Size, Used, Long, Anchor}
+use Rattle.tele_audit.specs.declared.flaws.Flaw.TheVariants.{Magic, Short, Size, Used, Long}
 use Rattle.tele_audit.specs.Dumps.{magic, number_bytes, used_words, dump_of, DumpContent, IsLawfulDump}
-use Rattle.tele_audit.specs.Flaws.{count_told, used_told, dump_length, words_told, table_told, is_out, head_flaw, length_flaw, anchor_flaw, flaw_or, flaw_before_rows, BreaksAtRow}
+use Rattle.tele_audit.specs.Flaws.{count_told, used_told, dump_length, words_told, table_told, is_out, head_flaw, length_flaw, flaw_before_rows, BreaksAtRow}
 use Rattle.tele_audit.specs.Taking.{AreBytes}
 use Rattle.tele_audit.proofs.NumberLemmas.{bytes-drop, number_encoded_inside, number_bytes-number_encoded, length_numbers_in, get_or_numbers_in, bytes_of_numbers}
 
@@ -35,13 +35,7 @@ picked true true z t u e = absurd (cc)
 picked true false true t u e = absurd (cc)
 picked true false false true u e = absurd (cc)
 picked true false false false true e = absurd (cc)
-picked true false false false false e = record {
-  begins = refl;
-  sixteen = refl;
-  count = refl;
-  long = refl;
-  used = refl;
-}
+picked true false false false false e = grind arith
 
 in_bounds : (low high n : ℕ) → is_out low high n ≡ false → (low ≤ n) × (n ≤ high)
 in_bounds low high n e = (grind (arith, nat_tests), grind (arith, nat_tests))
@@ -57,16 +51,7 @@ pub record IsGoodHead (bytes : List ℕ) : Type 0 where
 
 -- bytes whose first numbers have no flaw have a good head
 pub good_head : (bytes : List ℕ) → head_flaw bytes ≡ None → IsGoodHead bytes
-good_head bytes e =
-    let p = picked (starts_with nat_eq bytes magic) (nat_lt (length bytes) 16)
-    (is_out first_row place_limit (count_told bytes)) (nat_lt (length bytes) 24)
-    (is_out first_row (count_told bytes) (used_told bytes)) e in
-    let t = p.long in record {
-      begins = p.begins;
-      long = grind (arith, nat_tests);
-      count = in_bounds first_row place_limit (count_told bytes) p.count;
-      used = in_bounds first_row (count_told bytes) (used_told bytes) p.used;
-    }
+good_head bytes e = grind (arith, picked, nat_tests, in_bounds)
 
 -- bytes that begin so begin with these
 begin_magic : (bytes : List ℕ) → starts_with nat_eq bytes magic ≡ true → take 8 bytes ≡ magic
@@ -94,10 +79,7 @@ sized false false e = (refl, refl)
 -- the length is a dump's
 pub good_length : (bytes : List ℕ) → length_flaw bytes ≡ None
     → length bytes ≡ dump_length (used_told bytes)
-good_length bytes e = let n = dump_length (used_told bytes) in
-    let p = sized (nat_lt (length bytes) n) (nat_lt n (length bytes)) e in
-    let a : nat_lt (length bytes) n ≡ false = p.0 in
-    let b : nat_lt n (length bytes) ≡ false = p.1 in grind (arith, nat_tests)
+good_length bytes e = grind (arith, sized, nat_tests)
 
 -- ---- the words of a dump
 
@@ -113,12 +95,7 @@ fit_zeros (x ∷ xs) n h (suc i) = fit_zeros xs n (λ j. h (suc j)) i
 -- nothing is wrong before the rows
 none_before : (bytes : List ℕ) → head_flaw bytes ≡ None → length_flaw bytes ≡ None
     → word_at (words_told bytes) anchor_status_place ≡ 0 → flaw_before_rows bytes ≡ None
-none_before bytes h l open_anchor =
-    let a : anchor_flaw bytes ≡ None =
-    ap (λ (w : ℕ). if w == 0 then None else Some Anchor) open_anchor in
-    ap (λ f. flaw_or f (flaw_or (length_flaw bytes) (anchor_flaw bytes))) h
-    ∙ ap (λ f. flaw_or f (anchor_flaw bytes)) l
-    ∙ a
+none_before bytes h l open_anchor = grind arith
 
 -- the words of a dump whose head and length are in good shape
 module _ (bytes : List ℕ) (head : IsGoodHead bytes)
@@ -129,41 +106,24 @@ module _ (bytes : List ℕ) (head : IsGoodHead bytes)
 
   -- the first of them says so
   pub first_told : word_at (words_told bytes) next_place ≡ used_told bytes
-  first_told = let some = head.used.0 in
-      get_or_numbers_in (used_told bytes) (drop 16 bytes) 0 (omega arith)
+  first_told = grind (arith, get_or_numbers_in)
 
   -- they are in bounds if the anchor is open
   pub bounds_told : word_at (words_told bytes) anchor_status_place ≡ 0
       → HasGoodBounds (words_told bytes)
-  bounds_told open_anchor = let l = length_told in let f = first_told in let u = head.used in
-      let c = head.count in record {
-        least = omega arith;
-        most = omega arith;
-        low = omega arith;
-        high = omega arith;
-        anchor_status = open_anchor;
-        free = λ place from to. absurd (omega arith);
-      }
+  bounds_told open_anchor = grind (arith, length_told, first_told)
 
   -- the whole table has as many words as the dump says
   pub length_table : length (table_told bytes) ≡ count_told bytes
-  length_table = let l = length_told in
-      let a = length-append (words_told bytes) (replicate (count_told bytes - used_told bytes) 0) in
-      let r = length-replicate (count_told bytes - used_told bytes) zero in let u = head.used in
-      omega arith
+  length_table = grind (arith, length_told, length-append, length-replicate)
 
   -- the first word of the table
   pub first_table : word_at (table_told bytes) next_place ≡ used_told bytes
-  first_table = let l = length_told in let u = head.used in
-      get_or_append_left (words_told bytes) (replicate (count_told bytes - used_told bytes) 0) 0 0
-      (omega arith)
-      ∙ first_told
+  first_table = grind (arith, length_told, get_or_append_left, first_told)
 
   -- its used words
   pub used_table : used_words (table_told bytes) ≡ words_told bytes
-  used_table = ap (λ n. take n (table_told bytes)) first_table
-      ∙ take_at (words_told bytes) (replicate (count_told bytes - used_told bytes) 0)
-      (used_told bytes) length_told
+  used_table = grind (arith, first_table, take_at, length_told)
 
   -- the bytes are its dump
   pub dumped_table : AreBytes bytes → bytes ≡ dump_of (table_told bytes)

@@ -1,14 +1,11 @@
 -- What the bytes that were taken from a source say of all that it had. Serves `audits.audit`.
-use Rattle.std.proofs.Common.{◌≡◌, ℕ, ◌+◌, ◌*◌, ◌≤◌, nat_eq, nat_lt, Bool, true, false, if◌then◌else◌, List, [], ◌++◌, length, drop, Option, Some, None, IfSome, refl, sym, ap, ◌∙◌, subst, arith, ⊎_elim}
-use Rattle.std.specs.List.{starts_with}
+use Rattle.std.proofs.Common.{◌≡◌, ℕ, ◌+◌, ◌*◌, ◌≤◌, nat_lt, Bool, true, false, if◌then◌else◌, List, [], ◌++◌, length, drop, Option, Some, None, IfSome, sym, ap, ◌∙◌, subst, arith, ⊎_elim}
 use Rattle.std.proofs.lemmas.Bool.Decides.{nat_tests}
 use Rattle.std.proofs.lemmas.Option.{IfSome_then}
 use Rattle.std.proofs.lemmas.List.{take-append-le, length-append, append-nil}
-use Rattle.ist_core.specs.WordTerms.{first_row, place_limit}
 use Rattle.tele_audit.specs.declared.flaws.Flaw.{Flaw}
 use Rattle.tele_audit.specs.declared.flaws.Flaw.TheVariants.{Magic, Short, Size, Used, Long, Anchor, Row}
-use Rattle.tele_audit.specs.Dumps.{magic}
-use Rattle.tele_audit.specs.Flaws.{number_encoded, count_told, used_told, dump_length, is_out, head_flaw, length_flaw, anchor_flaw, flaw_or, flaw_before_rows, IsFirstFlaw}
+use Rattle.tele_audit.specs.Flaws.{number_encoded, used_told, dump_length, head_flaw, length_flaw, flaw_before_rows, IsFirstFlaw}
 use Rattle.tele_audit.specs.Taking.{TakesBytes, AreEnough, Extends}
 use Rattle.tele_audit.proofs.DumpLemmas.{count_front, used_front, good_head, good_length}
 
@@ -64,19 +61,11 @@ first_is bytes (Row place) p e = absurd p
 
 first_of_head : (bytes : List ℕ) (flaw : Flaw) → head_flaw bytes ≡ Some flaw
     → IsFirstFlaw bytes flaw
-first_of_head bytes flaw e = first_is bytes flaw
-    (plain_head (starts_with nat_eq bytes magic) (nat_lt (length bytes) 16)
-    (is_out first_row place_limit (count_told bytes)) (nat_lt (length bytes) 24)
-    (is_out first_row (count_told bytes) (used_told bytes)) flaw e)
-    (ap (λ f. flaw_or f (flaw_or (length_flaw bytes) (anchor_flaw bytes))) e)
+first_of_head bytes flaw e = grind (arith, first_is, plain_head)
 
 first_of_length : (bytes : List ℕ) (flaw : Flaw) → head_flaw bytes ≡ None
     → length_flaw bytes ≡ Some flaw → IsFirstFlaw bytes flaw
-first_of_length bytes flaw h e = first_is bytes flaw
-    (plain_length (nat_lt (length bytes) (dump_length (used_told bytes)))
-    (nat_lt (dump_length (used_told bytes)) (length bytes)) flaw e)
-    (ap (λ f. flaw_or f (flaw_or (length_flaw bytes) (anchor_flaw bytes))) h
-    ∙ ap (λ f. flaw_or f (anchor_flaw bytes)) e)
+first_of_length bytes flaw h e = grind (arith, first_is, plain_length)
 
 -- ---- more bytes
 
@@ -86,58 +75,26 @@ same_side n m bound a b = grind (arith, nat_tests)
 
 -- the head is determined by its first 24 bytes
 pub head_front : (xs ys : List ℕ) → 24 ≤ length xs → head_flaw (xs ++ ys) ≡ head_flaw xs
-head_front xs ys long = let l = length-append xs ys in
-    let m : starts_with nat_eq (xs ++ ys) magic ≡ starts_with nat_eq xs magic =
-    rw (take-append-le 8 xs ys (omega arith)) refl in
-    let s : nat_lt (length (xs ++ ys)) 16 ≡ nat_lt (length xs) 16 =
-    same_side (length xs) (length (xs ++ ys)) 16 (omega arith) (omega arith) in
-    let t : nat_lt (length (xs ++ ys)) 24 ≡ nat_lt (length xs) 24 =
-    same_side (length xs) (length (xs ++ ys)) 24 (omega arith) (omega arith) in
-    let c = count_front xs ys long in let u = used_front xs ys long in
-    let z : is_out first_row place_limit (count_told (xs ++ ys))
-    ≡ is_out first_row place_limit (count_told xs) = ap (is_out first_row place_limit) c in
-    let o : is_out first_row (count_told (xs ++ ys)) (used_told (xs ++ ys))
-    ≡ is_out first_row (count_told xs) (used_told xs) =
-    ap (λ n. is_out first_row n (used_told (xs ++ ys))) c
-    ∙ ap (λ n. is_out first_row (count_told xs) n) u in
-    same_head m s z t o
-  where
-    same_head : {a b c d e f g h i j : Bool} → a ≡ b → c ≡ d → e ≡ f → g ≡ h → i ≡ j
-        → head_by a c e g i ≡ head_by b d f h j
-    same_head {a} {b} {c} {d} {e} {f} {g} {h} {i} {j} p q r s t =
-        ap (λ x. head_by x c e g i) p ∙ ap (λ x. head_by b x e g i) q
-        ∙ ap (λ x. head_by b d x g i) r ∙ ap (λ x. head_by b d f x i) s
-        ∙ ap (λ x. head_by b d f h x) t
+head_front xs ys long =
+    grind (arith, length-append, take-append-le, same_side, count_front, used_front)
 
 -- bytes past the end are too many, however many follow
 long_front : (xs ys : List ℕ) → 24 ≤ length xs → dump_length (used_told xs) + 1 ≤ length xs
     → (length_flaw xs ≡ Some Long) × (length_flaw (xs ++ ys) ≡ Some Long)
-long_front xs ys long more = let l = length-append xs ys in
-    let u = used_front xs ys long in (
-      too_long (length xs) (dump_length (used_told xs)) (omega arith),
-      too_long (length (xs ++ ys)) (dump_length (used_told (xs ++ ys))) (omega arith),
-    )
-  where
-    too_long : (n d : ℕ) → d + 1 ≤ n → length_by (nat_lt n d) (nat_lt d n) ≡ Some Long
-    too_long n d h = let a : nat_lt n d ≡ false = grind (arith, nat_tests) in
-        let b : nat_lt d n ≡ true = grind (arith, nat_tests) in
-        ap (λ x. length_by x (nat_lt d n)) a ∙ ap (λ x. length_by false x) b
+long_front xs ys long more = grind (arith, length-append, used_front, nat_tests)
 
 -- ---- from what was taken to all bytes
 
 -- if nothing is left, all was taken
 all_taken : (rest taken bytes : List ℕ) (now : Option (List ℕ)) → now ≡ Some rest
     → taken ++ rest ≡ bytes → now ≡ Some [] → taken ≡ bytes
-all_taken rest taken bytes now is same end = let none : rest ≡ [] = cc in
-    sym (append-nil taken) ∙ ap (λ xs. taken ++ xs) (sym none) ∙ same
+all_taken rest taken bytes now is same end = grind (arith, append-nil)
 
 -- a fact on the bytes taken first, followed by those left then, is a fact on all bytes
 pub from_taken : (P : List ℕ → Type 0) (start mid : Option (List ℕ)) (taken : List ℕ)
     → TakesBytes start mid [] taken → IfSome mid (λ left. P (taken ++ left)) → IfSome start P
 from_taken P None mid taken h k = tt
-from_taken P (Some bytes) mid taken h k =
-    let here : P (taken ++ h.0) = subst (λ o. IfSome o (λ left. P (taken ++ left))) h.1 k in
-    subst P h.2 here
+from_taken P (Some bytes) mid taken h k = grind arith
 
 -- a flaw of the head of what was taken is the first flaw
 pub head_flaw_of_all : (start now : Option (List ℕ)) (taken : List ℕ) (flaw : Flaw)
@@ -183,8 +140,7 @@ all_of_length (Some left) now taken more k enough e = let exact = good_length mo
 module _ (taken more : List ℕ) (extends : Extends taken more) (head : head_flaw taken ≡ None) where
   -- the head of the longer bytes is good too
   pub extended_head : head_flaw more ≡ None
-  extended_head =
-      ap head_flaw extends.1 ∙ head_front taken extends.0 (good_head taken head).long ∙ head
+  extended_head = grind (arith, head_front, good_head)
 
   -- the longer bytes give the same number of used words
   pub extended_used : used_told more ≡ used_told taken
@@ -215,24 +171,20 @@ module _ {mid now : Option (List ℕ)} {taken more first second : List ℕ} {use
       ∙ sym (extended_used taken more h.extends h.head)
 
   enough_more : IfSome mid (λ _. AreEnough now (dump_length (used_told more) + 1) more)
-  enough_more =
-      subst (λ n. IfSome mid (λ _. AreEnough now (16 + 8 * n + 1) more)) used_more h.enough
+  enough_more = grind (arith, used_more)
 
   -- a flaw that was found is the first flaw of all bytes
   pub reached_flaw : (flaw : Flaw) → found ≡ Some flaw
       → IfSome mid (λ left. IsFirstFlaw (taken ++ left) flaw)
-  reached_flaw flaw is = length_flaw_of_all mid now taken more flaw h.takes enough_more head_more
-      (ap length_flaw (sym h.second_is) ∙ sym h.found_is ∙ is)
+  reached_flaw flaw is = grind (arith, length_flaw_of_all, enough_more, head_more)
 
   -- if no flaw was found, all bytes were taken
   reached_all : found ≡ None → IfSome mid (λ left. (more ≡ taken ++ left) × (now ≡ Some []))
-  reached_all is = all_of_length mid now taken more h.takes enough_more
-      (ap length_flaw (sym h.second_is) ∙ sym h.found_is ∙ is)
+  reached_all is = grind (arith, all_of_length, enough_more)
 
   -- then what is so of the bytes that were taken is so of all
   pub reached_so : (Q : List ℕ → Type 0) → found ≡ None → Q more → IfSome mid (λ left. Q (taken ++ left))
-  reached_so Q is q =
-      IfSome_then _ {Q = λ left. Q (taken ++ left)} (reached_all is) (λ left p. subst Q p.0 q)
+  reached_so Q is q = grind (arith, IfSome_then, reached_all)
 
   -- and nothing is left
   pub reached_end : found ≡ None → IfSome mid (λ _. now ≡ Some [])

@@ -1,19 +1,19 @@
 -- What the dump of lawful words says. Serves `laws`.
-use Rattle.std.proofs.Common.{◌≡◌, ℕ, suc, ◌+◌, ◌-◌, ◌<◌, ◌≤◌, ◌^◌, nat_eq, nat_lt, Bool, true, false, ◌||◌, if◌then◌else◌, List, [], ◌∷◌, ◌++◌, length, drop, get_or, replicate, Some, None, refl, sym, ap, ◌∙◌, subst, arith}
+use Rattle.std.proofs.Common.{◌≡◌, ℕ, suc, ◌+◌, ◌-◌, ◌<◌, ◌≤◌, ◌^◌, false, List, [], ◌∷◌, ◌++◌, length, drop, get_or, replicate, Some, None, refl, sym, ap, ◌∙◌, subst, arith}
 use Rattle.std.specs.List.{flat_map}
 use Rattle.std.proofs.lemmas.Bool.Decides.{nat_tests}
 use Rattle.std.proofs.lemmas.List.{take-append-drop, length-drop, length-append, length-take-le, drop_at, drop-drop, append-nil, get_or-drop, get_or-take}
 use Rattle.ist_core.specs.declared.pairs.Pair.{Pair}
 use Rattle.ist_core.specs.TreeTerms.{pairs_between}
-use Rattle.ist_core.specs.WordTerms.{first_row, place_limit, next_place, anchor_status_place}
+use Rattle.ist_core.specs.WordTerms.{next_place}
 use Rattle.ist_rest.specs.WordRows.{word_at}
 use Rattle.tele_audit.specs.WordLaws.{PairsAreOne, LawfulWordsBreakNowhere, BreaksAreOne}
 use Rattle.ist_rest.specs.RestingWords.{HasGoodBounds, AreLawful, AreListed, BreaksFirstAt}
 use Rattle.ist_rest.specs.Walks.{first_visit}
 use Rattle.tele_audit.specs.declared.flaws.Flaw.{Flaw}
 use Rattle.tele_audit.specs.declared.flaws.Flaw.TheVariants.{Magic, Short, Size, Used, Long, Anchor, Row}
-use Rattle.tele_audit.specs.Dumps.{magic, number_bytes, used_words, dump_of, DumpContent, IsLawfulDump}
-use Rattle.tele_audit.specs.Flaws.{number_encoded, numbers_in, count_told, used_told, dump_length, words_told, table_told, is_out, head_flaw, length_flaw, anchor_flaw, flaw_or, flaw_before_rows, BreaksAtRow, IsFirstFlaw}
+use Rattle.tele_audit.specs.Dumps.{number_bytes, used_words, dump_of, DumpContent, IsLawfulDump}
+use Rattle.tele_audit.specs.Flaws.{numbers_in, count_told, used_told, dump_length, words_told, table_told, is_out, head_flaw, flaw_before_rows, BreaksAtRow, IsFirstFlaw}
 use Rattle.tele_audit.proofs.NumberLemmas.{length-number_bytes, number_encoded-number_bytes, get_or_numbers_in, numbers_of_bytes, length-flat_bytes, below-take}
 use Rattle.tele_lines.proofs.NumberLemmas.{not_below}
 
@@ -26,24 +26,18 @@ zeros_are (x ∷ xs) h = ap (λ (y : ℕ). y ∷ xs) (h 0 (omega arith))
 
 -- a test that a number within bounds passes
 not_out : (low high n : ℕ) → low ≤ n → n ≤ high → is_out low high n ≡ false
-not_out low high n a b = let x : nat_lt n low ≡ false = grind (arith, nat_tests) in
-    let y : nat_lt high n ≡ false = grind (arith, nat_tests) in ap (λ t. t || nat_lt high n) x ∙ y
+not_out low high n a b = grind (arith, nat_tests)
 
 -- ---- what a dump says
 
 module _ (table : List ℕ) (bounds : HasGoodBounds table)
     (fit : (place : ℕ) → word_at table place < 2 ^ 64) where
-  u : ℕ
-  u = word_at table next_place
-
   length_ws : length (used_words table) ≡ word_at table next_place
-  length_ws =
-      let high = bounds.high in length-take-le (word_at table next_place) table (omega arith)
+  length_ws = grind (arith, length-take-le)
 
   after_magic : drop 8 (dump_of table)
       ≡ number_bytes (length table) ++ flat_map number_bytes (used_words table)
-  after_magic =
-      drop_at magic (number_bytes (length table) ++ flat_map number_bytes (used_words table)) 8 refl
+  after_magic = grind (arith, drop_at)
 
   after_count : drop 16 (dump_of table) ≡ flat_map number_bytes (used_words table)
   after_count = sym (drop-drop 8 8 (dump_of table)) ∙ ap (drop 8) after_magic
@@ -52,8 +46,7 @@ module _ (table : List ℕ) (bounds : HasGoodBounds table)
 
   -- the dump of a table gives the table's number of words
   pub count_back : count_told (dump_of table) ≡ length table
-  count_back = let most = bounds.most in ap number_encoded after_magic
-      ∙ number_encoded-number_bytes (length table) (flat_map number_bytes (used_words table)) (omega arith)
+  count_back = grind (arith, after_magic, number_encoded-number_bytes)
 
   fit_used : (i : ℕ) → get_or (used_words table) i 0 < 2 ^ 64
   fit_used = below-take (2 ^ 64) (word_at table next_place) table (omega arith) fit
@@ -66,16 +59,11 @@ module _ (table : List ℕ) (bounds : HasGoodBounds table)
 
   -- the dump of a table gives the number of the table's used words
   pub used_back : used_told (dump_of table) ≡ word_at table next_place
-  used_back = let low = bounds.low in let l = length_ws in ap number_encoded after_count
-      ∙ sym (get_or_numbers_in (length (used_words table)) (flat_map number_bytes (used_words table))
-      0 (omega arith))
-      ∙ ap (λ xs. get_or xs 0 0) numbers_back
-      ∙ get_or-take (word_at table next_place) table 0 0 (omega arith)
+  used_back = grind (arith, length_ws, after_count, get_or_numbers_in, numbers_back, get_or-take)
 
   -- the dump of a table gives the table's used words
   pub words_back : words_told (dump_of table) ≡ used_words table
-  words_back = ap (λ n. numbers_in n (drop 16 (dump_of table))) (used_back ∙ sym length_ws)
-      ∙ ap (numbers_in (length (used_words table))) after_count ∙ numbers_back
+  words_back = grind (arith, used_back, length_ws, after_count, numbers_back)
 
   rest_back : drop (word_at table next_place) table
       ≡ replicate (length table - word_at table next_place) 0
@@ -86,61 +74,18 @@ module _ (table : List ℕ) (bounds : HasGoodBounds table)
 
   -- the dump of a table gives the whole table
   pub table_back : table_told (dump_of table) ≡ table
-  table_back =
-      ap (λ xs. xs ++ replicate (count_told (dump_of table) - used_told (dump_of table)) 0) words_back
-      ∙ ap (λ n. used_words table ++ replicate (n - used_told (dump_of table)) 0) count_back
-      ∙ ap (λ n. used_words table ++ replicate (length table - n) 0) used_back
-      ∙ ap (λ xs. used_words table ++ xs) (sym rest_back)
-      ∙ take-append-drop (word_at table next_place) table
+  table_back = grind (arith, words_back, count_back, used_back, rest_back, take-append-drop)
 
   length_back : length (dump_of table) ≡ dump_length (used_told (dump_of table))
   length_back =
-      let a = length-append (number_bytes (length table)) (flat_map number_bytes (used_words table)) in
-      let b = length-number_bytes (length table) in let c = length-flat_bytes (used_words table) in
-      let d = length_ws in let e = used_back in
-      let f = length-append magic (number_bytes (length table) ++ flat_map number_bytes
-      (used_words table)) in
-      let g : length magic ≡ 8 = refl in omega arith
+      grind (arith, length-append, length-number_bytes, length-flat_bytes, length_ws, used_back)
 
   head_back : head_flaw (dump_of table) ≡ None
-  head_back = let low = bounds.low in let l = length_back in let e = used_back in
-      let c = count_back in let least = bounds.least in let most = bounds.most in
-      let high = bounds.high in let s = not_below (length (dump_of table)) 16 (omega arith) in
-      let z = not_out first_row place_limit (count_told (dump_of table)) (omega arith) (omega arith) in
-      let t = not_below (length (dump_of table)) 24 (omega arith) in
-      let o = not_out first_row (count_told (dump_of table)) (used_told (dump_of table)) (omega arith)
-      (omega arith) in
-      unnamed _ _ _ _ s z t o
-    where
-      unnamed : (s z t u : Bool) → s ≡ false → z ≡ false → t ≡ false → u ≡ false
-          → (if s then Some Short else (if z then Some Size else (if t then Some Short else
-          (if u then Some Used else None)))) ≡ None
-      unnamed false false false false p q r w = refl
-      unnamed true z t u p q r w = absurd (cc)
-      unnamed false true t u p q r w = absurd (cc)
-      unnamed false false true u p q r w = absurd (cc)
-      unnamed false false false true p q r w = absurd (cc)
+  head_back = grind (arith, length_back, used_back, count_back, not_below, not_out)
 
   -- nothing is wrong in the dump of a table before its rows
   pub none_back : flaw_before_rows (dump_of table) ≡ None
-  none_back = let l = length_back in let n = dump_length (used_told (dump_of table)) in
-      let a = not_below (length (dump_of table)) n (omega arith) in
-      let b = not_below n (length (dump_of table)) (omega arith) in
-      let whole : length_flaw (dump_of table) ≡ None =
-      ap (λ (x : Bool). if x then Some Short else (if nat_lt n (length (dump_of table)) then Some Long
-      else None)) a
-      ∙ ap (λ (x : Bool). if x then Some Long else None) b in
-      let low = bounds.low in
-      let open_word : word_at (words_told (dump_of table)) anchor_status_place ≡ 0 =
-      ap (λ xs. word_at xs anchor_status_place) words_back
-      ∙ get_or-take (word_at table next_place) table anchor_status_place 0 (omega arith)
-      ∙ bounds.anchor_status in
-      let anchored : anchor_flaw (dump_of table) ≡ None =
-      ap (λ (w : ℕ). if nat_eq w 0 then None else Some Anchor) open_word in
-      ap (λ f. flaw_or f (flaw_or (length_flaw (dump_of table)) (anchor_flaw (dump_of table))))
-      head_back
-      ∙ ap (λ f. flaw_or f (anchor_flaw (dump_of table))) whole
-      ∙ anchored
+  none_back = grind (arith, length_back, not_below, words_back, get_or-take, head_back)
 
 -- ---- the laws
 
@@ -169,8 +114,7 @@ named_before bytes flaw Anchor some h = cc
 -- bytes have one first flaw
 pub one_flaw : BreaksAreOne → (bytes : List ℕ) (flaw other : Flaw) → IsFirstFlaw bytes flaw
     → IsFirstFlaw bytes other → flaw ≡ other
-one_flaw one bytes (Row place) other h k = let row = named_row bytes other h.before k in
-    ap Row (one (table_told bytes) place row.0 h.breaks row.2.breaks) ∙ sym row.1
+one_flaw one bytes (Row place) other h k = grind (arith, named_row)
 one_flaw one bytes Magic other h k = named_before bytes Magic other h k
 one_flaw one bytes Short other h k = named_before bytes Short other h k
 one_flaw one bytes Size other h k = named_before bytes Size other h k
@@ -193,9 +137,7 @@ module _ (bytes : List ℕ) (told : DumpContent) (h : IsLawfulDump bytes told) w
 
 -- a report is determined by its parts
 same_told : (a b : DumpContent) → a.words ≡ b.words → a.used ≡ b.used → a.pairs ≡ b.pairs → a ≡ b
-same_told a b e f g = ap (λ n. record { words = n; used = a.used; pairs = a.pairs }) e
-    ∙ ap (λ n. record { words = b.words; used = n; pairs = a.pairs }) f
-    ∙ ap (λ ps. record { words = b.words; used = b.used; pairs = ps }) g
+same_told a b e f g = grind arith
 
 -- a dump has only one report
 pub one_told : PairsAreOne → (bytes : List ℕ) (told other : DumpContent) → IsLawfulDump bytes told

@@ -1,7 +1,7 @@
 -- Numbers as eight bytes, and words as numbers one after another. Serves `numbers`, `tables` and
 -- the laws.
 use Rattle.std.proofs.Common.{◌≡◌, ℕ, zero, suc, ◌+◌, ◌*◌, ◌<◌, ◌≤◌, ◌^◌, List, [], ◌∷◌, ◌++◌, length, take, drop, get_or, refl, sym, ap, ◌∙◌, arith}
-use Rattle.std.specs.Int.{w64, from_le_bytes, to_le_bytes}
+use Rattle.std.specs.Int.{w64, from_le_bytes}
 use Rattle.std.specs.List.{flat_map}
 use Rattle.std.proofs.lemmas.Nat.{le_bytes_8, from_le_bytes-to_le_bytes_8}
 use Rattle.std.proofs.lemmas.List.{drop-drop, take-append-le, drop-append-le, length-take-le, length-drop, length-append, get_or-drop, take-append-drop, append_assoc, take_at, drop_at}
@@ -33,9 +33,8 @@ number_encoded_front xs ys long = ap (from_le_bytes w64) (take-append-le 8 xs ys
 -- a number that lies within the first bytes is determined by them
 pub number_encoded_inside : (n : ℕ) (xs ys : List ℕ) → n + 8 ≤ length xs
     → number_encoded (drop n (xs ++ ys)) ≡ number_encoded (drop n xs)
-number_encoded_inside n xs ys long = let l = length-drop n xs in
-    ap number_encoded (drop-append-le n xs ys (omega arith))
-    ∙ number_encoded_front (drop n xs) ys (omega arith)
+number_encoded_inside n xs ys long =
+    grind (arith, length-drop, drop-append-le, number_encoded_front)
 
 -- eight bytes are the encoding of the number that they encode
 pub number_bytes-number_encoded : (bytes : List ℕ) → AreBytes bytes → 8 ≤ length bytes
@@ -54,9 +53,7 @@ length-number_bytes n = refl
 pub number_encoded-number_bytes : (n : ℕ) (rest : List ℕ) → n < 2 ^ 64
     → number_encoded (number_bytes n ++ rest) ≡ n
 unfolding number_bytes number_encoded
-number_encoded-number_bytes n rest fits =
-    ap (from_le_bytes w64) (take_at (to_le_bytes w64 n) rest 8 refl)
-    ∙ from_le_bytes-to_le_bytes_8 n fits
+number_encoded-number_bytes n rest fits = grind (arith, take_at, from_le_bytes-to_le_bytes_8)
 
 -- ---- many numbers
 
@@ -119,8 +116,7 @@ module _ (used : ℕ) (bytes words : List ℕ) (place : ℕ) (is : numbers_in us
     (within : place < length words) where
   -- a place within the words is the place of a used word
   pub place_told : place < used
-  place_told = let n = length_numbers_in used (drop 16 bytes) in
-      let e = ap (λ (xs : List ℕ). length xs) is in omega arith
+  place_told = grind (arith, length_numbers_in)
 
   -- it follows the first 16 bytes
   pub word_told : get_or words place 0 ≡ number_encoded (drop (16 + 8 * place) bytes)

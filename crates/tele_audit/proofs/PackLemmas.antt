@@ -38,8 +38,7 @@ module _ (m then_m : Map) (command : Command) (reply : Option ℕ)
     (done : (then_m, reply) ≡ step m command) where
   -- a command adds at most one pair
   pub point_few : fin.len then_m ≤ fin.len m + 1
-  point_few = subst (λ n. fin.len n ≤ fin.len m + 1) (ap (λ (p : Map × Option ℕ). p.0) (sym done))
-      (adds_one_key m command)
+  point_few = grind (arith, adds_one_key)
 
 -- some lines were taken into a map: what it and the lines that are unread leave is what all bytes do
 pub record IsPackedSoFar (bytes : List ℕ) (m : Map) (place : Place) (unread : Option (List ℕ))
@@ -118,12 +117,8 @@ module _ (m : Map) (old : Place) (unread : Option (List ℕ)) where
       → after_lines m (Good number version item ∷ lines) ≡ after_lines then_m lines)
       → fin.len then_m ≤ fin.len m + 1 → HasGathered left then_m new later
   line_gathered left later then_m new ended number version item before goes counts high limit taken
-      few = record {
-        way = way_on left later then_m new ended number version item before.way goes taken;
-        few = omega (arith, before.few, few, counts.0, counts.1);
-        limit = limit ∙ before.limit;
-        allowed = omega (arith, high, limit, before.limit);
-      }
+      few =
+      grind (arith, way_on)
 
   -- a line is bad
   pub way_bad : (left : Option (List ℕ)) (number : ℕ) (cause : Cause)
@@ -131,11 +126,7 @@ module _ (m : Map) (old : Place) (unread : Option (List ℕ)) where
       → IfSome unread (λ bytes. read_at old (lines_of bytes) ≡ Bad number cause ∷ [])
       → IfSome left (λ bytes. left_by bytes ≡ Refuses number cause)
   way_bad None number cause way bad = tt
-  way_bad (Some bytes) number cause way bad =
-      let here : read_at old (lines_of way.rest) ≡ Bad number cause ∷ [] =
-      subst (λ u. IfSome u (λ bytes. read_at old (lines_of bytes) ≡ Bad number cause ∷ [])) way.leaves
-      bad in
-      sym way.same ∙ ap (after_lines m) here
+  way_bad (Some bytes) number cause way bad = grind arith
 
 -- ---- new tables
 
@@ -158,27 +149,14 @@ stands_new m words table = record {
 pub can_open : (pairs plain : List Pair) (m : Map) (first ideal : ℕ) → pairs ≡ plain
     → plain ≡ pairs_of m → IsRising plain → fin.len m ≤ 2 ^ 24 → first ≡ first_row
     → ideal ≡ ideal_words (length pairs) → ideal ≤ 9 * length pairs → CanOpen pairs (first + ideal)
-can_open pairs plain m first ideal same is rising few e f most = let long = length-pairs_of m in
-    let a = ap (λ (ps : List Pair). length ps) same in
-    let b = ap (λ (ps : List Pair). length ps) is in record {
-      rising = subst IsRising (sym same) rising;
-      room = omega (arith, e, f);
-      within = omega (arith, a, b, long, few, e, most);
-    }
+can_open pairs plain m first ideal same is rising few e f most = grind (arith, length-pairs_of)
 
 -- the image of a table of these pairs, with no word more than they need
 pub table_laid : (pairs : List Pair) (m : Map) (words : List ℕ) (count : ℕ) → pairs ≡ pairs_of m
     → CanOpen pairs count → count ≡ first_row + ideal_words (length pairs) → length words ≡ count
     → IsImage (start pairs count) words → ((place : ℕ) → word_at words place < 2 ^ 64)
     → IsNewTable m words
-table_laid pairs m words count is opens least size image fit = record {
-  opens = subst (λ ps. CanOpen ps (length words)) is
-      (subst (λ n. CanOpen pairs n) (sym size) opens);
-  fit = fit;
-  size = size ∙ least ∙ ap (λ (ps : List Pair). first_row + ideal_words (length ps)) is;
-  image = subst (λ ps. IsImage (start ps (length words)) words) is
-      (subst (λ n. IsImage (start pairs n) words) (sym size) image);
-}
+table_laid pairs m words count is opens least size image fit = grind arith
 
 -- they hold its pairs, and are lawful at rest
 pub lawful_new : StandingWordsAreLawful → (m : Map) (words : List ℕ) → IsNewTable m words

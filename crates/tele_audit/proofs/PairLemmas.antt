@@ -6,7 +6,7 @@ use Rattle.ist_core.specs.LogTerms.{Among, Each}
 use Rattle.ist_core.proofs.AllWordLemmas.{each_append, each-among}
 use Rattle.ist_core.proofs.AllPlaceLemmas.{child_count_tells, AreRisingKeys, next_from_rises, each_mapped}
 use Rattle.ist_rest.specs.WordRows.{Span, row_keys, row_slots, row_degree, leaf_key}
-use Rattle.ist_rest.specs.Walks.{Way, Visit, LeadsBy, IsGoodAs, pairs_read, first_visit, visits_from, visits_below, Walks, ends, goes_on}
+use Rattle.ist_rest.specs.Walks.{Way, Visit, LeadsBy, IsGoodAs, pairs_read, visits_from, visits_below, Walks, ends, goes_on}
 use Rattle.ist_rest.specs.RestingWords.{HoldPairs}
 use Rattle.plain_map.specs.Rising.{IsRising}
 
@@ -95,9 +95,7 @@ ordered_from node ways keys i place (s ∷ slots) = (
 
 ordered_below : (words : List ℕ) (visit : Visit) (ref : Ref)
     → AreOrdered (visits_below words visit ref)
-ordered_below words visit (InnerAt base) =
-    ordered_from base visit.ways (row_keys words base) 0 (base + 3 + row_degree words base)
-    (row_slots words base)
+ordered_below words visit (InnerAt base) = grind (arith, ordered_from)
 ordered_below words visit Empty = tt
 ordered_below words visit Unset = tt
 ordered_below words visit (LeafAt base) = tt
@@ -186,5 +184,4 @@ walk_rises words _ _ _ (goes_on {visit = visit} {visits = visits} {rows = rows} 
 
 -- the pairs that words hold have strictly increasing keys
 pub held_pairs_rise : (words : List ℕ) (pairs : List Pair) → HoldPairs words pairs → IsRising pairs
-held_pairs_rise words pairs h = next_from_rises (λ (p : Pair). p.key) pairs
-    (walk_rises words (first_visit words ∷ []) h.rows pairs h.walk (tt, tt))
+held_pairs_rise words pairs h = grind (arith, next_from_rises, walk_rises)

@@ -1,5 +1,5 @@
 -- A dump that goes out piece by piece. Serves `pieces` and `dumps`.
-use Rattle.std.proofs.Common.{◌≡◌, ℕ, ◌+◌, ◌<◌, ◌≤◌, List, [], ◌∷◌, ◌++◌, length, take, drop, Option, sym, ap, ◌∙◌, subst}
+use Rattle.std.proofs.Common.{◌≡◌, ℕ, ◌+◌, ◌<◌, ◌≤◌, List, [], ◌∷◌, ◌++◌, length, take, drop, Option, sym, ap, ◌∙◌, subst, arith}
 use Rattle.std.specs.List.{flat_map}
 use Rattle.std.proofs.lemmas.List.{append_assoc, append-nil, take_more, take-append-drop, take-take}
 use Rattle.std.proofs.lemmas.List.Concat.{flat_map-append}
@@ -15,11 +15,7 @@ module _ (before : Option (List ℕ)) (words : List ℕ) where
   pub dumped_out : (now later : Option (List ℕ)) (piece new : List ℕ) (place : ℕ)
       → HasDumped before now words piece place → MovesOut now later piece new
       → HasDumped before later words new place
-  dumped_out now later piece new place h m = record {
-    written = h.written ++ m.moved;
-    writes = Appends-append before now later h.written m.moved h.writes m.writes;
-    so_far = append_assoc h.written m.moved new ∙ ap (λ xs. h.written ++ xs) m.whole ∙ h.so_far;
-  }
+  dumped_out now later piece new place h m = grind (arith, Appends-append, append_assoc)
 
   -- one more word
   pub dumped_word : (now : Option (List ℕ)) (piece new : List ℕ) (place word : ℕ)

@@ -1,5 +1,5 @@
 -- What an audit learns of bytes from the words that it reads in them. Serves `audits.audit_bytes`.
-use Rattle.std.proofs.Common.{◌≡◌, ℕ, ◌<◌, ◌^◌, List, [], ◌∷◌, length, drop, None, ap, ◌∙◌, subst, sym, arith}
+use Rattle.std.proofs.Common.{◌≡◌, ℕ, ◌<◌, ◌^◌, List, [], ◌∷◌, length, drop, None, subst, arith}
 use Rattle.ist_core.specs.declared.pairs.Pair.{Pair}
 use Rattle.ist_core.specs.WordTerms.{anchor_status_place}
 use Rattle.ist_rest.specs.WordRows.{word_at}
@@ -26,13 +26,7 @@ pub record AreRead (bytes : List ℕ) (used : ℕ) (words : List ℕ) : Type 0 w
 pub words_read : (bytes words now : List ℕ) (used : ℕ) → head_flaw bytes ≡ None
     → length_flaw bytes ≡ None → now ≡ bytes → used ≡ number_encoded (drop 16 now)
     → words ≡ numbers_in used (drop 16 bytes) → AreRead bytes used words
-words_read bytes words now used head whole e f g =
-    let u : used ≡ used_told bytes = f ∙ ap (λ xs. number_encoded (drop 16 xs)) e in record {
-      head = head;
-      whole = whole;
-      count = u;
-      are = g ∙ ap (λ n. numbers_in n (drop 16 bytes)) u;
-    }
+words_read bytes words now used head whole e f g = grind arith
 
 module _ {bytes : List ℕ} {used : ℕ} {words : List ℕ} (read : AreRead bytes used words) where
   good : IsGoodHead bytes
@@ -43,24 +37,18 @@ module _ {bytes : List ℕ} {used : ℕ} {words : List ℕ} (read : AreRead byte
 
   -- there are more than two words
   pub read_long : 2 < length words
-  read_long = let l = length_told bytes good exact in
-      let e = ap (λ (xs : List ℕ). length xs) read.are in let u = good.used.0 in omega arith
+  read_long = grind (arith, length_told, good, exact)
 
   -- if the anchor is open, the words are in bounds
   pub read_bounds : word_at words anchor_status_place ≡ 0 → HasGoodBounds words
-  read_bounds open_anchor = subst HasGoodBounds (sym read.are)
-      (bounds_told bytes good exact
-      (subst (λ xs. word_at xs anchor_status_place ≡ 0) read.are open_anchor))
+  read_bounds open_anchor = grind (arith, bounds_told, good, exact)
 
   -- if the words are lawful, the bytes are the dump of a lawful table with this report
   pub read_lawfully : ZerosChangeNothing → AreBytes bytes
       → ((place : ℕ) → word_at words place < 2 ^ 64) → (count : ℕ) (pairs : List Pair)
       → count ≡ count_told bytes → AreLawful words pairs
       → IsLawfulDump bytes record { words = count; used = used; pairs = pairs }
-  read_lawfully zeros are fit count pairs same lawful = told_lawfully bytes good exact zeros are
-      (subst (λ xs. (place : ℕ) → word_at xs place < 2 ^ 64) read.are fit)
-      record { words = count; used = used; pairs = pairs } same read.count
-      (subst (λ xs. AreLawful xs pairs) read.are lawful)
+  read_lawfully zeros are fit count pairs same lawful = grind (arith, told_lawfully, good, exact)
 
   -- if the walk first breaks at a place, the first flaw of the bytes is that row
   pub read_broken : ZerosChangeNothing → word_at words anchor_status_place ≡ 0 → (place : ℕ)

@@ -1,5 +1,5 @@
 -- What a command has written of what is due. Serves `packing` and `runs`.
-use Rattle.std.proofs.Common.{◌≡◌, ℕ, List, Option, Some, None, refl, sym, subst, IfSome, inl, inr, Result, Ok, Err, IfOk, OnOk, OnErr}
+use Rattle.std.proofs.Common.{◌≡◌, ℕ, List, Option, Some, None, refl, sym, subst, IfSome, inl, Result, Ok, Err, IfOk, OnOk, OnErr, arith}
 use Rattle.ist_core.specs.TreeTerms.{Map}
 use Rattle.tele_io.specs.Bytes.{Appends, AppendsPart}
 use Rattle.tele_lines.specs.declared.items.Cause.{Cause}
@@ -27,17 +27,14 @@ module _ (job : Job) (before now : Option (List ℕ)) (text : List ℕ) (status 
   pub part_if : (left : Option (List ℕ)) → IfSome left (λ bytes. IsOwed job bytes text status)
       → AppendsPart before now text → IfSome left (λ bytes. WritesPart job bytes before now)
   part_if None due part = tt
-  part_if (Some bytes) due part =
-      inr (record { text = text; status = status; due = due; writes = part })
+  part_if (Some bytes) due part = grind arith
 
   -- on success the status is the due one
   pub done_text : (left : Option (List ℕ)) → IfSome left (λ bytes. IsOwed job bytes text status)
       → (r : Result ℕ Halt) → IfOk r (λ s. s ≡ status) → OnOk r (Appends before now text)
       → IfOk r (λ s. IfSome left (λ bytes. Writes job bytes before now s))
   done_text left due (Err halt) same writes = tt
-  done_text left due (Ok s) same writes =
-      subst (λ n. IfSome left (λ bytes. Writes job bytes before now n)) (sym same)
-      (writes_if left due writes)
+  done_text left due (Ok s) same writes = grind (arith, writes_if)
 
 -- ---- what is due
 
@@ -61,28 +58,24 @@ pub bad_due : (left : Option (List ℕ)) (number : ℕ) (cause : Cause)
     → IfSome left (λ bytes. left_by bytes ≡ Refuses number cause)
     → IfSome left (λ bytes. IsOwed Pack bytes (bad_text number cause) BAD_LINE)
 bad_due None number cause is = tt
-bad_due (Some bytes) number cause is =
-    inr (record { number = number; cause = cause; left = is; text_is = refl; status_is = refl })
+bad_due (Some bytes) number cause is = grind arith
 
 -- the same line
 module _ (before now : Option (List ℕ)) (n m : ℕ) (c d : Cause) (line : n ≡ m) (cause : c ≡ d) where
   -- the line that names a bad line is the same for equal numbers and causes
   pub same_bad : Appends before now (bad_text n c) → Appends before now (bad_text m d)
-  same_bad writes = subst (λ x. Appends before now (bad_text m x)) cause
-      (subst (λ x. Appends before now (bad_text x c)) line writes)
+  same_bad writes = grind arith
 
   -- a part of that line is the same for equal numbers and causes
   pub same_bad_part : AppendsPart before now (bad_text n c) → AppendsPart before now (bad_text m d)
-  same_bad_part part = subst (λ x. AppendsPart before now (bad_text m x)) cause
-      (subst (λ x. AppendsPart before now (bad_text x c)) line part)
+  same_bad_part part = grind arith
 
 -- for a lawful dump, the text for the question is due
 pub answer_due : (left : Option (List ℕ)) (question : Question) (told : DumpContent)
     → IfSome left (λ bytes. IsLawfulDump bytes told)
     → IfSome left (λ bytes. IsOwed (Tell question) bytes (said question told) DONE)
 answer_due None question told lawful = tt
-answer_due (Some bytes) question told lawful =
-    inl (record { told = told; lawful = lawful; text_is = refl; status_is = refl })
+answer_due (Some bytes) question told lawful = grind arith
 
 -- the same flaw
 module _ (before now : Option (List ℕ)) (f h : Flaw) (same : f ≡ h) where
@@ -99,8 +92,7 @@ pub flaw_due : (left : Option (List ℕ)) (question : Question) (flaw : Flaw)
     → IfSome left (λ bytes. IsFirstFlaw bytes flaw)
     → IfSome left (λ bytes. IsOwed (Tell question) bytes (flaw_text flaw) FLAWED)
 flaw_due None question flaw first = tt
-flaw_due (Some bytes) question flaw first =
-    inr (record { flaw = flaw; first = first; text_is = refl; status_is = refl })
+flaw_due (Some bytes) question flaw first = grind arith
 
 -- for wrong arguments, the usage line is due
 pub usage_due : (left : Option (List ℕ))

@@ -1,71 +1,33 @@
 -- The tasks of an audit: which keys lead to a slot. Serves `auditing`.
-use Rattle.std.proofs.Common.{◌≡◌, ℕ, ◌+◌, ◌-◌, ◌<◌, ◌≤◌, ◌⊎◌, ◌↔◌, ◌==◌, if◌then◌else◌, nat_lt, nat_le, max, Bool, true, false, List, [], ◌∷◌, ◌++◌, length, get_or, Option, Some, None, refl, sym, subst, inl, inr, ⊎_elim, arith}
+use Rattle.std.proofs.Common.{◌≡◌, ℕ, ◌+◌, ◌-◌, ◌<◌, ◌≤◌, ◌⊎◌, ◌↔◌, nat_lt, true, false, List, [], ◌∷◌, ◌++◌, length, get_or, Option, Some, None, refl, sym, arith}
 use Rattle.std.proofs.lemmas.Bool.Decides.{leb_tells, eqb_tells, nat_tests}
 use Rattle.std.specs.List.Sorted.{IsStrictlyIncreasing}
 use Rattle.ist_core.specs.WordTerms.{next_place, Ref, Empty, Unset, LeafAt, InnerAt, ChangeAt, RebuildAt}
 use Rattle.ist_math.proofs.ChildLemmas.{child_count_is, key_before_child, key_after_child}
 use Rattle.tele_audit.specs.declared.tasks.AuditTask.{AuditTask}
-use Rattle.ist_rest.specs.WordRows.{word_at, row_degree, row_keys, row_slots}
+use Rattle.ist_rest.specs.WordRows.{word_at}
 use Rattle.ist_rest.specs.Walks.{Visit, IsGoodAs, visits_from, visits_below}
 use Rattle.tele_audit.specs.Auditing.{IsUnderBound, IsTaskOf, AreTasksOf, no_task, one_task, low_of, lower_of, high_of, child_task, tasks_from, tasks_below}
 use Rattle.ist_rest.proofs.WordRowLemmas.{row_lengths}
 
 -- a test by <
 ltb_tells : (a b : ℕ) → ((nat_lt a b ≡ true) × (a < b)) ⊎ ((nat_lt a b ≡ false) × (b ≤ a))
-ltb_tells a b = at (nat_lt a b) refl
-  where
-    at : (v : Bool) → nat_lt a b ≡ v → ((nat_lt a b ≡ true) × (a < b)) ⊎ ((nat_lt a b ≡ false)
-        × (b ≤ a))
-    at true e = let less : a < b = grind (arith, nat_tests) in inl (e, less)
-    at false e = let more : b ≤ a = grind (arith, nat_tests) in inr (e, more)
+ltb_tells a b = grind (arith, nat_tests)
 
 -- ---- keys
 
 -- the lower bound of a child
 low_told : (low : ℕ) (keys : List ℕ) (i x : ℕ) → (low_of low keys i ≤ x) ↔
     ((low ≤ x) × (0 < i → get_or keys (i - 1) 0 ≤ x))
-low_told low keys i x = at (eqb_tells i 0)
-  where
-    at : (((i == 0) ≡ true) × (i ≡ 0)) ⊎ (((i == 0) ≡ false) × (i ≡ 0 → ⊥))
-        → (low_of low keys i ≤ x) ↔ ((low ≤ x) × (0 < i → get_or keys (i - 1) 0 ≤ x))
-    at (inl a) = let z = a.1 in
-        subst (λ b. ((if b then low else max low (get_or keys (i - 1) 0)) ≤ x) ↔
-        ((low ≤ x) × (0 < i → get_or keys (i - 1) 0 ≤ x))) (sym a.0)
-        ((λ h. (h, λ some. absurd (omega arith))), (λ h. h.0))
-    at (inr a) =
-        subst (λ b. ((if b then low else max low (get_or keys (i - 1) 0)) ≤ x) ↔
-        ((low ≤ x) × (0 < i → get_or keys (i - 1) 0 ≤ x))) (sym a.0) (
-          (λ h. (omega arith, λ some. omega arith)),
-          (λ h. let l = h.0 in let k =
-              h.1 (⊎_elim (λ z. absurd (a.1 z.1)) (λ z. let n = z.1 in omega arith) (leb_zero i)) in
-              omega arith),
-        )
-      where
-        leb_zero : (n : ℕ) → ((nat_le n 0 ≡ true) × (n ≡ 0)) ⊎ ((nat_le n 0 ≡ false) × (0 < n))
-        leb_zero n = ⊎_elim (λ y. let l = y.1 in inl (y.0, omega arith)) (λ y. inr y)
-            (leb_tells n 0)
+low_told low keys i x = grind (arith, eqb_tells, leb_tells)
 
 lower_told : (high : Option ℕ) (k x : ℕ) → (x < lower_of high k) ↔ (IsUnderBound high x × (x < k))
 lower_told None k x = ((λ h. (tt, h)), (λ h. h.1))
-lower_told (Some high) k x =
-    ((λ h. (omega arith, omega arith)), (λ h. let a = h.0 in let b = h.1 in omega arith))
+lower_told (Some high) k x = grind arith
 
 high_told : (high : Option ℕ) (keys : List ℕ) (i x : ℕ) → IsUnderBound (high_of high keys i) x ↔
     (IsUnderBound high x × (i < length keys → x < get_or keys i 0))
-high_told high keys i x = at (ltb_tells i (length keys))
-  where
-    at : ((nat_lt i (length keys) ≡ true) × (i < length keys)) ⊎ ((nat_lt i (length keys) ≡ false)
-        × (length keys ≤ i))
-        → IsUnderBound (high_of high keys i) x ↔ (IsUnderBound high x
-        × (i < length keys → x < get_or keys i 0))
-    at (inl a) = let it = lower_told high (get_or keys i 0) x in
-        subst (λ b. IsUnderBound (if b then Some (lower_of high (get_or keys i 0)) else high) x ↔
-        (IsUnderBound high x × (i < length keys → x < get_or keys i 0))) (sym a.0)
-        ((λ h. let y = it.0 h in (y.0, λ less. y.1)), (λ h. it.1 (h.0, h.1 a.1)))
-    at (inr a) =
-        subst (λ b. IsUnderBound (if b then Some (lower_of high (get_or keys i 0)) else high) x ↔
-        (IsUnderBound high x × (i < length keys → x < get_or keys i 0))) (sym a.0)
-        ((λ h. (h, λ less. let k = a.1 in absurd (omega arith))), (λ h. h.0))
+high_told high keys i x = grind (arith, ltb_tells, lower_told)
 
 -- ---- tasks
 
@@ -119,10 +81,6 @@ pub below_tasks : (words : List ℕ) (visit : Visit) (task : AuditTask) (ref : R
 below_tasks words visit task Empty used h good = no_task
 below_tasks words visit task Unset used h good = absurd good
 below_tasks words visit task (LeafAt base) used h good = no_task
-below_tasks words visit task (InnerAt base) used h good = let within = good.within in
-    let room = within.below_next in let two = good.degree in
-    let long = row_lengths words base (omega arith) (omega arith) in let a = long.0 in
-    let b = long.1 in tasks_from_are visit task base (row_keys words base) h good.keys 0
-    (base + 3 + row_degree words base) (row_slots words base) (omega arith)
+below_tasks words visit task (InnerAt base) used h good = grind (arith, row_lengths, tasks_from_are)
 below_tasks words visit task (ChangeAt base) used h good = absurd good
 below_tasks words visit task (RebuildAt base) used h good = absurd good

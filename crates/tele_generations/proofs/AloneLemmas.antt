@@ -37,15 +37,7 @@ reading_alone : (workers number : ℕ) (m n : Map) (es : List Entry) (call : Cal
     → call.reply ≡ reply_to n call.command → is_change call ≡ false
     → IsAlone workers number m n es calls → IsAlone workers number m n es (call ∷ calls)
 reading_alone workers number m n es call calls reply plain a =
-    let leaves : map_after n call.command ≡ n
-    = no_entry_leaves n call.command call.reply plain reply in
-    record {
-      legal = same_cons _ _ _ _ (sym reply)
-          (subst (λ k. IsLegal k (map told_by_call calls)) (sym leaves) a.legal);
-      agree = subst (λ k. Agree workers number (map_after_entries m es)
-          (map_told k (map told_by_call calls)))
-          (sym leaves) a.agree;
-    }
+    grind (arith, no_entry_leaves, same_cons, Agree, map_told)
 
 -- the calls after a reading
 rest_on : (workers number : ℕ) (m n : Map) (es : List Entry) (from : ℕ) (call : Call)
@@ -81,9 +73,7 @@ alone_none workers number m n from (call ∷ calls) x kept = at (is_change call)
     at : (v : Bool) → is_change call ≡ v
         → (OnItsLane workers number m n [] from calls → IsAlone workers number m n [] calls)
         → IsAlone workers number m n [] (call ∷ calls)
-    at true e rest = let few = few_none number m from (call ∷ calls) x.stand in
-        let same : filter is_change (call ∷ calls) ≡ call ∷ filter is_change calls = rw e refl in
-        let long = ap length same in absurd (omega arith)
+    at true e rest = grind (arith, few_none)
     at false e rest = let low = x.stand.low call (inl refl) in
         let within = (x.stand.read call (call.position - from) (inl refl) e (omega arith)).0 in
         reading_alone workers number m n [] call calls

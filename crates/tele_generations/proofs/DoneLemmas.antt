@@ -1,10 +1,9 @@
 -- How many tasks lanes answered and left. Serves `run_round`.
-use Rattle.std.proofs.Common.{◌≡◌, inl, inr, ◌<◌, ◌≤◌, ℕ, zero, suc, List, [], ◌∷◌, take, drop, length, refl, sym, ap, subst, arith, All, Contains, Some, slice_get}
+use Rattle.std.proofs.Common.{◌≡◌, inl, inr, ◌<◌, ◌≤◌, ℕ, zero, suc, List, [], ◌∷◌, take, drop, length, refl, sym, subst, arith, All, Contains, Some, slice_get}
 use Rattle.std.specs.List.{flat_map}
 use Rattle.std.proofs.lemmas.List.{length-map, length-take, length-append}
 use Rattle.std.proofs.lemmas.List.Elements.{All-head, All-tail}
 use Rattle.tele_lanes.specs.declared.task_lists.Task.{Task}
-use Rattle.tele_lanes.specs.Lines.{task_lines}
 use Rattle.tele_lanes.specs.Lanes.{unanswered}
 use Rattle.tele_lanes.proofs.SplitLemmas.{Contains-cons_cases}
 use Rattle.tele_generations.specs.Runs.{LaneRun, HasRun, answers_of_runs, done_of_runs, left_of_runs}
@@ -12,10 +11,7 @@ use Rattle.tele_generations.specs.Generations.{all_done}
 
 -- a lane has no more answers than tasks
 answered_within : (run : LaneRun) → HasRun run → length run.answers ≤ length run.tasks
-answered_within run h = let one = length-map run.answers (λ a. a.line) in
-    let same = ap length h.answers in
-    let two = length-take (length run.answers) (task_lines run.tasks) in
-    let three = length-map run.tasks (λ t. t.line) in omega arith
+answered_within run h = grind (arith, length-map, length-take)
 
 -- as many tasks were answered as there are answers
 pub length-all_done : (runs : List LaneRun) → All HasRun runs

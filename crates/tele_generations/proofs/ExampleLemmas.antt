@@ -1,11 +1,10 @@
 -- A turn of one lane on a small log. Serves `examples`.
-use Rattle.std.proofs.Common.{◌≡◌, zero, suc, false, [], ◌∷◌, slice_get, Some, None, refl, subst, sym, inl, inr, arith, All}
+use Rattle.std.proofs.Common.{zero, suc, [], ◌∷◌, None, refl, arith, All}
 use Rattle.std.specs.List.Sorted.{IsStrictlyIncreasing}
 use Rattle.std.proofs.lemmas.List.Sorted.{IsPermutation-refl}
 use Rattle.ist_core.specs.declared.calls.Call.{Call}
 use Rattle.ist_core.specs.declared.commands.Command.TheVariants.{Put}
-use Rattle.ist_core.specs.TreeTerms.{map_of, is_change, entry_by, StandAmong, StandsIn}
-use Rattle.ist_core.specs.LogTerms.{Among}
+use Rattle.ist_core.specs.TreeTerms.{map_of, StandsIn}
 use Rattle.ist_core.specs.ExampleLogs.{put_resolved}
 use Rattle.ist_core.proofs.PutExampleLemmas.{put_is_lawful}
 use Rattle.laws_histories.specs.Telling.{map_now}
@@ -22,24 +21,7 @@ the_call = record { command = Put 1 1; reply = None; position = 0; stamp = 1 }
 
 -- the call is in the log, as its one change
 call_stands : StandsIn [] 15 put_resolved 0 (the_call ∷ [])
-call_stands = subst (λ es. StandAmong (map_of []) es 0 (the_call ∷ [])) (sym put_changes)
-    record {
-      made = λ call i changes. at call i;
-      exactly = refl;
-      read = λ call i plain. absurd (plainly call i plain);
-      in_order = (tt, tt);
-    }
-  where
-    at : (call : Call) → Among call (the_call ∷ [])
-        → slice_get (entry_by 0 the_call ∷ []) call.position ≡ Some (entry_by 0 call)
-    at call (inl e) =
-        subst (λ c. slice_get (entry_by 0 the_call ∷ []) c.position ≡ Some (entry_by 0 c))
-        (sym e) refl
-    at call (inr i) = absurd i
-
-    plainly : (call : Call) → Among call (the_call ∷ []) → is_change call ≡ false → ⊥
-    plainly call (inl e) plain = cc (subst (λ c. is_change c ≡ false) e plain)
-    plainly call (inr i) plain = absurd i
+call_stands = grind (arith, put_changes)
 
 -- the lane ran on the table
 pub put_ran : RanOn [] 15 put_resolved 1 (line_one ∷ line_two ∷ []) (one_run ∷ [])

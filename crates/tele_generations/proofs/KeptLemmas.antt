@@ -33,5 +33,4 @@ module _ {C : Type 0} where
   -- past the places there is no table
   pub slice_get-tables_past : (places : List (Option C)) → All IsSome places
       → (number : ℕ) → length places ≤ number → slice_get (tables places) number ≡ None
-  slice_get-tables_past places all number past = let many = length-tables places all in
-      slice_get_past (tables places) number (omega (arith, many, past))
+  slice_get-tables_past places all number past = grind (arith, length-tables, slice_get_past)

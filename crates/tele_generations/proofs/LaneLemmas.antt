@@ -1,10 +1,10 @@
 -- One lane that ran on a table. Serves `laws.lanes_answer_their_parts`.
-use Rattle.std.proofs.Common.{◌≡◌, ℕ, zero, suc, ◌+◌, ◌<◌, List, [], ◌∷◌, take, drop, length, get_or, sym, ap, ◌∙◌, subst, arith, All}
+use Rattle.std.proofs.Common.{◌≡◌, ℕ, zero, suc, ◌+◌, ◌<◌, List, [], ◌∷◌, take, drop, length, get_or, subst, arith, All}
 use Rattle.std.specs.List.Sorted.{IsStrictlyIncreasing}
 use Rattle.std.proofs.lemmas.Bool.{eqb-true}
 use Rattle.std.proofs.lemmas.List.{length-map, take-map, get_or-drop, length-drop}
 use Rattle.std.proofs.lemmas.List.Elements.{filter_passes}
-use Rattle.ist_core.specs.TreeTerms.{Map, replies}
+use Rattle.ist_core.specs.TreeTerms.{Map}
 use Rattle.ist_core.specs.LogTerms.{Answered, Each, IsLegal}
 use Rattle.tele_lanes.specs.declared.task_lists.Task.{Task}
 use Rattle.tele_lanes.specs.Lines.{commands_of}
@@ -30,9 +30,7 @@ module _ {A : Type 0} where
 -- the last numbers of a strictly increasing list
 pub IsStrictlyIncreasing-drop : (n : ℕ) (xs : List ℕ) → IsStrictlyIncreasing xs
     → IsStrictlyIncreasing (drop n xs)
-IsStrictlyIncreasing-drop n xs up k h = let long = length-drop n xs in
-    let next : n + (k + 1) ≡ (n + k) + 1 = omega arith in
-    rw (get_or-drop n xs k 0, get_or-drop n xs (k + 1) 0, next) (up (n + k) (omega arith))
+IsStrictlyIncreasing-drop n xs up k h = grind (arith, length-drop, get_or-drop)
 
 -- lists of what was told keep to their lanes, if each does
 pub keeps_from : (workers number : ℕ) (lists : List (List Answered))
@@ -57,17 +55,9 @@ of_lane workers lane tasks k d lt = eqb-true _ _ (filter_passes (is_in workers l
 -- a lane's port was asked the commands of the tasks that were answered
 pub run_asked : (run : LaneRun) → HasRun run
     → commands_told run.told ≡ commands_of (take (length run.answers) run.tasks)
-run_asked run h =
-    let long : length run.told ≡ length run.answers =
-    sym (length-map run.told (λ t. t.reply)) ∙ ap length (sym h.replies) ∙ length-map run.answers
-    (λ a. a.reply) in
-    h.calls ∙ ap (λ n. take n (commands_of run.tasks)) long
-    ∙ take-map (λ t. t.command) (length run.answers) run.tasks
+run_asked run h = grind (arith, length-map, take-map)
 
 -- a lane whose calls are legal by themselves answers as one thread does
 pub run_plain : (m : Map) (run : LaneRun) → HasRun run → IsLegal m run.told
     → ArePlainAnswers m (take (length run.answers) run.tasks) run.answers
-run_plain m run h legal = record {
-  lines = h.answers ∙ take-map (λ t. t.line) (length run.answers) run.tasks;
-  replies = h.replies ∙ sym legal ∙ ap (replies m) (run_asked run h);
-}
+run_plain m run h legal = grind (arith, take-map, run_asked)

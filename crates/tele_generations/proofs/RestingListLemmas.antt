@@ -44,8 +44,7 @@ stand_at : (pairs : List Pair) (words : ℕ) (log : Log) (number : ℕ) (lists :
     → AllStandIn pairs words log number lists → (k : ℕ) (d : List Call) → k < length lists
     → StandsIn pairs words log (number + k) (get_or lists k d)
 stand_at pairs words log number [] h k d lt = absurd (omega arith)
-stand_at pairs words log number (calls ∷ more) h zero d lt =
-    subst (λ n. StandsIn pairs words log n calls) (omega arith) h.0
+stand_at pairs words log number (calls ∷ more) h zero d lt = grind arith
 stand_at pairs words log number (calls ∷ more) h (suc k) d lt =
     subst (λ n. StandsIn pairs words log n (get_or more k d)) (omega arith)
     (stand_at pairs words log (number + 1) more h.1 k d (omega arith))
@@ -90,9 +89,7 @@ module _ (pairs : List Pair) (words : ℕ) (log : Log) (told : List (List Answer
 
   -- the list at a place has only keys of its lane
   kept : (k : ℕ) (d : List Call) → k < length r.calls → OfLane (length told) k (get_or r.calls k d)
-  kept k d lt = subst (λ n. OfLane (length told) n (get_or r.calls k d)) (omega arith)
-      (kept_at (length told) 0 r.calls
-      (subst (λ ts. KeepToLanes (length told) 0 ts) (sym r.told_are) keeps) k d lt)
+  kept k d lt = grind (arith, OfLane, kept_at)
 
   -- each change is of the lane of its owner
   lanes : Each (λ e. lane_of (length told) e.command ≡ e.owner) (changes_of pairs words log)
@@ -104,9 +101,7 @@ module _ (pairs : List Pair) (words : ℕ) (log : Log) (told : List (List Answer
       es = changes_of pairs words log
 
       known : (i : ℕ) (e : Entry) → slice_get es i ≡ Some e → e.owner < length r.calls
-      known i e is = let u = entry_update pairs words r.lawful.opens log r.lawful.enabled i e is in
-          let low = owner_known pairs words log r.lawful.enabled u.0 u.1.change u.1.published in
-          let own = same_owner _ e _ is u.1.entry in let rest = r.at_rest in omega arith
+      known i e is = grind (arith, entry_update, owner_known, same_owner)
 
       at : (e : Entry) → Among e es → e.owner < length r.calls
           → lane_of (length told) e.command ≡ e.owner

@@ -186,9 +186,7 @@ pub ends_with : {workers first : ℕ} {pairs : List Pair} {tasks : List Task}
     → last ≡ table → all ≡ fulls → RanInGenerations workers first pairs tasks before after last all
 ends_with {workers = workers} {first = first} {pairs = pairs} {tasks = tasks} {before = before}
     {after = after} {last = last} {fulls = fulls} g same_table same_fulls =
-    subst (λ fs. RanInGenerations workers first pairs tasks before after last fs) (sym same_fulls)
-    (subst (λ x. RanInGenerations workers first pairs tasks before after x fulls)
-    (sym same_table) g)
+    grind arith
 
 -- the end of the round, in terms of the table and the refusals that are returned
 pub ends_for : {workers : ℕ} {pairs : List Pair} {tasks : List Task} (table last : List ℕ)
@@ -196,5 +194,4 @@ pub ends_for : {workers : ℕ} {pairs : List Pair} {tasks : List Task} (table la
     → all ≡ fulls → EndsTheRound workers pairs tasks last all
 ends_for {workers = workers} {pairs = pairs} {tasks = tasks} table last {fulls = fulls} e
     same_table same_fulls =
-    subst (λ fs. EndsTheRound workers pairs tasks last fs) (sym same_fulls)
-    (subst (λ x. EndsTheRound workers pairs tasks x fulls) (sym same_table) e)
+    grind arith

@@ -29,8 +29,7 @@ module _ (pairs : List Pair) (words : ℕ) (log : Log) (workers : ℕ) (tasks : 
     (runs : List LaneRun) (r : RanOn pairs words log workers tasks runs) where
   -- there is a run for each worker
   pub runs_long : length runs ≡ workers
-  runs_long = sym (length-map runs (λ run. run.tasks)) ∙ ap length r.lanes.lanes
-      ∙ length-all_lane_tasks workers tasks
+  runs_long = grind (arith, length-map, length-all_lane_tasks)
 
   -- the tasks of a run are its lane's
   pub run_tasks : (k : ℕ) (d : LaneRun) → k < workers
@@ -125,8 +124,7 @@ module _ (pairs : List Pair) (words : ℕ) (log : Log) (workers : ℕ) (tasks : 
 
       part : (k : ℕ) (d : List Task) → k < workers
           → get_or (done_of_runs runs) k d ≡ take (count k d) (lane_tasks workers k tasks)
-      part k d lt = get_or-map (λ run. take (length run.answers) run.tasks) runs k (none d) d
-          (omega (arith, runs_long)) ∙ ap (take (count k d)) (run_tasks k (none d) lt)
+      part k d lt = grind (arith, get_or-map, none, runs_long, count, run_tasks)
 
   -- the tasks that are left are parts too
   pub left_parts : AreParts workers (left_of_runs runs)
@@ -150,8 +148,7 @@ module _ (pairs : List Pair) (words : ℕ) (log : Log) (workers : ℕ) (tasks : 
 
       part : (k : ℕ) (d : List Task) → k < workers
           → get_or (left_of_runs runs) k d ≡ drop (count k d) (lane_tasks workers k tasks)
-      part k d lt = get_or-map (λ run. drop (length run.answers) run.tasks) runs k (none d) d
-          (omega (arith, runs_long)) ∙ ap (drop (count k d)) (run_tasks k (none d) lt)
+      part k d lt = grind (arith, get_or-map, none, runs_long, count, run_tasks)
 
   -- the answered tasks of a lane, among all answered tasks
   pub done_lane : (done : List Task) → TasksInLineOrder (done_of_runs runs) done

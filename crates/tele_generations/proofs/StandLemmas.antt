@@ -1,6 +1,6 @@
 -- A list of calls that belongs to the entries of a log, from one entry on. Serves
 -- `laws.lists_answer_alone`.
-use Rattle.std.proofs.Common.{◌≡◌, ◌≢◌, ℕ, suc, ◌+◌, ◌-◌, ◌≤◌, ◌⊎◌, ◌==◌, if◌then◌else◌, Bool, true, false, List, [], ◌∷◌, filter, length, slice_get, Some, refl, ap, subst, inl, inr, arith}
+use Rattle.std.proofs.Common.{◌≡◌, ◌≢◌, ℕ, suc, ◌+◌, ◌-◌, ◌≤◌, ◌⊎◌, ◌==◌, if◌then◌else◌, Bool, true, false, List, [], ◌∷◌, filter, length, slice_get, Some, refl, ap, inl, inr, arith}
 use Rattle.std.proofs.lemmas.Bool.Decides.{eqb_tells}
 use Rattle.ist_core.specs.declared.calls.Call.{Call}
 use Rattle.ist_core.specs.TreeTerms.{Map, map_after, reply_to, Entry, map_at, is_change, entry_by, entries_by, position_after, Follows, AllFollow, StandAmong}
@@ -26,17 +26,7 @@ pub record StandFrom (m : Map) (es : List Entry) (number from : ℕ)
 -- calls that belong to all entries do so from the first one on
 pub stand_from : (m : Map) (es : List Entry) (number : ℕ) (calls : List Call)
     → StandAmong m es number calls → StandFrom m es number 0 calls
-stand_from m es number calls s = record {
-  low = λ call i. omega arith;
-  made = λ call j i e is. let at : call.position ≡ j = omega arith in
-      subst (λ p. slice_get es p ≡ Some (entry_by number call)) at (s.made call i e);
-  read = λ call j i e is. let at : call.position ≡ j = omega arith in
-      let r = s.read call i e in (
-        let within = r.within in omega arith,
-        subst (λ p. call.reply ≡ reply_to (map_at m es p) call.command) at r.reply,
-      );
-  order = s.in_order;
-}
+stand_from m es number calls s = grind arith
 
 -- the calls after the first one
 pub stand_rest : (m : Map) (es : List Entry) (number from : ℕ) (call : Call) (calls : List Call)
@@ -72,11 +62,7 @@ all_after m es number from call calls s differ c (inr i) = let low = s.low call 
     let position = f.position in omega arith
   where
     position_up : (x : Call) → x.position ≤ position_after x
-    position_up x = at (is_change x)
-      where
-        at : (v : Bool) → x.position ≤ (if v then x.position + 1 else x.position)
-        at true = omega arith
-        at false = omega arith
+    position_up x = grind arith
 
 -- after a call that makes the first entry, all come after that entry
 pub rest_after : (m : Map) (es : List Entry) (number from : ℕ) (call : Call) (calls : List Call)
@@ -100,35 +86,17 @@ first_made m e es number from call calls s changes same =
 -- the entries of an owner, with one of its own added in front
 pub own_entry : (number : ℕ) (e : Entry) (es : List Entry) → e.owner ≡ number
     → entries_by number (e ∷ es) ≡ e ∷ entries_by number es
-own_entry number e es own = at (e.owner == number) refl (eqb_tells e.owner number)
-  where
-    at : (v : Bool) → (e.owner == number) ≡ v
-        → (((e.owner == number) ≡ true) × (e.owner ≡ number)) ⊎
-        (((e.owner == number) ≡ false) × (e.owner ≢ number))
-        → entries_by number (e ∷ es) ≡ e ∷ entries_by number es
-    at v is (inl t) = rw t.0 refl
-    at v is (inr f) = absurd (f.1 own)
+own_entry number e es own = grind (arith, eqb_tells)
 
 -- the entries of an owner, with one of another owner added in front
 pub other_entry : (number : ℕ) (e : Entry) (es : List Entry) → e.owner ≢ number
     → entries_by number (e ∷ es) ≡ entries_by number es
-other_entry number e es other = at (eqb_tells e.owner number)
-  where
-    at : (((e.owner == number) ≡ true) × (e.owner ≡ number)) ⊎
-        (((e.owner == number) ≡ false) × (e.owner ≢ number))
-        → entries_by number (e ∷ es) ≡ entries_by number es
-    at (inl t) = absurd (other t.1)
-    at (inr f) = rw f.0 refl
+other_entry number e es other = grind (arith, eqb_tells)
 
 -- one more entry doesn't reduce an owner's entries
 pub entries_more : (number : ℕ) (e : Entry) (es : List Entry)
     → length (entries_by number es) ≤ length (entries_by number (e ∷ es))
-entries_more number e es = at (e.owner == number)
-  where
-    at : (v : Bool) → length (entries_by number es)
-        ≤ length (if v then e ∷ entries_by number es else entries_by number es)
-    at true = omega arith
-    at false = omega arith
+entries_more number e es = grind arith
 
 -- the two results of a test of two numbers
 abbrev pub TestsAs : ℕ → ℕ → Type 0

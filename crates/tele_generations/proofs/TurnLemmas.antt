@@ -35,14 +35,8 @@ pub under_way : (m : Map) (tasks : List Task) (answers : List Answer) (left : Li
     → replay now (commands_of left) ≡ replay m (commands_of tasks)
     → length (pairs_of now) + length left ≤ length (pairs_of m) + length tasks
     → IsUnderWay m tasks answers left now
-under_way m tasks answers left now same leaves few = record {
-  completes = λ rest all one_rest one_all. subst (λ xs. IsPermutation (answers ++ xs) all)
-      (sym (answered-from_ArePlainAnswers now left rest one_rest))
-      (subst (IsPermutation (answers ++ answered now left))
-      (sym (answered-from_ArePlainAnswers m tasks all one_all)) same);
-  leaves = leaves;
-  few = few;
-}
+under_way m tasks answers left now same leaves few =
+    grind (arith, answered-from_ArePlainAnswers, answered)
 
 -- before the first turn all tasks are left
 pub round_begins : (m : Map) (tasks : List Task) → IsUnderWay m tasks [] tasks m
@@ -81,9 +75,8 @@ length-answered m tasks = sym (length-map (answered m tasks) (λ a. a.line)) ∙
 counted : (m : Map) (tasks : List Task) (answers : List Answer) (left : List Task) (now : Map)
     → IsPermutation (answers ++ answered now left) (answered m tasks)
     → length answers + length left ≡ length tasks
-counted m tasks answers left now same = let both = length-append answers (answered now left) in
-    let all = length_permutation (answers ++ answered now left) (answered m tasks) same in
-    let one = length-answered now left in let two = length-answered m tasks in omega arith
+counted m tasks answers left now same =
+    grind (arith, length-append, answered, length_permutation, length-answered)
 
 -- each task is answered or left
 pub tasks_counted : (m now : Map) (tasks left : List Task) (answers : List Answer)

@@ -1,5 +1,5 @@
 -- Lanes that answered all of their tasks. Serves `laws.lanes_answer_their_parts`.
-use Rattle.std.proofs.Common.{◌≡◌, ℕ, ◌==◌, Bool, true, false, cond, List, [], ◌∷◌, drop, length, get_or, refl, ap, ◌∙◌, ◌++◌, sym, subst, arith, All, inl, inr, ◌+◌, ◌<◌, ◌≤◌, Option}
+use Rattle.std.proofs.Common.{◌≡◌, ℕ, ◌==◌, Bool, true, false, cond, List, [], ◌∷◌, drop, length, get_or, refl, ap, ◌∙◌, ◌++◌, arith, All, inl, inr, ◌+◌, ◌<◌, ◌≤◌, Option}
 use Rattle.std.proofs.lemmas.List.{drop-drop, length-map, drop_all, nil_from_length}
 use Rattle.ist_core.specs.declared.pairs.Pair.{Pair}
 use Rattle.ist_core.specs.declared.ports.Full.{Full}
@@ -10,7 +10,7 @@ use Rattle.tele_generations.specs.Runs.{LaneRun, RanOn, left_of_runs, HasRun, La
 use Rattle.tele_generations.specs.Suffixes.{LeavesSuffixes}
 use Rattle.tele_generations.proofs.RunLemmas.{run_tasks, left_lane, done_leads}
 use Rattle.std.specs.List.{flat_map}
-use Rattle.std.specs.List.Sorted.{IsStrictlyIncreasing, IsPermutation}
+use Rattle.std.specs.List.Sorted.{IsStrictlyIncreasing}
 use Rattle.std.proofs.lemmas.List.Elements.{All-head, All-tail}
 use Rattle.std.proofs.lemmas.List.Sorted.{IsPermutation-refl, length_permutation}
 use Rattle.ist_core.specs.TreeTerms.{map_of, Map, pairs_of, replay}
@@ -21,7 +21,6 @@ use Rattle.tele_lanes.proofs.LineLemmas.{Rise-from_increasing}
 use Rattle.tele_generations.proofs.TurnLemmas.{lanes_turn, round_ends, tasks_counted}
 use Rattle.std.proofs.lemmas.List.Sums.{count_by-le-length}
 use Rattle.ist_core.proofs.AllPlaceLemmas.{map_of-pairs_of}
-use Rattle.laws_calls.specs.Finishing.{is_put}
 use Rattle.laws_histories.proofs.ContentLemmas.{pairs_rise_at}
 use Rattle.tele_generations.specs.Turns.{IsUnderWay}
 use Rattle.plain_map.specs.Rising.{IsRising}
@@ -71,9 +70,7 @@ line_leaves workers task tasks = λ lane lt. at lane (lane_of workers task.comma
 -- a lane that was told as much as it has tasks leaves none
 none_left : (run : LaneRun) → HasRun run → length run.told ≡ length run.tasks
     → drop (length run.answers) run.tasks ≡ []
-none_left run h whole = let told = length-map run.told (λ t. t.reply) in
-    let answers = length-map run.answers (λ a. a.reply) in let same = ap length h.replies in
-    drop_all (length run.answers) run.tasks (omega arith)
+none_left run h whole = grind (arith, length-map, drop_all)
 
 -- all such lanes leave none
 all_none_left : (runs : List LaneRun) → All HasRun runs → AreWhole runs
@@ -88,14 +85,7 @@ all_none_left (run ∷ runs) h whole =
 -- if each lane answered all, nothing is left
 pub nothing_left : (workers : ℕ) (tasks : List Task) (runs : List LaneRun)
     → LanesRan workers tasks runs → AreWhole runs → TasksInLineOrder (left_of_runs runs) []
-nothing_left workers tasks runs r whole = record {
-  same = subst (λ l. IsPermutation l []) (sym (all_none_left runs r.ran whole))
-      (IsPermutation-refl []);
-  rising = none;
-}
-  where
-    none : IsStrictlyIncreasing (task_lines [])
-    none k h = absurd (omega arith)
+nothing_left workers tasks runs r whole = grind (arith, all_none_left, IsPermutation-refl)
 
 -- if each lane answered all, the answers are one thread's
 pub whole_plain : (pairs : List Pair) (words : ℕ) (log : Log) (workers : ℕ) (tasks : List Task)
@@ -115,8 +105,7 @@ pub asks_more : (keys more asked : ℕ) → keys ≤ more → MayAsk keys asked 
 asks_more keys more asked le (inl a) = inl a
 asks_more keys more asked le (inr (inl a)) = inr (inl a)
 asks_more keys more asked le (inr (inr (inl a))) = inr (inr (inl a))
-asks_more keys more asked le (inr (inr (inr (k, two, most, is)))) =
-    inr (inr (inr (k, two, omega arith, is)))
+asks_more keys more asked le (inr (inr (inr (k, two, most, is)))) = grind arith
 
 module _ (workers words : ℕ) (now : List Pair) (left : List Task) (table : List ℕ)
     (more : List Answer) (rest : List Task) (full : Option Full)
@@ -132,18 +121,7 @@ module _ (workers words : ℕ) (now : List Pair) (left : List Task) (table : Lis
 
   -- the lanes ran on it
   pub ran : RanOn now (length table) table_log workers left r.runs
-  ran = record {
-    some = omega arith;
-    rising = up;
-    lanes = r.is.lanes;
-    rests = record {
-      lawful = r.is.stands.lawful;
-      calls = r.is.stands.calls;
-      told_are = r.is.stands.told_are;
-      at_rest = r.is.stands.at_rest;
-      stand = r.is.stands.stand;
-    };
-  }
+  ran = grind arith
 
   -- the lanes took a turn
   pub turn : IsUnderWay (map_of now) left more rest table_map
@@ -160,9 +138,7 @@ module _ (workers words : ℕ) (now : List Pair) (left : List Task) (table : Lis
 
   -- there is an answer for each answered task
   pub answered_long : length (all_done r.runs) ≡ length more
-  answered_long = length-all_done r.runs r.is.lanes.ran
-      ∙ sym (length_permutation (flat_map (λ answers. answers) (answers_of_runs r.runs)) more
-      r.answered.same)
+  answered_long = grind (arith, length-all_done, length_permutation)
 
   -- each task was answered or left
   pub both_long : length more + length rest ≡ length left
@@ -170,9 +146,7 @@ module _ (workers words : ℕ) (now : List Pair) (left : List Task) (table : Lis
 
   -- no more puts were answered than tasks
   pub puts_few : puts_done r.runs ≤ length left
-  puts_few = let few = count_by-le-length is_put (commands_of (all_done r.runs)) in
-      let long = length-map (all_done r.runs) (λ t. t.command) in let one = answered_long in
-      let two = both_long in omega arith
+  puts_few = grind (arith, count_by-le-length, length-map, answered_long, both_long)
 
   module _ (following : List Pair) (h : HasPairs table following) where
     -- the pairs after the table are the pairs of the map
@@ -185,16 +159,11 @@ module _ (workers words : ℕ) (now : List Pair) (left : List Task) (table : Lis
 
     -- the pairs after the table are strictly increasing
     pub after_rises : IsRising following
-    after_rises = subst (λ ps. IsRising ps) (sym after_is)
-        (pairs_rise_at now (length table) r.is.stands.lawful.opens table_log
-        r.is.stands.lawful.enabled)
+    after_rises = grind (arith, after_is, pairs_rise_at)
 
   -- if the table ran full, something is left
   pub rest_some : (numbers : Full) → RanFull now table r.runs numbers → 0 < length rest
-  rest_some numbers f = let one = left_some r.runs f.run f.task f.is_run f.is_next in
-      let long = length_permutation (flat_map (λ tasks. tasks) (left_of_runs r.runs)) rest
-      r.left_are.same in
-      omega arith
+  rest_some numbers f = grind (arith, left_some, length_permutation)
 
   -- if each lane answered all, nothing is left
   pub rest_none : AreWhole r.runs → rest ≡ []

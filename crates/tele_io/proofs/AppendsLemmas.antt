@@ -57,12 +57,7 @@ AppendsPart-append before middle now first second a part = let n = part.0 in
 -- a part of the front is a part of the whole
 pub AppendsPart-longer : (before now : Option (List ℕ)) (first second : List ℕ)
     → AppendsPart before now first → AppendsPart before now (first ++ second)
-AppendsPart-longer before now first second part =
-    let n = part.0 in (
-      n,
-      omega (arith, length-append first second, part.1),
-      subst (Appends before now) (sym (take-append-le n first second part.1)) part.2,
-    )
+AppendsPart-longer before now first second part = grind (arith, length-append, take-append-le)
 
 -- all bytes of a piece were taken
 pub whole_of_all : {E : Type 0} (r : Result Unit E) (before now : Option (List ℕ)) (bytes : List ℕ) (n : ℕ)

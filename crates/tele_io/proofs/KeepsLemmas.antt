@@ -1,6 +1,6 @@
 -- The known bytes of a stream after two steps, the first of which kept them. Serves `read_on` and
 -- `write_on`, and whoever passes on what was written.
-use Rattle.std.proofs.Common.{ℕ, List, [], take, Option, Some, None, subst}
+use Rattle.std.proofs.Common.{ℕ, List, [], Option, Some, None, subst, arith}
 use Rattle.tele_io.specs.Bytes.{Keeps, GivesBytes, Appends, AppendsPart}
 use Rattle.tele_io.proofs.AppendsLemmas.{Appends-nothing, AppendsPart-nothing}
 
@@ -14,8 +14,7 @@ keeps_keeps (Some bytes) middle now kept more = subst (λ m. Keeps m now) kept m
 pub keeps_gives : (before middle now : Option (List ℕ)) (n : ℕ) (buffer : List ℕ)
     → Keeps before middle → GivesBytes middle now n buffer → GivesBytes before now n buffer
 keeps_gives None middle now n buffer kept given = tt
-keeps_gives (Some bytes) middle now n buffer kept given =
-    subst (λ m. GivesBytes m now n buffer) kept given
+keeps_gives (Some bytes) middle now n buffer kept given = grind arith
 
 -- a write after a step that kept the bytes appends to what was there at the start
 pub keeps_appends : (before middle now : Option (List ℕ)) (bytes : List ℕ)
@@ -33,8 +32,7 @@ appends_keeps (Some start) (Some xs) now bytes taken kept = cc (taken, kept)
 -- or a part of it
 pub part_keeps : (before middle now : Option (List ℕ)) (bytes : List ℕ)
     → AppendsPart before middle bytes → Keeps middle now → AppendsPart before now bytes
-part_keeps before middle now bytes part kept =
-    (part.0, part.1, appends_keeps before middle now (take part.0 bytes) part.2 kept)
+part_keeps before middle now bytes part kept = grind (arith, appends_keeps)
 
 -- nothing was written
 pub appends_none : (before now : Option (List ℕ)) → Keeps before now → Appends before now []

@@ -72,5 +72,4 @@ status-asked version (task ∷ tasks) more = status-asked version tasks more
 pub asked-version : (old new : Version) (tasks : List Task) → (0 < length tasks → new ≡ old) → asked
     old tasks ≡ asked new tasks
 asked-version old new [] same = refl
-asked-version old new (task ∷ tasks) same = ap (λ v. asked v (task ∷ tasks))
-    (sym (same (omega arith)))
+asked-version old new (task ∷ tasks) same = grind arith

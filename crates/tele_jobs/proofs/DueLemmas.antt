@@ -1,5 +1,5 @@
 -- What a line adds to what is written, and what is due after it. Serves the steps of a run.
-use Rattle.std.proofs.Common.{◌≡◌, ℕ, List, ◌++◌, Bool, true, false, sym, ◌∙◌, ap, subst, append_assoc}
+use Rattle.std.proofs.Common.{◌≡◌, ℕ, List, ◌++◌, Bool, true, false, sym, ◌∙◌, ap, subst, append_assoc, arith}
 use Rattle.std.specs.Prelude.{Option, IfSome}
 use Rattle.tele_io.specs.Bytes.{Appends, AppendsPart}
 use Rattle.tele_io.proofs.AppendsLemmas.{Appends-append, AppendsPart-append, AppendsPart-longer}
@@ -70,11 +70,7 @@ pub ended_so : (was : Moment) (lines last : List Read) (bytes : List ℕ) (endin
     → was.lines ≡ lines → read_at was.place (lines_of bytes) ≡ last → ending ≡ exit_status
     (lines ++ last) → Appends before written (text_of was.m (lines ++ last))
     → Ends (due was bytes) before written ending
-ended_so was lines last bytes ending before written is reads status writes =
-    let all = due-last was lines last bytes is reads in record {
-      writes = subst (Appends before written) (sym (ap (text_of was.m) all)) writes;
-      status = status ∙ sym (ap exit_status all);
-    }
+ended_so was lines last bytes ending before written is reads status writes = grind (arith, due-last)
 
 -- a part of the text of the last lines is a part of what is due
 pub ended_part : (was : Moment) (lines last : List Read) (bytes : List ℕ)
@@ -82,8 +78,7 @@ pub ended_part : (was : Moment) (lines last : List Read) (bytes : List ℕ)
     → was.lines ≡ lines → read_at was.place (lines_of bytes) ≡ last
     → AppendsPart before written (text_of was.m (lines ++ last))
     → AppendsPart before written (due was bytes).text
-ended_part was lines last bytes before written is reads part = subst (AppendsPart before written)
-    (sym (ap (text_of was.m) (due-last was lines last bytes is reads))) part
+ended_part was lines last bytes before written is reads part = grind (arith, due-last)
 
 -- one step after another
 pub on_and_on : (first mid last : Moment) (bytes : List ℕ) (before written later : Option (List ℕ))
@@ -124,14 +119,7 @@ pub on_and_end : (first mid : Moment) (ending : ℕ) (bytes : List ℕ)
     → IfSome unread (λ bytes. Ends (due mid bytes) written later ending)
     → Ends (due first bytes) before later ending
 on_and_end first mid ending bytes before written later ended unread one two =
-    let last : Ends (due mid one.bytes) written later ending =
-    subst (λ u. IfSome u (λ bytes. Ends (due mid bytes) written later ending)) one.leaves two in
-    record {
-      writes = subst (Appends before later) one.text
-          (Appends-append before written later one.printed (due mid one.bytes).text one.writes
-          last.writes);
-      status = last.status ∙ one.status;
-    }
+    grind (arith, Appends-append)
 
 -- one step, and then a part of what is due
 pub on_and_part : (first mid : Moment) (bytes : List ℕ) (before written later : Option (List ℕ))

@@ -1,6 +1,6 @@
 -- Which rounds were run and which are still due, between two lines. Serves the steps of a run and
 -- the loop over them.
-use Rattle.std.proofs.Common.{◌≡◌, ℕ, List, [], ◌++◌, Bool, false, refl, sym, ◌∙◌, ap, subst, append_assoc}
+use Rattle.std.proofs.Common.{◌≡◌, ℕ, List, [], ◌++◌, Bool, false, sym, ◌∙◌, ap, subst, append_assoc, arith}
 use Rattle.std.specs.Prelude.{Option, Some, None, IfSome}
 use Rattle.tele_lines.specs.Lines.{lines_of}
 use Rattle.tele_lines.specs.Answer.{Read}
@@ -68,13 +68,7 @@ module _ (team : Team) (most : ℕ) (before : Option (List (List ℕ))) where
   all_rounds_due : (left : Option (List ℕ)) → IfSome left (λ bytes. HasRounds team most before
       before (fresh_round team most) bytes (unread_of [] false left) first_moment)
   all_rounds_due None = tt
-  all_rounds_due (Some bytes) = record {
-    ran = [];
-    has = record { ran = none_ran team most before; begins = refl; team_is = refl; most_is = refl };
-    rest = bytes;
-    leaves = refl;
-    due = refl;
-  }
+  all_rounds_due (Some bytes) = grind (arith, none_ran)
 
   -- before the first line all are due
   pub rounds_first : (left : Option (List ℕ)) (unended : List ℕ) (ended : Bool) (now : Moment)
@@ -82,14 +76,7 @@ module _ (team : Team) (most : ℕ) (before : Option (List (List ℕ))) where
       → IfSome left (λ bytes. HasRounds team most before before o bytes
       (unread_of unended ended left) now)
   rounds_first left unended ended now o no_bytes going first fresh =
-      let P = λ (unended : List ℕ) (ended : Bool) (now : Moment) (o : Open).
-      IfSome left (λ bytes. HasRounds team most before before o bytes
-      (unread_of unended ended left) now) in
-      subst (λ x. P unended ended now x) (sym fresh)
-      (subst (λ n. P unended ended n (fresh_round team most)) (sym first)
-      (subst (λ e. P unended e first_moment (fresh_round team most)) (sym going)
-      (subst (λ k. P k false first_moment (fresh_round team most)) (sym no_bytes)
-      (all_rounds_due left))))
+      grind (arith, first_moment, all_rounds_due)
 
   module _ (mid : Open) (kept : Option (List (List ℕ))) where
     -- one step after another
@@ -117,8 +104,7 @@ module _ (team : Team) (most : ℕ) (before : Option (List (List ℕ))) where
         → IfSome unread (λ rest. RunsRounds mid kept new later was rest left now)
         → IfSome all (λ bytes. HasRounds team most before later new bytes left now)
     rounds_on_if None new later was now unread left h step = tt
-    rounds_on_if (Some bytes) new later was now unread left h step =
-        rounds_on bytes new later was now unread left h step
+    rounds_on_if (Some bytes) new later was now unread left h step = grind (arith, rounds_on)
 
     -- the rounds at the end of a run
     rounds_end : (bytes : List ℕ) (new : Open) (later : Option (List (List ℕ))) (was : Moment)
@@ -126,17 +112,7 @@ module _ (team : Team) (most : ℕ) (before : Option (List (List ℕ))) where
         → fulls ≡ new.fulls → HasRounds team most before kept mid bytes unread was
         → IfSome unread (λ rest. RunsOn mid kept new later (rounds_due was rest))
         → RanRounds team most (input_rounds bytes) before later last fulls
-    rounds_end bytes new later was unread last fulls last_is fulls_is h step =
-        let next : RunsOn mid kept new later (rounds_due was h.rest) =
-        subst (λ u. IfSome u (λ rest. RunsOn mid kept new later (rounds_due was rest)))
-        h.leaves step in
-        let all = input_rounds bytes in
-        let has : FollowsRounds team most all before later new =
-        subst (λ rs. FollowsRounds team most rs before later new) (sym h.due)
-        (next team most h.ran before h.has) in
-        subst (λ n. RanRounds team most all before later last n) (sym fulls_is)
-        (subst (λ l. RanRounds team most all before later l new.fulls) (sym last_is)
-        has.ran)
+    rounds_end bytes new later was unread last fulls last_is fulls_is h step = grind arith
 
     -- the rounds at the end of a run, if the source reports its bytes
     pub rounds_end_if : (all : Option (List ℕ)) (new : Open) (later : Option (List (List ℕ)))

@@ -1,6 +1,6 @@
 -- Which job the command line asks for, and how each may end. Serves the reading of the command line,
 -- and the run.
-use Rattle.std.proofs.Common.{◌≡◌, ℕ, List, Bool, true, false, inl, inr, refl, sym, ◌∙◌, ap, subst, arith, lit<}
+use Rattle.std.proofs.Common.{◌≡◌, ℕ, List, Bool, true, false, inl, inr, refl, sym, ◌∙◌, ap, arith, lit<}
 use Rattle.std.specs.Prelude.{Some, None, if◌then◌else◌}
 use Rattle.tele_jobs.specs.CommandLine.{are_refused, options_in}
 use Rattle.tele_jobs.specs.declared.options.Options.{Options}
@@ -19,8 +19,7 @@ job_by refused options = if refused then Refuse else job_for options.generate op
 taken : (words : List (List ℕ)) (options : Options) → are_refused words ≡ false → options ≡
     options_in words → job_for options.generate options.seed ≡ job_of words
 unfolding job_of
-taken words options is same = ap (job_by false) same ∙ ap (λ b. job_by b (options_in words))
-    (sym is)
+taken words options is same = grind arith
 
 -- to make lines
 pub makes : (words : List (List ℕ)) (options : Options) (count : ℕ) → are_refused words ≡ false →
@@ -43,9 +42,7 @@ refuses words is = ap (λ b. job_by b (options_in words)) (sym is)
 -- what holds of the lines of a job holds whichever numbers the job is known by
 pub of_same_lines : (P : ℕ → ℕ → Type 0) (job : Job) (count seed many from : ℕ)
     → job ≡ Make count seed → job ≡ Make many from → P count seed → P many from
-of_same_lines P job count seed many from is same h = let counts : count ≡ many = cc (is, same) in
-    let seeds : seed ≡ from = cc (is, same) in
-    subst (λ n. P n from) counts (subst (P count) seeds h)
+of_same_lines P job count seed many from is same h = grind arith
 
 -- a job is either to read lines, or it isn't
 pub by_reading : {P : Type 0} (job : Job) → (job ≡ Read → P) → (¬ (job ≡ Read) → P) → P

@@ -1,6 +1,6 @@
 -- Made lines, answered in rounds. Serves the summing up of made lines.
-use Rattle.std.proofs.Common.{◌≡◌, ℕ, suc, ◌+◌, ◌-◌, ◌<◌, ◌≤◌, List, [], ◌∷◌, ◌++◌, refl, sym, ◌∙◌, ap, subst, append_assoc, zero-add, length, arith}
-use Rattle.std.specs.Prelude.{is_some, if◌then◌else◌}
+use Rattle.std.proofs.Common.{◌≡◌, ℕ, ◌+◌, ◌-◌, ◌<◌, ◌≤◌, List, [], ◌∷◌, ◌++◌, refl, sym, ◌∙◌, ap, subst, append_assoc, length, arith}
+use Rattle.std.specs.Prelude.{is_some}
 use Rattle.std.specs.List.{count_by}
 use Rattle.std.proofs.lemmas.List.{map-append, length-append, length-map}
 use Rattle.std.proofs.lemmas.List.Sums.{sum_by-append}
@@ -36,8 +36,7 @@ replies-append m (x ∷ xs) ys = ap (λ rs. reply_to m x ∷ rs) (replies-append
 
 values-append : (m : Map) (xs ys : List Command) → values_in m (xs ++ ys) ≡ values_in m xs +
     values_in (replay m xs) ys
-values-append m xs ys = ap (count_by is_some) (replies-append m xs ys)
-    ∙ sum_by-append (λ r. if is_some r then 1 else 0) (replies m xs) (replies (replay m xs) ys)
+values-append m xs ys = grind (arith, replies-append, sum_by-append)
 
 -- with the open lines and the lines left to be made, the values found and the map are the values
 -- and the map of all lines
@@ -49,13 +48,7 @@ pub record HasMadeLines (all : List Command) (m : Map) (tasks : List Task) (rest
 -- before the first line
 pub none_made : (all : List Command) (m : Map) (tasks : List Task) → m ≡ no_pairs → tasks ≡ [] →
     HasMadeLines all m tasks all 0
-none_made all m tasks is none = record {
-  values = zero-add (values_in m (commands_of tasks ++ all))
-      ∙ ap (λ n. values_in n (commands_of tasks ++ all)) is ∙ ap
-      (λ ts. values_in no_pairs (commands_of ts ++ all)) none;
-  following = ap (λ n. replay n (commands_of tasks ++ all)) is ∙ ap
-      (λ ts. replay no_pairs (commands_of ts ++ all)) none;
-}
+none_made all m tasks is none = grind arith
 
 -- one more line is open
 pub one_made : (all : List Command) (m : Map) (tasks now : List Task) (task : Task)
@@ -79,35 +72,23 @@ pub round_made : (all : List Command) (m n : Map) (tasks left : List Task) (rest
     → more ≡ values_in m (commands_of tasks) → n ≡ replay m (commands_of tasks) → left ≡ [] → later
     ≡ found + more → HasMadeLines all m tasks rest found → HasMadeLines all n left rest later
 round_made all m n tasks left rest found more later counts is none sum h =
-    let after = values_in (replay m (commands_of tasks)) rest in
-    let here : values_in n (commands_of left ++ rest) ≡ after =
-    ap (λ ts. values_in n (commands_of ts ++ rest)) none ∙ ap (λ k. values_in k rest) is in
-    let split = values-append m (commands_of tasks) rest in record {
-      values = omega (arith, here, split, counts, sum, h.values);
-      following = ap (λ ts. replay n (commands_of ts ++ rest)) none ∙ ap (λ k. replay k rest) is
-          ∙ sym (replay-append m (commands_of tasks) rest) ∙ h.following;
-    }
+    grind (arith, values-append, replay-append)
 
 -- all lines were made and answered
 pub all_found : (all : List Command) (m : Map) (tasks : List Task) (rest : List Command) (found : ℕ)
     → tasks ≡ [] → rest ≡ [] → HasMadeLines all m tasks rest found → found ≡ values_in no_pairs all
-all_found all m tasks rest found none last h =
-    let nothing : values_in m (commands_of tasks ++ rest) ≡ 0 =
-    ap (λ ts. values_in m (commands_of ts ++ rest)) none ∙ ap (values_in m) last in
-    omega (arith, nothing, h.values)
+all_found all m tasks rest found none last h = grind arith
 
 -- once all lines were made and answered, the map is the map after all lines
 pub all_after : (all : List Command) (m : Map) (tasks : List Task) (rest : List Command)
     (found : ℕ) → tasks ≡ [] → rest ≡ []
     → HasMadeLines all m tasks rest found → m ≡ replay no_pairs all
-all_after all m tasks rest found none last h =
-    sym (ap (λ ts. replay m (commands_of ts ++ rest)) none ∙ ap (replay m) last) ∙ h.following
+all_after all m tasks rest found none last h = grind arith
 
 -- the lines that are left begin with the next
 pub next_made : (count line number : ℕ) → line < count → made_commands (count - line) number
     ≡ made_command (next_number number) ∷ made_commands (count - (line + 1)) (next_number number)
-next_made count line number lt = let e : count - line ≡ suc (count - (line + 1)) = omega arith in
-    ap (λ n. made_commands n number) e
+next_made count line number lt = grind arith
 
 -- at a moment between two made lines: what was found and what is left are what all lines find, and
 -- no more was found than made
@@ -119,15 +100,7 @@ pub record Sums (count seed line number found : ℕ) (now : Open) : Type 0 where
 -- before the first line
 pub sums_first : (count seed number : ℕ) (team : Team) (words : ℕ) (now : Open)
     → number ≡ seed → now ≡ fresh_round team words → Sums count seed 0 number 0 now
-sums_first count seed number team words now is empty =
-    subst (λ n. Sums count seed 0 n 0 now) (sym is)
-    (subst (λ (o : Open). Sums count seed 0 seed 0 o) (sym empty)
-    (record {
-      made = let e : count ≡ count - 0 = omega arith in
-          subst (λ n. HasMadeLines (made_commands count seed) no_pairs [] (made_commands n seed) 0) e
-          (none_made (made_commands count seed) no_pairs [] refl refl);
-      few = omega arith;
-    }))
+sums_first count seed number team words now is empty = grind (arith, none_made)
 
 -- one more line is open
 pub sums_asked : (count seed line number next found : ℕ) (before now : Open) (task : Task) → line <
@@ -165,14 +138,7 @@ pub sums_last : (count seed line number found : ℕ) (now : Open) → count ≤ 
     Sums count seed line number found now
     → (found ≡ values_in no_pairs (made_commands count seed)) ×
     (map_in now ≡ replay no_pairs (made_commands count seed))
-sums_last count seed line number found now le none h =
-    let nothing : made_commands (count - line) number ≡ [] = let e : count - line ≡ 0 = omega arith
-    in ap (λ n. made_commands n number) e in (
-      all_found (made_commands count seed) (map_in now) now.tasks
-          (made_commands (count - line) number) found none nothing h.made,
-      all_after (made_commands count seed) (map_in now) now.tasks
-          (made_commands (count - line) number) found none nothing h.made,
-    )
+sums_last count seed line number found now le none h = grind (arith, all_found, all_after)
 
 -- the summary, by the map after all lines and by how many values were found
 pub summary_is : (count seed keys found sum : ℕ) (m : Map) → m ≡ replay no_pairs
@@ -181,22 +147,7 @@ pub summary_is : (count seed keys found sum : ℕ) (m : Map) → m ≡ replay no
     value_sum (pairs_of m)
     → ◌≡◌ {A = Summary} (record { made = count; keys = keys; found = found; sum = sum })
     (summary_of count seed)
-summary_is count seed keys found sum m is keys_is found_is sum_is =
-    ap (λ n. record { made = count; keys = n; found = found; sum = sum })
-    (keys_is ∙ ap (λ n. length (pairs_of n)) is)
-    ∙ ap (λ n. record {
-      made = count;
-      keys = length (pairs_of (replay no_pairs (made_commands count seed)));
-      found = n;
-      sum = sum;
-    })
-    found_is
-    ∙ ap (λ n. record {
-      made = count;
-      keys = length (pairs_of (replay no_pairs (made_commands count seed)));
-      found = values_in no_pairs (made_commands count seed);
-      sum = n;
-    }) (sum_is ∙ ap (λ n. value_sum (pairs_of n)) is)
+summary_is count seed keys found sum m is keys_is found_is sum_is = grind arith
 
 -- ---- the pairs after a round, as the last table has them. Serves the closing of rounds.
 
@@ -221,7 +172,4 @@ module _ {workers : ℕ} {pairs : List Pair} {tasks : List Task} {table : List �
   -- at most one pair came per task
   pub after_few : (first : List Pair) → pairs ≡ first → first ≡ pairs_of (map_of first)
       → length following ≤ length first + length tasks
-  after_few first same of_map = let few = adds_few_pairs (map_of pairs) (commands_of tasks) in
-      let long = length-map tasks (λ t. t.command) in let now = ap length after_is in
-      let same_pairs = ap (λ ps. length (pairs_of (map_of ps))) same in let back = ap length of_map in
-      omega arith
+  after_few first same of_map = grind (arith, adds_few_pairs, length-map, after_is)

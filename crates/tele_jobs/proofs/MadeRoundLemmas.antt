@@ -1,5 +1,5 @@
 -- Which rounds of made lines were run, and which are still due. Serves the summing up of made lines.
-use Rattle.std.proofs.Common.{◌≡◌, ℕ, ◌+◌, ◌-◌, ◌<◌, ◌≤◌, List, [], ◌∷◌, ◌++◌, refl, sym, ◌∙◌, ap, subst, append_assoc, append-nil, length, arith, Bool, true, false, ⊎_elim}
+use Rattle.std.proofs.Common.{◌≡◌, ℕ, ◌+◌, ◌-◌, ◌<◌, ◌≤◌, List, [], ◌∷◌, ◌++◌, sym, ◌∙◌, ap, subst, append_assoc, length, arith, Bool, true, false}
 use Rattle.std.proofs.lemmas.Bool.{cases_lt}
 use Rattle.std.proofs.lemmas.List.{length-append}
 use Rattle.std.specs.Prelude.{Option}
@@ -50,11 +50,7 @@ asked_next count line number old new task lt at command more =
 pub still_few : (old mid : Open) (task : Task) (full : Bool)
     → mid ≡ with_task old task → length old.tasks < round_limit
     → (length mid.tasks ≡ round_limit → full ≡ true) → full ≡ false → length mid.tasks < round_limit
-still_few old mid task full asks few fills isnt = let more = ap (λ (o : Open). o.tasks) asks in
-    ⊎_elim (λ less. less)
-    (λ at. let here : length mid.tasks ≡ round_limit =
-    omega (arith, few, at, ap length more, length-append old.tasks (task ∷ [])) in
-    let yes = fills here in absurd (cc (yes, isnt))) (cases_lt (length mid.tasks) round_limit)
+still_few old mid task full asks few fills isnt = grind (arith, length-append, cases_lt)
 
 module _ (team : Team) (most count seed : ℕ) (before : Option (List (List ℕ))) where
   -- the rounds of a run over made lines, at a line
@@ -64,21 +60,7 @@ module _ (team : Team) (most count seed : ℕ) (before : Option (List (List ℕ)
   -- before the first line
   pub made_first : (number : ℕ) (now : Open) → number ≡ seed → now ≡ fresh_round team most
       → Runs 0 number before now
-  made_first number now is fresh = subst (λ n. Runs 0 n before now) (sym is)
-      (subst (λ o. Runs 0 seed before o) (sym fresh)
-      (record {
-        ran = [];
-        has = record {
-          ran = none_ran team most before;
-          begins = refl;
-          team_is = refl;
-          most_is = refl;
-        };
-        due = let e : count ≡ count - 0 = omega arith in
-            ap (λ n. task_rounds (numbered_lines 1 (made_commands n seed))) e;
-        few = omega arith;
-        lines = open_first team most (fresh_round team most) refl;
-      }))
+  made_first number now is fresh = grind (arith, none_ran, open_first)
 
   module _ (line number next : ℕ) (kept : Option (List (List ℕ))) (old mid : Open) (task : Task)
       (lt : line < count) (at : task.line ≡ line + 1)
@@ -94,21 +76,11 @@ module _ (team : Team) (most count seed : ℕ) (before : Option (List (List ℕ)
 
     due_then : made_rounds count seed
         ≡ h.ran ++ task_rounds (asked One mid.tasks ++ rest_lines count (line + 1) next)
-    due_then = h.due ∙ ap (λ ls. h.ran ++ task_rounds ls)
-        (asked_next count line number old.tasks mid.tasks task lt at command
-        (ap (λ (o : Open). o.tasks) asks)
-        ∙ ap (λ n. asked One mid.tasks ++ rest_lines count (line + 1) n) (sym is))
+    due_then = grind (arith, asked_next)
 
     -- one more line is open
     pub made_asked : length mid.tasks < round_limit → Runs (line + 1) next kept mid
-    made_asked few = record {
-      ran = h.ran;
-      has = subst (λ rs. FollowsRounds team most rs before kept mid) (append-nil h.ran)
-          (stays team most h.ran before h.has);
-      due = due_then;
-      few = few;
-      lines = lines_more;
-    }
+    made_asked few = grind (arith, stays, due_then, lines_more)
 
     -- if it fills the round, the round is run
     pub made_closed : (new : Open) (later : Option (List (List ℕ))) → length mid.tasks ≡ round_limit

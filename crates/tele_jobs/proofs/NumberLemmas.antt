@@ -10,8 +10,7 @@ use Rattle.clap.specs.Facts.{args_of, groups_of}
 use Rattle.clap.specs.Built.{IsParsedFrom, IsPlain, IsPlainArg, IsAuto}
 use Rattle.clap.specs.Matches.{found_of, first_value}
 use Rattle.clap.specs.Values.{IsUnsignedIn}
-use Rattle.clap.specs.Simple.{has_plain_fields}
-use Rattle.clap.specs.Walk.{is_empty, is_free_arg, is_simple_arg}
+use Rattle.clap.specs.Walk.{is_empty}
 use Rattle.clap.specs.Words.{App, Rule, app_of, rule_of}
 use Rattle.clap.specs.declared.builder.arg.Arg.{Arg}
 use Rattle.clap.specs.declared.builder.command.Command.{Command}
@@ -34,10 +33,7 @@ below_five P zero_too one two three four (suc (suc (suc (suc (suc j))))) lt = ab
 -- two texts that differ are no equal ids
 differ : (x y one two : List ℕ) → x ≡ one → y ≡ two → bytes_eq one two ≡ false → bytes_eq x y ≡ true
     → ⊥
-differ x y one two is is_too unlike same =
-    let there : bytes_eq one two ≡ true =
-    subst (λ b. bytes_eq one b ≡ true) is_too (subst (λ a. bytes_eq a y ≡ true) is same) in
-    absurd (cc (unlike, there))
+differ x y one two is is_too unlike same = grind arith
 
 -- two texts that differ aren't equal
 unlike : (x y : List ℕ) → bytes_eq x y ≡ false → x ≡ y → ⊥
@@ -45,22 +41,12 @@ unlike x y other same = let there = (bytes_eq-Decides x y).1 same in absurd (cc 
 
 none_of : {X : Type 0} (xs : List X) → is_empty xs ≡ true → xs ≡ []
 none_of [] h = refl
-none_of (x ∷ xs) h = let bad : length (x ∷ xs) ≡ 0 = eqb-true (length (x ∷ xs)) 0 h in absurd
-    (omega (arith, bad))
+none_of (x ∷ xs) h = grind (arith, eqb-true)
 
 -- an option with one number excludes nothing and belongs to no group
 plain_option : (a : Arg) (name : List ℕ) (low high : ℕ) → rule_of a ≡ number_option name low high →
     IsPlainArg a
-plain_option a name low high is =
-    let free : is_free_arg a ≡ true = ap (λ (r : Rule). r.is_free) is in
-    let simple : is_simple_arg a ≡ true = ap (λ (r : Rule). r.is_simple) is in
-    let free_all = both_true _ _ free in
-    let simple_all = both_true _ _ simple in (
-      not-true a.exclusive free_all.0,
-      none_of a.conflicts.items (both_true _ _ free_all.1).0,
-      none_of a.overrides.items simple_all.0,
-      none_of a.groups.items (both_true _ _ (both_true _ _ simple_all.1).1).0,
-    )
+plain_option a name low high is = grind (arith, both_true, not-true, none_of)
 
 -- the five options of a command
 record HasOptions (old : Command) : Type 0 where
@@ -103,10 +89,7 @@ module _ (old : Command) (is : app_of old ≡ tele) (m : ArgMatches) (p : IsPars
   options = has_options old (args_of old) refl (ap (λ (a : App). a.top.rules) is)
 
   plain_fields : (groups_of old ≡ []) × ((out-Command old).has_globals ≡ false)
-  plain_fields =
-      let all : has_plain_fields (out-Command old) ≡ true = ap (λ (a : App). a.top.is_plain) is in
-      let first = both_true _ _ all in let second = both_true _ _ first.1 in
-      let third = both_true _ _ second.1 in (none_of (groups_of old) first.0, not-true _ third.0)
+  plain_fields = grind (arith, both_true, none_of, not-true)
 
   plain : IsPlain old
   plain = (
@@ -162,62 +145,27 @@ module _ (old : Command) (is : app_of old ≡ tele) (m : ArgMatches) (p : IsPars
   -- no other has the name of this one
   workers_alone : IsAlone all 0 options.a
   workers_alone j x lt =
-      below_five (λ j. bytes_eq (slice_index_or all j x).id.now
-      (slice_index_or all 0 options.a).id.now ≡ true → j ≡ 0)
-      (λ _. refl)
-      (λ same. absurd (differ _ _ (codes "words") (codes "workers") words_id workers_id refl same))
-      (λ same. absurd (differ _ _ (codes "generate") (codes "workers") generate_id workers_id refl same))
-      (λ same. absurd (differ _ _ (codes "seed") (codes "workers") seed_id workers_id refl same))
-      (λ same. absurd (differ _ _ (codes "steal") (codes "workers") steal_id workers_id refl same))
-      j (omega (arith, lt))
+      grind (arith, below_five, differ, words_id, workers_id, generate_id, seed_id, steal_id)
 
   -- no other has the name of this one
   words_alone : IsAlone all 1 options.b
   words_alone j x lt =
-      below_five (λ j. bytes_eq (slice_index_or all j x).id.now
-      (slice_index_or all 1 options.b).id.now ≡ true → j ≡ 1)
-      (λ same. absurd (differ _ _ (codes "workers") (codes "words") workers_id words_id refl same))
-      (λ _. refl)
-      (λ same. absurd (differ _ _ (codes "generate") (codes "words") generate_id words_id refl same))
-      (λ same. absurd (differ _ _ (codes "seed") (codes "words") seed_id words_id refl same))
-      (λ same. absurd (differ _ _ (codes "steal") (codes "words") steal_id words_id refl same))
-      j (omega (arith, lt))
+      grind (arith, below_five, differ, workers_id, words_id, generate_id, seed_id, steal_id)
 
   -- no other has the name of this one
   generate_alone : IsAlone all 2 options.c
   generate_alone j x lt =
-      below_five (λ j. bytes_eq (slice_index_or all j x).id.now
-      (slice_index_or all 2 options.c).id.now ≡ true → j ≡ 2)
-      (λ same. absurd (differ _ _ (codes "workers") (codes "generate") workers_id generate_id refl same))
-      (λ same. absurd (differ _ _ (codes "words") (codes "generate") words_id generate_id refl same))
-      (λ _. refl)
-      (λ same. absurd (differ _ _ (codes "seed") (codes "generate") seed_id generate_id refl same))
-      (λ same. absurd (differ _ _ (codes "steal") (codes "generate") steal_id generate_id refl same))
-      j (omega (arith, lt))
+      grind (arith, below_five, differ, workers_id, generate_id, words_id, seed_id, steal_id)
 
   -- no other has the name of this one
   seed_alone : IsAlone all 3 options.d
   seed_alone j x lt =
-      below_five (λ j. bytes_eq (slice_index_or all j x).id.now
-      (slice_index_or all 3 options.d).id.now ≡ true → j ≡ 3)
-      (λ same. absurd (differ _ _ (codes "workers") (codes "seed") workers_id seed_id refl same))
-      (λ same. absurd (differ _ _ (codes "words") (codes "seed") words_id seed_id refl same))
-      (λ same. absurd (differ _ _ (codes "generate") (codes "seed") generate_id seed_id refl same))
-      (λ _. refl)
-      (λ same. absurd (differ _ _ (codes "steal") (codes "seed") steal_id seed_id refl same))
-      j (omega (arith, lt))
+      grind (arith, below_five, differ, workers_id, seed_id, words_id, generate_id, steal_id)
 
   -- no other has the name of this one
   steal_alone : IsAlone all 4 options.e
   steal_alone j x lt =
-      below_five (λ j. bytes_eq (slice_index_or all j x).id.now
-      (slice_index_or all 4 options.e).id.now ≡ true → j ≡ 4)
-      (λ same. absurd (differ _ _ (codes "workers") (codes "steal") workers_id steal_id refl same))
-      (λ same. absurd (differ _ _ (codes "words") (codes "steal") words_id steal_id refl same))
-      (λ same. absurd (differ _ _ (codes "generate") (codes "steal") generate_id steal_id refl same))
-      (λ same. absurd (differ _ _ (codes "seed") (codes "steal") seed_id steal_id refl same))
-      (λ _. refl)
-      j (omega (arith, lt))
+      grind (arith, below_five, differ, workers_id, steal_id, words_id, generate_id, seed_id)
 
   -- all five
   pub are_numbers : AreNumbers (found_of m)

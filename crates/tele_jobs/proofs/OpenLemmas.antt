@@ -46,18 +46,9 @@ open_more number old new task is asks h = let more = ap (λ (o : Open). o.tasks)
 pub open_closed : (number : ℕ) (old new : Open) → new.tasks ≡ []
     → length new.pairs ≤ length old.pairs + length old.tasks → IsOpenBefore number old
     → IsOpenBefore number new
-open_closed number old new none few h = record {
-  rises = subst (λ ts. IsStrictlyIncreasing (task_lines ts)) (sym none)
-      (λ k short. absurd (omega arith));
-  below = subst (λ ts. Each (λ t. t.line < number) ts) (sym none) tt;
-  few = omega (arith, h.few, few, ap length none);
-}
+open_closed number old new none few h = grind arith
 
 -- the fresh round is open before the first line
 pub open_first : (team : Team) (words : ℕ) (o : Open) → o ≡ fresh_round team words
     → IsOpenBefore 1 o
-open_first team words o is = subst (IsOpenBefore 1) (sym is) (record {
-  rises = λ k short. absurd (omega arith);
-  below = tt;
-  few = omega arith;
-})
+open_first team words o is = grind arith

@@ -80,23 +80,14 @@ pub closes_round : (old new : Open) (pairs : List Pair) (tasks : List Task)
     (found : List Answer) → pairs ≡ old.pairs → tasks ≡ old.tasks
     → ArePlainAnswers (map_of pairs) tasks found → new.answers ≡ found
     → map_in new ≡ replay (map_of pairs) (commands_of tasks) → new.tasks ≡ [] → ClosesRound old new
-closes_round old new pairs tasks found same_pairs same_tasks plain is following none = record {
-  answered = subst (ArePlainAnswers (map_in old) old.tasks) (sym is)
-      (subst (λ ts. ArePlainAnswers (map_in old) ts found) same_tasks
-      (subst (λ ps. ArePlainAnswers (map_of ps) tasks found) same_pairs plain));
-  following = following ∙ ap (λ ps. replay (map_of ps) (commands_of tasks)) same_pairs
-      ∙ ap (λ ts. replay (map_in old) (commands_of ts)) same_tasks;
-  none = none;
-}
+closes_round old new pairs tasks found same_pairs same_tasks plain is following none = grind arith
 
 -- at most as many keys came as there were tasks, whichever name the round goes by
 pub few_from : (old same : Open) (tasks : List Task) (now following : List Pair)
     → old ≡ same → tasks ≡ old.tasks → now ≡ following
     → length following ≤ length old.pairs + length tasks
     → length now ≤ length same.pairs + length same.tasks
-few_from old same tasks now following is same_tasks is_following few =
-    subst (λ (o : Open). length now ≤ length o.pairs + length o.tasks) is
-    (omega (arith, ap length same_tasks, ap length is_following, few))
+few_from old same tasks now following is same_tasks is_following few = grind arith
 
 -- the rounds that were run, whichever name the round goes by
 pub runs_from : (old same new : Open) (kept later : Option (List (List ℕ))) → old ≡ same
@@ -175,8 +166,7 @@ module _ (old new : Open) (kept middle later : Option (List (List ℕ)))
     (following : map_in new ≡ replay (map_of pairs) (commands_of tasks)) where
   -- the map after them
   pub map_after_round : map_in new ≡ replay (map_in old) (commands_of old.tasks)
-  map_after_round = following ∙ ap (λ ps. replay (map_of ps) (commands_of tasks)) same_pairs
-      ∙ ap (λ ts. replay (map_in old) (commands_of ts)) same_tasks
+  map_after_round = grind arith
 
   -- the tables of the rounds, with the tables of this one
   pub runs_round : 0 < length old.tasks → new.last ≡ Some closed → new.fulls ≡ length fulls

@@ -64,10 +64,8 @@ pub reads_on_if : (all before written : Option (List ℕ)) (round : Open)
     → IfSome left (λ bytes. TakesAsNeeded (place_of lines) lines.buffer lines.ended bytes now)
     → IfSome all (λ bytes. ReadsSparingly bytes now)
 reads_on_if None before written round lines left now one a needed = tt
-reads_on_if (Some bytes) before written round lines None now one a needed =
-    let e = a.leaves in absurd (cc e)
-reads_on_if (Some bytes) before written round lines (Some rest) now one a (inl none) =
-    subst (ReadsSparingly bytes) (sym none) a
+reads_on_if (Some bytes) before written round lines None now one a needed = grind arith
+reads_on_if (Some bytes) before written round lines (Some rest) now one a (inl none) = grind arith
 reads_on_if (Some bytes) before written round lines (Some rest) now one a (inr some) =
     reads_more bytes before written round lines rest now lines.ended one a some.0 some.1
 

@@ -1,6 +1,6 @@
 -- Where lines are cut into rounds, and which rounds are whole. Serves the answering of rounds.
 use Rattle.std.proofs.Common.{◌≡◌, ℕ, ◌+◌, ◌<◌, List, [], ◌∷◌, ◌++◌, Bool, true, false, refl, ◌∙◌, ap, length, arith, eqb, sym, append_assoc, append-nil}
-use Rattle.std.specs.Prelude.{if◌then◌else◌, ◌||◌, map}
+use Rattle.std.specs.Prelude.{if◌then◌else◌}
 use Rattle.std.specs.List.{filter, flat_map, onto_first, list_any, count_by}
 use Rattle.std.proofs.lemmas.Bool.{eq-eqb, ne_eqb}
 use Rattle.std.proofs.lemmas.List.Folds.{list_any-append}
@@ -29,8 +29,7 @@ pub cut_full : (version : Version) (n : ℕ) (task : Task) (tasks : List Task) (
     → n + length (task ∷ tasks) ≡ round_limit
     → rounds_from n (asked version (task ∷ tasks) ++ more) ≡ asked version (task ∷ tasks) ∷ rounds
     more
-cut_full version n task [] more full = ap (after_line (line_of version task) n more)
-    (eq-eqb (n + 1) round_limit (omega (arith, full)))
+cut_full version n task [] more full = grind (arith, eq-eqb)
 cut_full version n task (next ∷ tasks) more full =
     ap (after_line (line_of version task) n (asked version (next ∷ tasks) ++ more))
     (ne_eqb (n + 1) round_limit (λ e. omega (arith, full, e)))
@@ -53,8 +52,7 @@ cut_interval version n number first last (task ∷ tasks) more few =
 -- fewer point lines are one round, if they are any
 pub cut_open : (version : Version) (n : ℕ) (task : Task) (tasks : List Task) → n + length (task ∷ tasks)
     < round_limit → rounds_from n (asked version (task ∷ tasks)) ≡ asked version (task ∷ tasks) ∷ []
-cut_open version n task [] few = ap (after_line (line_of version task) n [])
-    (ne_eqb (n + 1) round_limit (λ e. omega (arith, few, e)))
+cut_open version n task [] few = grind (arith, ne_eqb)
 cut_open version n task (next ∷ tasks) few =
     ap (after_line (line_of version task) n (asked version (next ∷ tasks)))
     (ne_eqb (n + 1) round_limit (λ e. omega (arith, few, e)))
@@ -89,26 +87,17 @@ no_interval version (task ∷ tasks) = no_interval version tasks
 -- a round of point lines is whole if it has as many as a round may have
 whole_by_count : (version : Version) (tasks : List Task) → is_whole (asked version tasks) ≡ eqb
     (length tasks) round_limit
-whole_by_count version tasks =
-    ap (λ b. b || eqb (count_by is_point (asked version tasks)) round_limit)
-    (no_interval version tasks) ∙ ap (λ n. eqb n round_limit) (all_points version tasks)
+whole_by_count version tasks = grind (arith, no_interval, all_points)
 
 -- a round with an interval line is whole
 whole_by_interval : (version : Version) (number first last : ℕ) (tasks : List Task)
     → is_whole (asked version tasks ++ Good number version (Interval first last) ∷ []) ≡ true
-whole_by_interval version number first last tasks =
-    let round = asked version tasks ++ Good number version (Interval first last) ∷ [] in
-    ap (λ b. b || eqb (count_by is_point round) round_limit)
-    (list_any-append is_interval (asked version tasks)
-    (Good number version (Interval first last) ∷ [])
-    ∙ or-true (list_any is_interval (asked version tasks)))
+whole_by_interval version number first last tasks = grind (arith, list_any-append, or-true)
 
 -- the lines of a first whole round and of the rounds after it
 whole_first : (lines round more : List Read) → rounds lines ≡ round ∷ rounds more → is_whole round ≡
     true → in_whole_rounds lines ≡ round ++ in_whole_rounds more
-whole_first lines round more cut whole = ap (λ rs. flat_map (λ r. r) (filter is_whole rs)) cut
-    ∙ ap (λ b. flat_map (λ r. r) (if b then round ∷ filter is_whole (rounds more) else filter
-    is_whole (rounds more))) whole
+whole_first lines round more cut whole = grind arith
 
 -- a full round precedes the rounds of the lines after it
 pub in_whole-full : (version : Version) (tasks : List Task) (more : List Read) → length tasks ≡
@@ -127,10 +116,7 @@ pub in_whole-interval : (version : Version) (number first last : ℕ) (tasks : L
     ≡ (asked version tasks ++ Good number version (Interval first last) ∷ []) ++ in_whole_rounds
     more
 in_whole-interval version number first last tasks more few =
-    whole_first (asked version tasks ++ Good number version (Interval first last) ∷ more)
-    (asked version tasks ++ Good number version (Interval first last) ∷ []) more
-    (cut_interval version 0 number first last tasks more (omega (arith, few)))
-    (whole_by_interval version number first last tasks)
+    grind (arith, whole_first, cut_interval, whole_by_interval)
 
 -- no line of an open round is in a whole one
 pub in_whole-open : (version : Version) (tasks : List Task) → length tasks < round_limit
@@ -167,9 +153,7 @@ first_round (task ∷ tasks) others = refl
 task_rounds-first : (tasks : List Task) (lines round more : List Read)
     → rounds lines ≡ round ∷ rounds more → tasks_in round ≡ tasks
     → task_rounds lines ≡ round_for tasks ++ task_rounds more
-task_rounds-first tasks lines round more cut is = ap (λ rs. filter has_some (map tasks_in rs)) cut
-    ∙ ap (λ ts. filter has_some (ts ∷ map tasks_in (rounds more))) is
-    ∙ first_round tasks (map tasks_in (rounds more))
+task_rounds-first tasks lines round more cut is = grind (arith, first_round)
 
 -- as many point lines as a round has at most are one round
 pub task_rounds-full : (version : Version) (tasks : List Task) (more : List Read)
@@ -212,7 +196,4 @@ pub task_rounds-bad : (version : Version) (line : ℕ) (cause : Cause) (tasks : 
     → length tasks < round_limit
     → task_rounds (asked version tasks ++ Bad line cause ∷ []) ≡ round_for tasks
 task_rounds-bad version line cause tasks few =
-    task_rounds-first tasks (asked version tasks ++ Bad line cause ∷ [])
-    (asked version tasks ++ Bad line cause ∷ []) []
-    (cut_bad version 0 line cause tasks (omega (arith, few)))
-    (tasks_in-alone version tasks (Bad line cause ∷ []) refl) ∙ append-nil (round_for tasks)
+    grind (arith, task_rounds-first, cut_bad, tasks_in-alone)

@@ -1,5 +1,5 @@
 -- What the parts of a step say of the open round, joined. Serves the steps of a run.
-use Rattle.std.proofs.Common.{◌≡◌, ℕ, ◌<◌, List, [], ◌∷◌, ◌++◌, refl, sym, ◌∙◌, ap, subst, append_assoc, length, append-nil}
+use Rattle.std.proofs.Common.{◌≡◌, ℕ, ◌<◌, List, [], ◌∷◌, ◌++◌, sym, ◌∙◌, ap, subst, append_assoc, length, append-nil, arith}
 use Rattle.std.specs.Prelude.{Option, IsSome}
 use Rattle.std.proofs.lemmas.List.{map-append}
 use Rattle.ist_core.specs.TreeTerms.{Map, replay, listed}
@@ -20,7 +20,6 @@ use Rattle.ist_core.specs.declared.commands.Command.{Command}
 use Rattle.ist_core.specs.declared.pairs.Pair.{Pair}
 use Rattle.tele_lines.specs.declared.items.Item.{Item}
 use Rattle.tele_lines.specs.declared.reader.Lines.{Lines}
-use Rattle.tele_lines.specs.Readings.{version_in}
 use Rattle.tele_lines.specs.Progress.{mode_of, version_of}
 
 -- ---- what taking a line into the open round does to what is due. Serves the steps of a run.
@@ -28,38 +27,20 @@ use Rattle.tele_lines.specs.Progress.{mode_of, version_of}
 -- lines that stay open
 pub stay_open : (m : Map) (lines : List Read) (before : Option (List ℕ)) → Takes m lines before
     before m lines
-stay_open m lines before = record {
-  printed = [];
-  writes = Appends-nothing before;
-  text = λ more. refl;
-  status = λ more. refl;
-  whole = λ more. refl;
-}
+stay_open m lines before = grind (arith, Appends-nothing)
 
 -- lines that stay open, when what was written stays taken
 pub stay_kept : (m : Map) (lines : List Read) (before now : Option (List ℕ)) → Keeps before now
     → Takes m lines before now m lines
-stay_kept m lines before now kept = record {
-  printed = [];
-  writes = appends_none before now kept;
-  text = λ more. refl;
-  status = λ more. refl;
-  whole = λ more. refl;
-}
+stay_kept m lines before now kept = grind (arith, appends_none)
 
 -- a full round was answered
 pub answered_full : (version : Version) (m : Map) (tasks : List Task)
     (before written : Option (List ℕ))
     → length tasks ≡ round_limit → Appends before written (text_of m (asked version tasks))
     → Takes m (asked version tasks) before written (replay m (commands_of tasks)) []
-answered_full version m tasks before written full writes = record {
-  printed = text_of m (asked version tasks);
-  writes = writes;
-  text = text-asked version m tasks;
-  status = status-asked version tasks;
-  whole = λ more. ap (text_of m) (in_whole-full version tasks more full) ∙ text-asked version m
-      tasks (in_whole_rounds more);
-}
+answered_full version m tasks before written full writes =
+    grind (arith, text-asked, status-asked, in_whole-full)
 
 -- a round was answered, and the interval line that ends it
 pub answered_interval : (version : Version) (number first last : ℕ) (m : Map) (tasks : List Task)
@@ -93,16 +74,13 @@ answered_interval version number first last m tasks before mid written few write
 -- one more task is one more line
 pub asked-more : (version : Version) (old new : List Task) (task : Task) → new ≡ old ++ task ∷ []
     → asked version new ≡ asked version old ++ Good task.line version (Point task.command) ∷ []
-asked-more version old new task is =
-    ap (asked version) is ∙ map-append (λ t. Good t.line version (Point t.command)) old (task ∷ [])
+asked-more version old new task is = grind (arith, map-append)
 
 -- what was taken in, as other lines that are the same
 pub takes_same : (m n : Map) (lines same : List Read) (before written : Option (List ℕ))
     (next others : List Read) → lines ≡ same → next ≡ others
     → Takes m lines before written n next → Takes m same before written n others
-takes_same m n lines same before written next others is is_too h =
-    subst (λ ls. Takes m ls before written n others) is
-    (subst (λ ls. Takes m lines before written n ls) is_too h)
+takes_same m n lines same before written next others is is_too h = grind arith
 
 module _ (version : Version) (m : Map) (tasks : List Task) where
   -- a part of the text of a round is a part of its text and more
@@ -119,10 +97,7 @@ module _ (version : Version) (m : Map) (tasks : List Task) where
       (text_of m (asked version tasks))
       → Appends mid written (text_of (replay m (commands_of tasks)) more)
       → Appends before written (text_of m (asked version tasks ++ more))
-  text_then more before mid written first second =
-      subst (Appends before written) (sym (text-asked version m tasks more))
-      (Appends-append before mid written (text_of m (asked version tasks))
-      (text_of (replay m (commands_of tasks)) more) first second)
+  text_then more before mid written first second = grind (arith, text-asked, Appends-append)
 
   -- the text of a round, and then a part of what follows
   pub part_then : (more : List Read) (before mid written : Option (List ℕ)) → Appends before mid
@@ -146,11 +121,7 @@ module _ (version : Version) (m : Map) (tasks : List Task) where
     pub taken_open : (n : Map) (before : Option (List ℕ)) → n ≡ m
         → Takes m (asked version tasks ++ Good number version item ∷ []) before before n
         (asked version now)
-    taken_open n before same =
-        subst (λ k. Takes m (asked version tasks ++ Good number version item ∷ []) before before k
-        (asked version now)) (sym same)
-        (subst (λ ls. Takes m ls before before m (asked version now)) taken_lines
-        (stay_open m (asked version now) before))
+    taken_open n before same = grind (arith, taken_lines, stay_open)
 
     -- if the line fills the round, the round is answered
     pub taken_full : (n later : Map) (left : List Task) (before written : Option (List ℕ)) → n ≡ m →
@@ -160,24 +131,14 @@ module _ (version : Version) (m : Map) (tasks : List Task) where
         → Takes m (asked version tasks ++ Good number version item ∷ []) before written later
         (asked version left)
     taken_full n later left before written same full writes following none =
-        subst (λ ls. Takes m (asked version tasks ++ Good number version item ∷ []) before written
-        later (asked version ls)) (sym none)
-        (subst (λ k. Takes m (asked version tasks ++ Good number version item ∷ []) before written k
-        []) (sym following)
-        (subst (λ k. Takes k (asked version tasks ++ Good number version item ∷ []) before written
-        (replay n (commands_of now)) []) same
-        (subst (λ ls. Takes n ls before written (replay n (commands_of now)) []) taken_lines
-        (answered_full version n now before written full writes))))
+        grind (arith, taken_lines, answered_full)
 
     -- if printing fails, a part of the round's text was written
     pub taken_part : (n : Map) (before written : Option (List ℕ)) → n ≡ m → AppendsPart before
         written (text_of n (asked version now))
         → AppendsPart before written (text_of m
         (asked version tasks ++ Good number version item ∷ []))
-    taken_part n before written same part =
-        subst (λ k. AppendsPart before written
-        (text_of k (asked version tasks ++ Good number version item ∷ []))) same
-        (subst (λ ls. AppendsPart before written (text_of n ls)) taken_lines part)
+    taken_part n before written same part = grind (arith, taken_lines)
 
   module _ (number first last : ℕ) (item : Item) (is : item ≡ Interval first last)
       (listing : List Pair) (n : Map)
@@ -194,15 +155,7 @@ module _ (version : Version) (m : Map) (tasks : List Task) where
         → Takes m (asked version tasks ++ Good number version item ∷ []) before written n
         (asked version left)
     taken_interval left before mid written few none writes more_writes =
-        subst (λ ls. Takes m (asked version tasks ++ Good number version item ∷ []) before written n
-        (asked version ls)) (sym none)
-        (subst (λ k. Takes m (asked version tasks ++ Good number version item ∷ []) before written k
-        []) (sym following)
-        (subst (λ i. Takes m (asked version tasks ++ Good number version i ∷ []) before written
-        (replay m (commands_of tasks)) []) (sym is)
-        (answered_interval version number first last m tasks before mid written few writes
-        (subst (λ ps. Appends mid written (interval_text version number ps)) listing_is
-        more_writes))))
+        grind (arith, answered_interval, listing_is)
 
     -- if printing fails, a part of the listing was written
     pub interval_part : (before mid written : Option (List ℕ)) → Appends before mid
@@ -223,8 +176,7 @@ pub same_lines : (old new : Lines) (version : Version) (tasks : List Task) → v
     new
     → (0 < length tasks → IsSome (mode_of old)) → (IsSome (mode_of old) → mode_of new ≡ mode_of old)
     → asked (version_of old) tasks ≡ asked version tasks
-same_lines old new version tasks is chosen steady =
-    asked-version (version_of old) version tasks (λ some. is ∙ ap version_in (steady (chosen some)))
+same_lines old new version tasks is chosen steady = grind (arith, asked-version)
 
 -- the open round at the end of the input
 pub at_end : (version : Version) (m : Map) (tasks : List Task) → text_of m (asked version tasks) ≡

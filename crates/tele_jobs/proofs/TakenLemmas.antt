@@ -1,5 +1,5 @@
 -- Which rounds are run when a line is taken into the open round. Serves the steps of a run.
-use Rattle.std.proofs.Common.{◌≡◌, ℕ, ◌<◌, List, [], ◌∷◌, ◌++◌, sym, ◌∙◌, ap, length}
+use Rattle.std.proofs.Common.{◌≡◌, ℕ, ◌<◌, List, [], ◌∷◌, ◌++◌, sym, ◌∙◌, ap, length, arith}
 use Rattle.std.specs.Prelude.{Option}
 use Rattle.ist_core.specs.declared.commands.Command.{Command}
 use Rattle.ist_core.specs.TreeTerms.{no_pairs}
@@ -19,11 +19,7 @@ use Rattle.tele_jobs.proofs.StepLemmas.{taken_lines}
 pub rounds_stay : (old new : Open)
     (kept : Option (List (List ℕ))) (lines now : List Read) → RunsOn old kept new kept []
     → now ≡ lines → TakesRounds old kept new kept lines now
-rounds_stay old new kept lines now ran same = record {
-  more = [];
-  ran = ran;
-  cut = λ others. ap (λ ls. task_rounds (ls ++ others)) (sym same);
-}
+rounds_stay old new kept lines now ran same = grind arith
 
 module _ (version : Version) (number : ℕ) (item : Item)
     (old : Open) (kept : Option (List (List ℕ))) where

@@ -1,6 +1,6 @@
 -- The steps of a run if the source may not report its bytes. Serves the steps and the loop over
 -- them.
-use Rattle.std.proofs.Common.{◌≡◌, ℕ, ◌<◌, List, [], ◌++◌, Bool, true, false, refl, sym, ◌∙◌, ap, subst, append_assoc, append-nil, length}
+use Rattle.std.proofs.Common.{◌≡◌, ℕ, ◌<◌, List, [], ◌++◌, Bool, true, false, refl, sym, ◌∙◌, ap, subst, append_assoc, append-nil, length, arith}
 use Rattle.std.specs.Prelude.{Option, Some, None, IfSome, option_map, if◌then◌else◌}
 use Rattle.ist_core.specs.TreeTerms.{no_pairs}
 use Rattle.tele_io.specs.Bytes.{Appends, AppendsPart, Keeps}
@@ -79,8 +79,7 @@ pub ended_part_if : (was : Moment) (lines last : List Read)
     → AppendsPart before written (text_of was.m (lines ++ last))
     → IfSome unread (λ bytes. AppendsPart before written (due was bytes).text)
 ended_part_if was lines last None before written is reads part = tt
-ended_part_if was lines last (Some bytes) before written is reads part =
-    ended_part was lines last bytes before written is reads part
+ended_part_if was lines last (Some bytes) before written is reads part = grind (arith, ended_part)
 
 all_is_due : (left before : Option (List ℕ))
     → IfSome left (λ bytes. RunsTo first_moment bytes before before false (unread_of [] false left)
@@ -104,13 +103,7 @@ pub all_due : (left before : Option (List ℕ)) (kept : List ℕ) (ended : Bool)
     → kept ≡ [] → ended ≡ false → now ≡ first_moment
     → IfSome left (λ bytes. RunsTo first_moment bytes before before ended
     (unread_of kept ended left) now)
-all_due left before kept ended now no_bytes going first =
-    let P = λ (kept : List ℕ) (ended : Bool) (now : Moment).
-    IfSome left (λ bytes. RunsTo first_moment bytes before before ended (unread_of kept ended left)
-    now) in
-    subst (λ n. P kept ended n) (sym first)
-    (subst (λ e. P kept e first_moment) (sym going)
-    (subst (λ k. P k false first_moment) (sym no_bytes) (all_is_due left before)))
+all_due left before kept ended now no_bytes going first = grind (arith, all_is_due)
 
 -- one step after another
 pub on_and_on_if : (left : Option (List ℕ)) (mid last : Moment)
@@ -121,8 +114,7 @@ pub on_and_on_if : (left : Option (List ℕ)) (mid last : Moment)
     → IfSome left (λ bytes. RunsTo first_moment bytes before later now_ended now last)
 on_and_on_if None mid last before written later ended now_ended unread now lasts one two = tt
 on_and_on_if (Some bytes) mid last before written later ended now_ended unread now lasts one two =
-    on_and_on first_moment mid last bytes before written later ended now_ended unread now lasts one
-    two
+    grind (arith, on_and_on)
 
 -- one step, and then the end of the run
 pub on_and_end_if : (left : Option (List ℕ)) (mid : Moment) (ending : ℕ)

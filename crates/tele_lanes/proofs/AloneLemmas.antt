@@ -1,9 +1,9 @@
 -- What one thread answers, and what the lanes answer as if alone. Serves the law of lanes.
-use Rattle.std.proofs.Common.{◌≡◌, ◌≢◌, inl, inr, ◌+◌, ◌<◌, ◌≤◌, ◌%◌, ◌==◌, ℕ, zero, suc, Bool, true, false, cond, List, [], ◌∷◌, ◌++◌, Some, None, sym, ap, subst, ◌∙◌, refl, arith, nat_lt, map, get_or}
+use Rattle.std.proofs.Common.{◌≡◌, ◌≢◌, inl, inr, ◌+◌, ◌<◌, ◌≤◌, ◌%◌, ◌==◌, ℕ, zero, suc, Bool, true, false, cond, List, [], ◌∷◌, ◌++◌, Some, None, sym, ap, subst, ◌∙◌, refl, arith, map, get_or}
 use Rattle.std.specs.List.{flat_map, range_with_len}
 use Rattle.std.specs.List.Sorted.{IsPermutation, IsStrictlyIncreasing}
 use Rattle.std.specs.Ordering.{nat_cmp, eq_by_cmp, is_eq}
-use Rattle.std.specs.declared.cmp.Ordering.TheVariants.{Less, Equal, Greater}
+use Rattle.std.specs.declared.cmp.Ordering.TheVariants.{Less, Greater}
 use Rattle.std.specs.Cmp.{nat_cmp_total}
 use Rattle.std.proofs.lemmas.Bool.{cases_eq, eqb-true, eqb-false, ne_eqb, eq-eqb}
 use Rattle.std.proofs.lemmas.List.Sorted.{IsPermutation-refl, IsPermutation-trans, IsPermutation-append_right, IsPermutation-cons, IsPermutation-middle, IsPermutation-sym, Contains-permutation}
@@ -27,9 +27,7 @@ less_or_greater false = refl
 
 -- two numbers that differ don't tie
 pub eq_by_cmp-differ : (q k : ℕ) → q ≢ k → eq_by_cmp nat_cmp q k ≡ false
-eq_by_cmp-differ q k differ =
-    ap (λ b. is_eq (cond (nat_lt q k) Less (cond b Equal Greater))) (ne_eqb q k differ)
-    ∙ less_or_greater (nat_lt q k)
+eq_by_cmp-differ q k differ = grind (arith, ne_eqb, less_or_greater)
 
 -- a command does the same to what two maps have at a key
 pub get-map_after_same : (m n : Map) (c : Command) (q : ℕ) → fin.get m q ≡ fin.get n q
@@ -110,17 +108,8 @@ picked_is workers lane m n (t ∷ ts) agree = go (lane_of workers t.command == l
         → cond b (record { line = t.line; reply = reply_to m t.command } ∷ picked workers lane (map_after m t.command) ts)
         (picked workers lane (map_after m t.command) ts)
         ≡ answered n (cond b (t ∷ lane_tasks workers lane ts) (lane_tasks workers lane ts))
-    go true e later =
-        let same : reply_to m t.command ≡ reply_to n t.command
-        = agree (key_of t.command) (eqb-true _ _ e) in
-        let rest : picked workers lane (map_after m t.command) ts
-        ≡ answered (map_after n t.command) (lane_tasks workers lane ts)
-        = later (map_after m t.command) (map_after n t.command)
-        (λ q h. get-map_after_same m n t.command q (agree q h)) in
-        ap (λ r. record { line = t.line; reply = r } ∷ picked workers lane (map_after m t.command) ts) same
-        ∙ ap (λ l. record { line = t.line; reply = reply_to n t.command } ∷ l) rest
-    go false e later = later (map_after m t.command) n
-        (λ q h. get-map_after_other m t.command q (λ same. eqb-false _ _ e (ap (λ k. k % workers) (sym same) ∙ h)) ∙ agree q h)
+    go true e later = grind (arith, eqb-true, get-map_after_same)
+    go false e later = grind (arith, get-map_after_other, eqb-false)
 
 -- lists that differ nowhere in a range
 pub flat_map-same : {A : Type 0} (f g : ℕ → List A) (from n : ℕ) → ((w : ℕ) → from ≤ w → f w ≡ g w)
@@ -241,5 +230,4 @@ get-replay_lane workers key m n (c ∷ cs) same = go (lane_of workers c == key %
         → fin.get (replay (map_after m c) cs) key
         ≡ fin.get (replay n (cond b (c ∷ lane_commands workers (key % workers) cs) (lane_commands workers (key % workers) cs))) key
     go true e later = later (map_after m c) (map_after n c) (get-map_after_same m n c key same)
-    go false e later =
-        later (map_after m c) n (get-map_after_other m c key (λ at. eqb-false _ _ e (ap (λ k. k % workers) (sym at))) ∙ same)
+    go false e later = grind (arith, get-map_after_other, eqb-false)

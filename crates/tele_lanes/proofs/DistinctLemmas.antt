@@ -1,6 +1,6 @@
 -- Distinct numbers: in lists put one after another, in parts of them, and sorted. Serves `gather`,
 -- `open_tasks` and the law of lanes that can be gathered.
-use Rattle.std.proofs.Common.{◌≡◌, inl, inr, ◌+◌, ◌<◌, ℕ, suc, Bool, true, false, List, [], ◌∷◌, ◌++◌, length, map, get_or, eqb, sym, subst, ◌∙◌, refl, arith, All, AllPairs, Contains}
+use Rattle.std.proofs.Common.{◌≡◌, inl, inr, ◌+◌, ◌<◌, ℕ, suc, false, List, [], ◌∷◌, ◌++◌, length, map, get_or, eqb, sym, subst, ◌∙◌, refl, arith, All, AllPairs, Contains}
 use Rattle.std.specs.List.{flat_map, IsDistinct}
 use Rattle.std.specs.List.Sorted.{IsPermutation, IsNonDecreasing, IsNonDecreasingBy, IsStrictlyIncreasing}
 use Rattle.std.proofs.lemmas.Bool.{ne_eqb, eqb-true, eqb-false, eq-eqb}
@@ -21,18 +21,12 @@ Contains-later y xs x (k, h, e) = (suc k, omega arith, e)
 
 -- eqb is symmetric
 pub eqb-flip : (x y : ℕ) → eqb x y ≡ eqb y x
-eqb-flip x y = go (eqb x y) refl
-  where
-    go : (b : Bool) → eqb x y ≡ b → eqb x y ≡ eqb y x
-    go true e = e ∙ sym (eq-eqb y x (sym (eqb-true x y e)))
-    go false e = e ∙ sym (ne_eqb y x (λ same. eqb-false x y e (sym same)))
+eqb-flip x y = grind (arith, eq-eqb, eqb-true, ne_eqb, eqb-false)
 
 -- strictly increasing numbers are distinct
 pub IsDistinct-from_increasing : (xs : List ℕ) → IsStrictlyIncreasing xs → IsDistinct eqb xs
-IsDistinct-from_increasing xs up = IsDistinct-from_apart eqb xs (λ i j d lt h.
-    ne_eqb (get_or xs i d) (get_or xs j d)
-    (λ e. let less : get_or xs i d < get_or xs j d = AllPairs-from_increasing xs up i j d lt h in
-    omega arith))
+IsDistinct-from_increasing xs up =
+    grind (arith, IsDistinct-from_apart, ne_eqb, AllPairs-from_increasing)
 
 -- ---- one list after another
 
@@ -81,8 +75,7 @@ Apart-from_distinct xs ys all n (i, h, e) (j, k, f) =
 pub IsDistinct-flat_map : {X : Type 0} (f : X → List ℕ) (xs : List X)
     → All (λ x. IsStrictlyIncreasing (f x)) xs → AllPairs (λ x y. ShareNoNumber (f x) (f y)) xs
     → IsDistinct eqb (flat_map f xs)
-IsDistinct-flat_map {X = X} f [] up apart =
-    IsDistinct-from_increasing [] (λ k h. absurd (omega arith))
+IsDistinct-flat_map {X = X} f [] up apart = grind (arith, IsDistinct-from_increasing)
 IsDistinct-flat_map {X = X} f (x ∷ xs) up apart = IsDistinct-append (f x) (flat_map f xs)
     (IsDistinct-from_increasing (f x) (All-head (λ y. IsStrictlyIncreasing (f y)) x xs up))
     (IsDistinct-flat_map f xs (All-tail (λ y. IsStrictlyIncreasing (f y)) x xs up)

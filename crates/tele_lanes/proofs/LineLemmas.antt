@@ -1,6 +1,6 @@
 -- The lines of lanes: of what they answered, and of what they left. Serves `gather` and
 -- `open_tasks`.
-use Rattle.std.proofs.Common.{◌≡◌, ◌+◌, ◌<◌, ℕ, min, List, [], ◌∷◌, ◌++◌, length, map, take, drop, get_or, eqb, sym, ap, subst, ◌∙◌, refl, arith, All, Result, Ok, Err, IfOk}
+use Rattle.std.proofs.Common.{◌≡◌, ◌+◌, ◌<◌, ℕ, List, [], ◌∷◌, ◌++◌, length, map, take, drop, get_or, eqb, sym, ap, subst, ◌∙◌, refl, arith, All, Result, Ok, Err, IfOk}
 use Rattle.std.specs.List.{flat_map, IsDistinct}
 use Rattle.std.specs.List.Sorted.{IsPermutation, IsNonDecreasingBy, IsStrictlyIncreasing}
 use Rattle.std.proofs.lemmas.List.{get_or-map, get_or-take, length-map, length-take, map-append, take-append-drop, drop-map, append-nil}
@@ -32,10 +32,7 @@ Rise xs = IsNonDecreasingBy line_of xs
 -- the first numbers of a strictly increasing list
 pub IsStrictlyIncreasing-take : (n : ℕ) (xs : List ℕ) → IsStrictlyIncreasing xs
     → IsStrictlyIncreasing (take n xs)
-IsStrictlyIncreasing-take n xs up k h =
-    let long : length (take n xs) ≡ min n (length xs) = length-take n xs in
-    rw (get_or-take n xs k 0 (omega arith), get_or-take n xs (k + 1) 0 (omega arith))
-    (up k (omega arith))
+IsStrictlyIncreasing-take n xs up k h = grind (arith, length-take, get_or-take)
 
 -- answers with strictly increasing lines
 pub Rise-from_increasing : (answers : List Answer) → IsStrictlyIncreasing (answer_lines answers)
@@ -73,10 +70,7 @@ module _ {L : Type 0} (tasks_of : L → List Task) (answers_of : L → List Answ
 
   -- no line comes twice
   IsDistinct-lines : IsDistinct eqb (flat_map lines lanes)
-  IsDistinct-lines = subst (IsDistinct eqb)
-      (ap (map line_of_task) (flat_map-map tasks_of lanes)
-      ∙ map-flat_map line_of_task tasks_of lanes)
-      own
+  IsDistinct-lines = grind (arith, flat_map-map, map-flat_map)
 
   -- no line of an answer comes twice
   pub IsDistinct-answered : All (λ l. AnswerInOrder (tasks_of l) (answers_of l)) lanes
@@ -117,20 +111,12 @@ module _ {L : Type 0} (tasks_of : L → List Task) (answers_of : L → List Answ
       → All (λ l. AnswerInOrder (tasks_of l) (answers_of l)) lanes
       → IsPermutation (flat_map answers_of lanes) all → Rise all
       → InLineOrder (map answers_of lanes) all
-  gathered_answers all first same up = record {
-    same = subst (λ l. IsPermutation l all) (sym (flat_map-map answers_of lanes)) same;
-    rising = sorted_rises line_of (flat_map answers_of lanes) all (IsDistinct-answered first)
-        same up;
-  }
+  gathered_answers all first same up =
+      grind (arith, flat_map-map, sorted_rises, IsDistinct-answered)
 
   -- the tasks that were left, sorted by line, are in line order
   pub gathered_tasks : (all : List Task)
       → IsPermutation (flat_map (λ l. unanswered (tasks_of l) (answers_of l)) lanes) all
       → IsNonDecreasingBy line_of_task all
       → TasksInLineOrder (map (λ l. unanswered (tasks_of l) (answers_of l)) lanes) all
-  gathered_tasks all same up = record {
-    same = subst (λ l. IsPermutation l all)
-        (sym (flat_map-map (λ l. unanswered (tasks_of l) (answers_of l)) lanes)) same;
-    rising = sorted_rises line_of_task
-        (flat_map (λ l. unanswered (tasks_of l) (answers_of l)) lanes) all IsDistinct-unanswered same up;
-  }
+  gathered_tasks all same up = grind (arith, flat_map-map, sorted_rises, IsDistinct-unanswered)

@@ -1,13 +1,12 @@
 -- Lists that follow another one in order, grown by one element. Serves the calls and answers of a
 -- lane.
-use Rattle.std.proofs.Common.{◌≡◌, ◌+◌, ◌<◌, ℕ, List, [], ◌∷◌, ◌++◌, length, map, take, get_or, sym, ap, ◌∙◌}
+use Rattle.std.proofs.Common.{◌≡◌, ◌+◌, ◌<◌, ℕ, List, [], ◌∷◌, ◌++◌, length, map, take, get_or, arith}
 use Rattle.std.proofs.lemmas.List.{take-map, map_more, map_push, length_push}
 
 -- the first elements of a mapped list, and one more
 pub take-map_more : {X Y : Type 0} (f : X → Y) (xs : List X) (i : ℕ) (d : X) → i < length xs
     → take (i + 1) (map f xs) ≡ take i (map f xs) ++ f (get_or xs i d) ∷ []
-take-map_more f xs i d h = take-map f (i + 1) xs ∙ map_more f xs i d h
-    ∙ ap (λ z. z ++ f (get_or xs i d) ∷ []) (sym (take-map f i xs))
+take-map_more f xs i d h = grind (arith, take-map, map_more)
 
 -- a list that follows the first elements of xs, by g and f, still does with one for the next
 -- element
@@ -15,16 +14,11 @@ pub follows_push : {X A Y : Type 0} (f : X → Y) (g : A → Y) (xs : List X) (m
     → length made ≡ i → i < length xs → g a ≡ f (get_or xs i d)
     → map g made ≡ take (length made) (map f xs)
     → map g (made ++ a ∷ []) ≡ take (length (made ++ a ∷ [])) (map f xs)
-follows_push f g xs made a i d long h same before = map_push g made a
-    ∙ ap (λ z. z ++ g a ∷ []) (before ∙ ap (λ n. take n (map f xs)) long)
-    ∙ ap (λ z. take i (map f xs) ++ z ∷ []) same ∙ sym (take-map_more f xs i d h)
-    ∙ ap (λ n. take n (map f xs)) (sym (length_push made a ∙ ap (λ n. n + 1) long))
+follows_push f g xs made a i d long h same before =
+    grind (arith, map_push, take-map_more, length_push)
 
 -- two lists that f and g see as the same, each with one more that they see as the same
 pub map-push_both : {X A Y : Type 0} (f : X → Y) (g : A → Y) (xs longer_xs : List X) (made longer_made : List A) (x : X) (a : A)
     → longer_xs ≡ xs ++ x ∷ [] → longer_made ≡ made ++ a ∷ [] → f x ≡ g a → map f xs ≡ map g made
     → map f longer_xs ≡ map g longer_made
-map-push_both f g xs longer_xs made longer_made x a one more same before =
-    ap (λ l. map f l) one ∙ map_push f xs x
-    ∙ ap (λ l. l ++ f x ∷ []) before ∙ ap (λ y. map g made ++ y ∷ []) same
-    ∙ sym (ap (λ l. map g l) more ∙ map_push g made a)
+map-push_both f g xs longer_xs made longer_made x a one more same before = grind (arith, map_push)

@@ -1,5 +1,5 @@
 -- Bytes in the middle of an array. Serves the buffer.
-use Rattle.std.proofs.Common.{◌≡◌, ℕ, ◌+◌, ◌-◌, ◌≤◌, List, ◌++◌, length, take, drop, sym, ◌∙◌, ap, subst, arith, append_assoc}
+use Rattle.std.proofs.Common.{◌≡◌, ℕ, ◌+◌, ◌-◌, ◌≤◌, List, ◌++◌, length, take, drop, sym, ◌∙◌, ap, arith, append_assoc}
 use Rattle.std.specs.Prelude.{slice_range, Option, Some, None}
 use Rattle.std.proofs.Math.Seq.{take-add}
 use Rattle.std.proofs.lemmas.List.{drop-drop, drop-take, take-append-drop, length-drop, length-take, length-take-le}
@@ -30,19 +30,13 @@ fills_after bytes k n (Some given) now h g = record {
     at_end = g.at_end;
   };
 }
-fills_after bytes k n None now h g = record {
-  longer = omega (arith, length-take-le (k + n) bytes h, length-take-le k bytes (omega arith));
-  bytes = tt;
-}
+fills_after bytes k n None now h g = grind (arith, length-take-le)
 
 -- the same, as the buffer sees its bytes
 pub filled : (bytes old : List ℕ) (k n : ℕ) (left now : Option (List ℕ)) → take k bytes ≡ old
     → k + n ≤ length bytes → GivesBytes left now n (drop k bytes)
     → Fills left now old (slice_range bytes 0 (k + n)) n
-filled bytes old k n left now is h g = let front = fills_after bytes k n left now h g in
-    let e : k + n ≡ k + n - 0 = omega arith in
-    subst (λ xs. Fills left now xs (take (k + n - 0) bytes) n) is
-    (subst (λ m. Fills left now (take k bytes) (take m bytes) n) e front)
+filled bytes old k n left now is h g = grind (arith, fills_after)
 
 -- as long as the range
 pub length-slice_range : (bytes : List ℕ) (start end : ℕ) → start ≤ end → end ≤ length bytes

@@ -1,5 +1,5 @@
 -- Cutting lines off the front of bytes. Serves the reader.
-use Rattle.std.proofs.Common.{◌≡◌, ℕ, suc, ◌+◌, ◌<◌, true, false, List, [], ◌∷◌, ◌++◌, length, take, drop, refl, sym, ◌∙◌, ap, subst, arith, add-one, cond, not}
+use Rattle.std.proofs.Common.{◌≡◌, ℕ, suc, ◌+◌, ◌<◌, true, false, List, [], ◌∷◌, ◌++◌, length, take, drop, refl, ◌∙◌, ap, subst, arith, add-one, cond, not}
 use Rattle.std.specs.Prelude.{◌==◌, if◌then◌else◌}
 use Rattle.std.specs.List.{position_or_len, onto_first}
 use Rattle.tele_lines.specs.Lines.{newline, lines_of, onto_whole, whole_lines}
@@ -10,8 +10,7 @@ first_longer : (byte : ℕ) (bytes others : List ℕ) (k : ℕ)
     → lines_of (bytes ++ others) ≡ take k bytes ∷ lines_of (drop (k + 1) bytes ++ others)
     → onto_first byte (lines_of (bytes ++ others)) ≡ (byte ∷ take k bytes) ∷ lines_of
     (drop (suc k) bytes ++ others)
-first_longer byte bytes others k is = ap (onto_first byte) is
-    ∙ ap (λ n. (byte ∷ take k bytes) ∷ lines_of (drop n bytes ++ others)) (add-one k)
+first_longer byte bytes others k is = grind arith
 
 -- the first line ends at the first newline
 pub cut_first : (bytes others : List ℕ) (k : ℕ) → position_or_len is_newline bytes ≡ k
@@ -37,9 +36,7 @@ whole_longer : (byte : ℕ) (bytes more : List ℕ) (k : ℕ)
     → whole_lines (take (k + 1) bytes ++ more) ≡ take k bytes ∷ whole_lines more
     → onto_whole byte (whole_lines (take (suc k) bytes ++ more)) ≡
     (byte ∷ take k bytes) ∷ whole_lines more
-whole_longer byte bytes more k is =
-    ap (λ n. onto_whole byte (whole_lines (take n bytes ++ more))) (sym (add-one k))
-    ∙ ap (onto_whole byte) is
+whole_longer byte bytes more k is = grind arith
 
 -- up to the first newline there is one line that a newline ends
 pub whole_first : (bytes more : List ℕ) (k : ℕ) → position_or_len is_newline bytes ≡ k
@@ -78,12 +75,7 @@ last_or_none byte (next ∷ bytes) is = elim (next == newline) as
 -- bytes without a newline are one line
 pub cut_last : (bytes : List ℕ) → IsUnbroken bytes → 0 < length bytes → lines_of bytes ≡ bytes ∷ []
 cut_last [] is some = absurd (omega arith)
-cut_last (byte ∷ bytes) is some = elim (byte == newline) as
-    (λ b. cond (not b) (1 + position_or_len is_newline bytes) 0 ≡ length (byte ∷ bytes)
-    → (if b then [] ∷ lines_of bytes else onto_first byte (lines_of bytes)) ≡ (byte ∷ bytes) ∷ []) [
-      | true ↦ λ e. absurd (omega arith)
-      | false ↦ λ e. last_or_none byte bytes (omega arith)
-    ] is
+cut_last (byte ∷ bytes) is some = grind (arith, last_or_none)
 
 -- a first line that begins with these bytes, and the lines after it
 abbrev BeginsWithBytes : List ℕ → List (List ℕ) → Type 0

@@ -1,11 +1,10 @@
 -- Which version is in force after a line. Serves the reading of lines.
-use Rattle.std.proofs.Common.{◌≡◌, ℕ, ◌&&◌, Bool, true, false, List, [], ◌∷◌, refl, sym, subst, ◌∙◌}
-use Rattle.std.specs.Prelude.{Option, Some, None, IsSome, Result, Ok, Err, if◌then◌else◌, ◌==◌, nat_le, length}
+use Rattle.std.proofs.Common.{◌≡◌, ℕ, ◌&&◌, Bool, true, false, List, [], ◌∷◌, refl, sym, subst, ◌∙◌, arith}
+use Rattle.std.specs.Prelude.{Option, Some, None, IsSome, Result, Ok, Err, if◌then◌else◌}
 use Rattle.tele_lines.specs.declared.items.Cause.{Cause}
 use Rattle.tele_lines.specs.declared.items.Item.{Item}
 use Rattle.tele_lines.specs.declared.items.Version.{Version}
 use Rattle.tele_lines.specs.declared.items.Said.{Said}
-use Rattle.tele_lines.specs.Lines.{longest, without_return, words_in_line}
 use Rattle.tele_lines.specs.Readings.{Mode, next_mode, by_letter, by_words, asks_one, asks_two, is_note, letter_of, reading}
 
 -- a line leaves the version in force
@@ -32,11 +31,7 @@ asks_two-keeps v item (Err cause) = refl
 
 by_letter-keeps : (v : Version) (letter : Option ℕ) (more : List (List ℕ)) → KeepsVersion v (by_letter (Some v) letter more)
 by_letter-keeps v None more = refl
-by_letter-keeps v (Some letter) more = either v (letter == 80) _ _ (asks_two-keeps v _ _)
-    (either v (letter == 82) _ _ (asks_one-keeps v _ _)
-    (either v (letter == 71) _ _ (asks_one-keeps v _ _)
-    (either v (letter == 73) _ _ (asks_two-keeps v _ _)
-    (second v (letter == 86) _ _ refl))))
+by_letter-keeps v (Some letter) more = grind (arith, either, asks_two-keeps, asks_one-keeps, second)
 
 by_words-keeps : (v : Version) (words : List (List ℕ)) → KeepsVersion v (by_words (Some v) words)
 by_words-keeps v [] = refl
@@ -46,8 +41,7 @@ by_words-keeps v (word ∷ more) = either v (is_note word) _ _ refl (by_letter-k
 pub reading-keeps : (limit number : ℕ) (mode : Mode) (line : List ℕ) → IsSome mode
     → next_mode mode (reading limit number mode line) ≡ mode
 reading-keeps limit number None line some = absurd (cc some)
-reading-keeps limit number (Some v) line some = either v (nat_le number limit) _ _
-    (either v (nat_le (length (without_return line)) longest) _ _ (by_words-keeps v (words_in_line (without_return line))) refl) refl
+reading-keeps limit number (Some v) line some = grind (arith, either, by_words-keeps)
 
 -- the version stays over two lines if it stays over each
 pub steady_twice : (one two three : Mode) → (IsSome one → two ≡ one) → (IsSome two → three ≡ two) → IsSome one → three ≡ one

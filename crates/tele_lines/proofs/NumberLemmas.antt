@@ -1,5 +1,5 @@
 -- Reading a numeral digit by digit. Serves `number`.
-use Rattle.std.proofs.Common.{◌≡◌, ℕ, ◌+◌, ◌-◌, ◌*◌, ◌^◌, ◌<◌, ◌≤◌, true, false, List, [], ◌∷◌, length, refl, sym, ◌∙◌, ap, arith, inl, inr}
+use Rattle.std.proofs.Common.{◌≡◌, ℕ, ◌+◌, ◌-◌, ◌*◌, ◌^◌, ◌<◌, ◌≤◌, true, false, List, [], ◌∷◌, length, refl, arith}
 use Rattle.std.specs.Prelude.{◌&&◌, if◌then◌else◌, nat_lt, fold, Option, Some, None}
 use Rattle.std.specs.List.{list_all}
 use Rattle.std.specs.Char.{is_ascii_digit}
@@ -30,9 +30,7 @@ number_at_once value digits =
     (fold with_digit value digits) else None
 
 no_number : (digits : List ℕ) (value : ℕ) → 2 ^ 64 ≤ value → number_at_once value digits ≡ None
-no_number digits value h =
-    let k : 2 ^ 64 ≤ fold with_digit value digits =
-    omega (arith, fold_no_less digits value) in grind (arith, common_steps)
+no_number digits value h = grind (arith, fold_no_less, common_steps)
 
 pub not_below : (m n : ℕ) → n ≤ m → nat_lt m n ≡ false
 not_below m n h = grind (arith, common_steps)
@@ -42,13 +40,7 @@ after_digit : (value : ℕ) (digits : List ℕ)
     → (value < 2 ^ 64 → number_from value digits ≡ number_at_once value digits)
     → (if nat_lt value
     (2 ^ 64) then number_from value digits else None) ≡ number_at_once value digits
-after_digit value digits goes_on =
-    elim (cases_lt value (2 ^ 64)) [
-      | inl small ↦ ap (λ b. if b then number_from value digits else None)
-          (lt-ltb value (2 ^ 64) small) ∙ goes_on small
-      | inr large ↦ ap (λ b. if b then number_from value digits else None)
-          (not_below value (2 ^ 64) large) ∙ sym (no_number digits value large)
-    ]
+after_digit value digits goes_on = grind (arith, cases_lt, lt-ltb, not_below, no_number)
 
 -- digit by digit is at once
 pub number_from-at_once : (digits : List ℕ) (value : ℕ) → value < 2 ^ 64
@@ -68,6 +60,4 @@ number_from-at_once (digit ∷ digits) value h =
 -- some digits are read from 0 on
 pub number_from-zero : (digits : List ℕ) → 0 < length digits
     → number_from 0 digits ≡ numeral_value digits
-number_from-zero digits some =
-    let e : nat_lt 0 (length digits) ≡ true = lt-ltb 0 (length digits) some in
-    number_from-at_once digits 0 (omega arith) ∙ sym (rw e refl)
+number_from-zero digits some = grind (arith, lt-ltb, number_from-at_once)

@@ -7,8 +7,8 @@ use Rattle.tele_lines.specs.declared.items.Item.{Item}
 use Rattle.tele_lines.specs.declared.items.Said.{Said}
 use Rattle.tele_lines.specs.declared.items.Said.TheVariants.{Skips, Chooses, Asks, Fails}
 use Rattle.tele_lines.specs.Lines.{lines_of, whole_lines, newline, onto_whole}
-use Rattle.tele_lines.specs.Readings.{version_in, next_mode, reading}
-use Rattle.tele_lines.specs.Answer.{Read, Good, Bad, then_read, read_from, exit_status}
+use Rattle.tele_lines.specs.Readings.{version_in, reading}
+use Rattle.tele_lines.specs.Answer.{Read, Good, Bad, then_read, exit_status}
 use Rattle.tele_lines.specs.Progress.{Place, Continues, following, reads_given, read_at, GoesTo, TakesLine, ShowsBad, place_of, unread, MeetsLine}
 use Rattle.std.specs.List.{position_or_len}
 use Rattle.std.proofs.lemmas.List.{take_all, take-append-drop}
@@ -30,23 +30,13 @@ reads_first : (place : Place) (said : Said) (line : List ℕ) (lines others : Li
     → lines ≡ line ∷ others
     → reading place.limit (place.count + 1) place.mode line ≡ said → Continues said
     → read_at place lines ≡ reads_given place said ++ read_at (following place said) others
-reads_first place said line lines others cut says goes_on = ap (read_at place) cut
-    ∙ ap (λ s. then_read (place.count + 1) place.mode s (read_from place.limit (place.count + 1 + 1) (next_mode place.mode s) others)) says
-    ∙ then_given place said (read_at (following place said) others) goes_on
+reads_first place said line lines others cut says goes_on = grind (arith, then_given)
 
 -- after a line the reading is at the next place
 goes_after : (place : Place) (said : Said) (bytes : List ℕ) (ended : Bool) (now : Option (List ℕ))
     → Continues said → TakesLine place said bytes ended now
     → GoesTo place (following place said) ended (reads_given place said) bytes now
-goes_after place said bytes ended now goes_on takes = record {
-  taken = takes.taken;
-  rest = takes.rest;
-  left = takes.left;
-  same = takes.same;
-  reads = reads_first place said takes.line (lines_of bytes) (lines_of takes.rest) takes.cut takes.says goes_on;
-  whole = λ going more.
-      reads_first place said takes.line (whole_lines (takes.taken ++ more)) (whole_lines more) (takes.whole going more) takes.says goes_on;
-}
+goes_after place said bytes ended now goes_on takes = grind (arith, reads_first)
 
 -- one line was read
 pub one_after : (place new : Place) (said : Said) (before here now : Option (List ℕ)) (ended : Bool)
@@ -55,8 +45,7 @@ pub one_after : (place new : Place) (said : Said) (before here now : Option (Lis
     → IfSome before (λ bytes. GoesTo place new ended (reads_given place said) bytes now)
 one_after place new said None here now ended keeps is goes_on takes = tt
 one_after place new said (Some bytes) here now ended keeps is goes_on takes =
-    let there : TakesLine place said bytes ended now = subst (λ u. IfSome u (λ bytes. TakesLine place said bytes ended now)) keeps takes in
-    subst (λ p. GoesTo place p ended (reads_given place said) bytes now) (sym is) (goes_after place said bytes ended now goes_on there)
+    grind (arith, goes_after)
 
 -- what has not ended had not ended before
 pub still_going : (ended now : Bool) → (ended ≡ true → now ≡ true) → now ≡ false → ended ≡ false
@@ -98,9 +87,7 @@ pub reads_if : (one two : Place) (mid : Bool) (found : List Read) (before here :
     → IfSome here (λ bytes. read_at two (lines_of bytes) ≡ found)
     → IfSome before (λ bytes. read_at one (lines_of bytes) ≡ found)
 reads_if one two mid found None here a b = tt
-reads_if one two mid found (Some bytes) here a b =
-    let there : read_at two (lines_of a.rest) ≡ found = subst (λ u. IfSome u (λ bytes. read_at two (lines_of bytes) ≡ found)) a.left b in
-    a.reads ∙ there
+reads_if one two mid found (Some bytes) here a b = grind arith
 
 -- an item that was given, as its number and its version are then
 pub item_if : (one two new : Place) (ended : Bool) (item : Item) (before now : Option (List ℕ))
@@ -108,17 +95,14 @@ pub item_if : (one two new : Place) (ended : Bool) (item : Item) (before now : O
     → IfSome before (λ bytes. GoesTo one new ended (reads_given two (Asks item)) bytes now)
     → IfSome before
     (λ bytes. GoesTo one new ended (Good new.count (version_in new.mode) item ∷ []) bytes now)
-item_if one two new ended item before now is goes =
-    subst (λ (p : Place). IfSome before (λ bytes. GoesTo one new ended (Good p.count (version_in p.mode) item ∷ []) bytes now)) (sym is) goes
+item_if one two new ended item before now is goes = grind arith
 
 -- a bad line that was found, by its number
 pub bad_if : (one : Place) (count now number : ℕ) (first cause : Cause) (before : Option (List ℕ))
     → now ≡ count → now + 1 ≡ number → first ≡ cause
     → IfSome before (λ bytes. read_at one (lines_of bytes) ≡ Bad (count + 1) first ∷ [])
     → IfSome before (λ bytes. read_at one (lines_of bytes) ≡ Bad number cause ∷ [])
-bad_if one count now number first cause before same is named reads =
-    subst (λ c. IfSome before (λ bytes. read_at one (lines_of bytes) ≡ Bad number c ∷ [])) named
-    (subst (λ n. IfSome before (λ bytes. read_at one (lines_of bytes) ≡ Bad n first ∷ [])) (ap (λ n. n + 1) (sym same) ∙ is) reads)
+bad_if one count now number first cause before same is named reads = grind arith
 
 -- ---- that the bytes which a reader keeps show a bad line. Serves the reader.
 
@@ -126,9 +110,7 @@ bad_if one count now number first cause before same is named reads =
 first_bad : (place : Place) (cause : Cause) (line : List ℕ) (lines others : List (List ℕ))
     → lines ≡ line ∷ others → reading place.limit (place.count + 1) place.mode line ≡ Fails cause
     → exit_status (read_at place lines) ≡ 3
-first_bad place cause line lines others cut says = ap (λ ls. exit_status (read_at place ls)) cut
-    ∙ ap (λ s. exit_status (then_read (place.count + 1) place.mode s
-    (read_from place.limit (place.count + 1 + 1) (next_mode place.mode s) others))) says
+first_bad place cause line lines others cut says = grind arith
 
 -- a bad line that a newline ends
 pub shown_at : (place : Place) (cause : Cause) (said : Said) (buffer : List ℕ) (ended : Bool) (k : ℕ)
@@ -161,13 +143,7 @@ pub shown_last : (place : Place) (cause : Cause) (said : Said) (buffer : List �
     → said ≡ reading place.limit (place.count + 1) place.mode (take len buffer)
     → said ≡ Fails cause → ShowsBad place buffer ended
 shown_last place cause said buffer ended len all unended says fails =
-    elim unended.why as (λ _. ShowsBad place buffer ended) [
-      | inl at_end ↦ inl at_end
-      | inr long ↦ inr (first_bad place cause buffer _ [] (ended_line buffer unended.unbroken)
-          (ap (reading place.limit (place.count + 1) place.mode)
-          (sym (ap (λ n. take n buffer) all ∙ take_all (length buffer) buffer (omega arith)))
-          ∙ sym says ∙ fails))
-    ]
+    grind (arith, first_bad, ended_line, take_all)
 
 -- what was skipped before a bad line, which stays unread
 pub skipped_if : (one two new : Place) (mid ended : Bool) (before here now : Option (List ℕ))
@@ -175,17 +151,9 @@ pub skipped_if : (one two new : Place) (mid ended : Bool) (before here now : Opt
     → IfSome before (λ bytes. GoesTo one two mid [] bytes here)
     → IfSome before (λ bytes. GoesTo one new ended [] bytes now)
 skipped_if one two new mid ended None here now same lasts keeps goes = tt
-skipped_if one two new mid ended (Some bytes) None now same lasts keeps goes =
-    let e = goes.left in absurd (cc e)
+skipped_if one two new mid ended (Some bytes) None now same lasts keeps goes = grind arith
 skipped_if one two new mid ended (Some bytes) (Some unread) now same lasts keeps goes =
-    subst (λ p. GoesTo one p ended [] bytes now) (sym same) (record {
-      taken = goes.taken;
-      rest = goes.rest;
-      left = keeps ∙ goes.left;
-      same = goes.same;
-      reads = goes.reads;
-      whole = λ going more. goes.whole (still_going mid ended lasts going) more;
-    })
+    grind (arith, still_going)
 
 -- ---- what a read of the first line says of the unread bytes. Serves the reader.
 
@@ -196,9 +164,7 @@ from_read : (old new : Lines) (taken : ℕ) (said : Said)
     → new.buffer ≡ drop taken old.buffer → new.ended ≡ old.ended → (left : Option (List ℕ))
     → IfSome (unread old left)
     (λ bytes. TakesLine (place_of old) said bytes new.ended (unread new left))
-from_read old new taken said takes rest ended left =
-    let P = λ (buffer : List ℕ) (e : Bool). IfSome (unread old left) (λ bytes. TakesLine (place_of old) said bytes e (unread_of buffer e left)) in
-    subst (P new.buffer) (sym ended) (subst (λ buffer. P buffer old.ended) (sym rest) (takes left))
+from_read old new taken said takes rest ended left = grind arith
 
 -- a line that ends at a newline
 pub line_at : (old new : Lines) (k : ℕ) (said : Said) → BreaksAt old.buffer k
@@ -238,7 +204,4 @@ pub first_last : (old : Lines) (len : ℕ) (said : Said) (left : Option (List �
     → len ≡ length old.buffer → ¬ (len ≡ 0) → IsOpenEnded old.buffer old.ended
     → said ≡ reading old.limit (old.count + 1) old.mode (take len old.buffer)
     → IfSome (unread old left) (λ bytes. MeetsLine (place_of old) said bytes)
-first_last old len said left all some unended says =
-    let more : 0 < length old.buffer = omega arith in
-    meets_last (place_of old) said old.buffer old.ended left unended more
-    (ap (λ n. reading old.limit (old.count + 1) old.mode (take n old.buffer)) (sym all) ∙ sym says)
+first_last old len said left all some unended says = grind (arith, meets_last)

@@ -1,7 +1,6 @@
 -- What the first line of the unread bytes is. Serves the reader.
-use Rattle.std.proofs.Common.{◌≡◌, ℕ, ◌+◌, ◌<◌, Bool, true, false, List, [], ◌∷◌, ◌++◌, length, take, drop, refl, sym, ◌∙◌, ap, subst, arith, inl, inr, length-append, append_assoc}
-use Rattle.std.specs.Prelude.{Option, Some, None, IfSome, if◌then◌else◌, is_some, ◌⊎◌, ◌-◌, ◌≤◌, nat_eq, nat_le, codes, option_map}
-use Rattle.std.specs.List.{ends_with}
+use Rattle.std.proofs.Common.{◌≡◌, ℕ, ◌+◌, ◌<◌, Bool, true, false, List, [], ◌++◌, length, take, drop, refl, sym, ◌∙◌, ap, subst, arith, inl, inr, length-append, append_assoc}
+use Rattle.std.specs.Prelude.{Option, Some, None, IfSome, if◌then◌else◌, is_some, ◌⊎◌, ◌-◌, ◌≤◌, nat_le, option_map}
 use Rattle.std.proofs.lemmas.List.{take_all, append-nil, nil_from_length, take-append-drop, length-take}
 use Rattle.std.proofs.Math.ListN.{drop_of_length-le}
 use Rattle.std.proofs.lemmas.Grind.{common_steps}
@@ -9,8 +8,8 @@ use Rattle.memchr.specs.Find.{IsFirstByte}
 use Rattle.tele_lines.specs.declared.items.Said.{Said}
 use Rattle.tele_lines.specs.declared.items.Said.TheVariants.{Fails}
 use Rattle.tele_lines.specs.declared.items.Cause.TheVariants.{Long, Lines}
-use Rattle.tele_lines.specs.Lines.{longest, lines_of, without_return, words_in_line}
-use Rattle.tele_lines.specs.Readings.{by_words, reading}
+use Rattle.tele_lines.specs.Lines.{longest, lines_of, without_return}
+use Rattle.tele_lines.specs.Readings.{reading}
 use Rattle.tele_io.specs.Bytes.{Keeps}
 use Rattle.tele_lines.specs.Buffers.{is_newline, IsUnbroken, BreaksAt, IsOpenEnded, EndsAt, Fills, unread_of}
 use Rattle.tele_lines.specs.Progress.{Place, Continues, TakesLine, MeetsLine}
@@ -82,20 +81,12 @@ meets_line place said buffer (Some others) k b says = record {
 
 -- without its last byte a line is shorter by one
 length-without_return : (line : List ℕ) → length line ≤ length (without_return line) + 1
-length-without_return line =
-    elim (ends_with nat_eq line (codes "\r")) as (λ b. length line ≤ length (if b then take (length line - 1) line else line) + 1) [
-      | true ↦ omega (arith, length-take (length line - 1) line)
-      | false ↦ omega arith
-    ]
+length-without_return line = grind (arith, length-take)
 
 said_long : (place : Place) (line : List ℕ) → longest + 1 < length line
     → reading place.limit (place.count + 1) place.mode line ≡
     (if nat_le (place.count + 1) place.limit then Fails Long else Fails Lines)
-said_long place line h =
-    let long : longest < length (without_return line) = omega (arith, length-without_return line) in
-    let too : nat_le (length (without_return line)) longest ≡ false = grind (arith, common_steps) in
-    ap (λ b. if nat_le (place.count + 1) place.limit
-    then (if b then by_words place.mode (words_in_line (without_return line)) else Fails Long) else Fails Lines) too
+said_long place line h = grind (arith, length-without_return, common_steps)
 
 -- two lines that are too long say the same
 pub too_long : (place : Place) (one two : List ℕ) → longest + 1 < length one
@@ -111,20 +102,7 @@ pub takes_last : (place : Place) (said : Said) (buffer : List ℕ) (ended : Bool
     → IfSome (unread_of buffer ended left)
     (λ bytes. TakesLine place said bytes ended (unread_of (drop (length buffer) buffer) ended left))
 takes_last place said buffer ended left at_end unbroken_all some says =
-    let whole : take (length buffer) buffer ≡ buffer = take_all (length buffer) buffer (omega arith) in
-    let P : Bool → Type 0 = λ e. IfSome (unread_of buffer e left)
-    (λ bytes. TakesLine place said bytes e (unread_of (drop (length buffer) buffer) e left)) in
-    subst P (sym at_end) (record {
-      line = buffer;
-      taken = buffer;
-      rest = drop (length buffer) buffer ++ [];
-      left = refl;
-      same = ap (λ xs. buffer ++ (xs ++ [])) (sym (drop_of_length-le buffer (omega arith)));
-      cut = ap lines_of (append-nil buffer) ∙ cut_last buffer unbroken_all some
-          ∙ ap (λ xs. buffer ∷ lines_of (xs ++ [])) (sym (drop_of_length-le buffer (omega arith)));
-      says = ap (reading place.limit (place.count + 1) place.mode) (sym whole) ∙ says;
-      whole = λ never. absurd (cc);
-    })
+    grind (arith, take_all, drop_of_length-le, append-nil, cut_last)
 
 meets_long : (place : Place) (said : Said) (buffer : List ℕ) (left : Option (List ℕ))
     → IsUnbroken buffer → 0 < length buffer
@@ -147,17 +125,7 @@ pub meets_last : (place : Place) (said : Said) (buffer : List ℕ) (ended : Bool
     → reading place.limit (place.count + 1) place.mode (take (length buffer) buffer) ≡ said
     → IfSome (unread_of buffer ended left) (λ bytes. MeetsLine place said bytes)
 meets_last place said buffer ended left unended some says =
-    let whole : take (length buffer) buffer ≡ buffer = take_all (length buffer) buffer (omega arith) in
-    let here = ap (reading place.limit (place.count + 1) place.mode) (sym whole) ∙ says in
-    elim unended.why [
-      | inl at_end ↦ subst (λ e. IfSome (unread_of buffer e left) (λ bytes. MeetsLine place said bytes)) (sym at_end) (record {
-        line = buffer;
-        others = [];
-        cut = ap lines_of (append-nil buffer) ∙ cut_last buffer unended.unbroken some;
-        says = here;
-      })
-      | inr long ↦ meets_long place said buffer (if ended then Some [] else left) unended.unbroken some long here
-    ]
+    grind (arith, take_all, append-nil, cut_last, meets_long)
 
 -- one of the two ways in which a line that is too long is bad
 fails_either : (b : Bool) (said : Said) → (if b then Fails Long else Fails Lines) ≡ said
@@ -169,7 +137,4 @@ fails_either false said is goes_on = subst Continues (sym is) goes_on
 pub long_fails : (place : Place) (buffer : List ℕ) (said : Said) → longest + 1 < length buffer
     → reading place.limit (place.count + 1) place.mode (take (length buffer) buffer) ≡ said
     → Continues said → ⊥
-long_fails place buffer said long says goes_on =
-    let whole : take (length buffer) buffer ≡ buffer = take_all (length buffer) buffer (omega arith) in
-    fails_either (nat_le (place.count + 1) place.limit) said
-    (sym (said_long place buffer long) ∙ ap (reading place.limit (place.count + 1) place.mode) (sym whole) ∙ says) goes_on
+long_fails place buffer said long says goes_on = grind (arith, take_all, fails_either, said_long)

@@ -39,8 +39,7 @@ longer old new rest more le same = let n = length old in
 -- a read that gave bytes
 filled : (old new : List ℕ) (left now : Option (List ℕ)) (n : ℕ) (rest : List ℕ) → left ≡ Some rest
     → Fills left now old new n → FillsFrom rest now old new n
-filled old new left now n rest is fills =
-    subst (λ l. IfSome l (λ bytes. FillsFrom bytes now old new n)) is fills.bytes
+filled old new left now n rest is fills = grind arith
 
 -- one read more
 pub took_if : (all left now : Option (List ℕ)) (kept old new : List ℕ) (n : ℕ)
@@ -87,8 +86,7 @@ pub still_if : (all left now : Option (List ℕ)) (kept old : List ℕ) (was : B
     → IfSome all (λ bytes. RefillsOnly kept was bytes left)
     → IfSome all (λ bytes. RefillsOnly kept was bytes now)
 still_if None left now kept old was a keeps spared = tt
-still_if (Some bytes) (Some rest) now kept old was a keeps spared =
-    subst (RefillsOnly kept was bytes) (sym keeps) spared
+still_if (Some bytes) (Some rest) now kept old was a keeps spared = grind arith
 still_if (Some bytes) None now kept old was a keeps spared = let e = a.left in absurd (cc e)
 
 -- a read that gave nothing is the end of the source
@@ -120,19 +118,7 @@ pub needed_if : (place : Place) (kept : List ℕ) (was : Bool) (all now : Option
     → IfSome all (λ bytes. TakesAsNeeded place kept was bytes now)
 needed_if place kept was None now spared = tt
 needed_if place kept was (Some bytes) now (inl none) = inl none
-needed_if place kept was (Some bytes) now (inr some) = let a = some.1 in
-    inr (
-      some.0,
-      record {
-        before = a.before;
-        piece = a.piece;
-        rest = a.rest;
-        left = a.left;
-        same = a.same;
-        few = a.few;
-        waits = ap (read_at place) (no_whole (kept ++ a.before) a.waits);
-      },
-    )
+needed_if place kept was (Some bytes) now (inr some) = grind (arith, no_whole)
 
 -- what was taken, and what is left
 pub record Given (bytes : List ℕ) (now : Option (List ℕ)) : Type 0 where
@@ -169,10 +155,8 @@ later_needed : (one two : Place) (kept buffer bytes rest : List ℕ) (now : Opti
     → IfSome (unread_of kept was (Some bytes))
     (λ bytes. GoesTo one two mid [] bytes (unread_of buffer mid (Some rest)))
     → mid ≡ false → TakesLast two buffer rest now → TakesAsNeeded one kept was bytes now
-later_needed one two kept buffer bytes rest now true mid lasts first goes going last =
-    absurd (cc (lasts refl, going))
-later_needed one two kept buffer bytes rest now false true lasts first goes going last =
-    absurd (cc going)
+later_needed one two kept buffer bytes rest now true mid lasts first goes going last = grind arith
+later_needed one two kept buffer bytes rest now false true lasts first goes going last = grind arith
 later_needed one two kept buffer bytes rest now false false lasts first goes going last =
     let is : rest ≡ first.rest = let e = first.left in cc e in
     let same : bytes ≡ first.taken ++ rest = first.same ∙ ap (λ xs. first.taken ++ xs) (sym is) in
@@ -202,8 +186,7 @@ pub on_needed_if : (one two : Place) (kept buffer : List ℕ) (was mid : Bool)
     → IfSome left (λ bytes. TakesAsNeeded two buffer mid bytes now)
     → IfSome all (λ bytes. TakesAsNeeded one kept was bytes now)
 on_needed_if one two kept buffer was mid None left now lasts goes a b = tt
-on_needed_if one two kept buffer was mid (Some bytes) None now lasts goes a b =
-    let e = (given one kept was bytes None a).left in absurd (cc e)
+on_needed_if one two kept buffer was mid (Some bytes) None now lasts goes a b = grind (arith, given)
 on_needed_if one two kept buffer was mid (Some bytes) (Some rest) now lasts goes a (inl none) =
     subst (TakesAsNeeded one kept was bytes) (sym none) a
 on_needed_if one two kept buffer was mid (Some bytes) (Some rest) now lasts goes a (inr some) =

@@ -20,17 +20,14 @@ words-blank byte bytes is = ap some_words (slice_split-cons_yes is_blank byte by
 -- a piece with a byte is a word
 some-cons : (byte : ℕ) (bytes : List ℕ) (pieces : List (List ℕ))
     → some_words ((byte ∷ bytes) ∷ pieces) ≡ (byte ∷ bytes) ∷ some_words pieces
-some-cons byte bytes pieces =
-    ap (λ b. cond b ((byte ∷ bytes) ∷ some_words pieces) (some_words pieces)) (lt-ltb 0 (length (byte ∷ bytes)) (omega arith))
+some-cons byte bytes pieces = grind (arith, lt-ltb)
 
 -- one more byte at the front of the first word
 longer : (byte next : ℕ) (pieces : List (List ℕ)) (word : List ℕ) (others : List (List ℕ))
     → some_words (onto_first next pieces) ≡ (next ∷ word) ∷ others
     → some_words (onto_first byte (onto_first next pieces)) ≡ (byte ∷ next ∷ word) ∷ others
-longer byte next [] word others is =
-    let here = sym (some-cons next [] []) ∙ is in some-cons byte (next ∷ []) [] ∙ cc
-longer byte next (piece ∷ pieces) word others is =
-    let here = sym (some-cons next piece pieces) ∙ is in some-cons byte (next ∷ piece) pieces ∙ cc
+longer byte next [] word others is = grind (arith, some-cons)
+longer byte next (piece ∷ pieces) word others is = grind (arith, some-cons)
 
 -- the first word of bytes that follow one that isn't blank: up to the first blank
 first_word : (byte : ℕ) (bytes : List ℕ) → some_words (onto_first byte (slice_split is_blank bytes))

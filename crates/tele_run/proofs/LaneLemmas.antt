@@ -22,9 +22,7 @@ all_same P f (x ∷ xs) (y ∷ ys) e h = let head : f y ≡ f x = cc in
 -- if one more is still missing, there are fewer so far than there will be
 pub one_to_come : {A B : Type 0} (f : A → B) (xs : List A) (y : B) (ys zs all : List B)
     → map f xs ++ zs ≡ all → zs ≡ y ∷ ys → length xs < length all
-one_to_come f xs y ys zs all e is = let whole = ap length e in
-    let both = length-append (map f xs) zs in let first = length-map xs f in
-    let more = ap length is in omega arith
+one_to_come f xs y ys zs all e is = grind (arith, length-append, length-map)
 
 -- the numbers so far, with the next one
 range_push : (from n : ℕ) → range_with_len from (suc n) ≡ range_with_len from n ++ (from + n) ∷ []

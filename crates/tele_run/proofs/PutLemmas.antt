@@ -92,12 +92,7 @@ spread from (suc count) es = puts_in (entries_by from es) + spread (from + 1) co
 -- an owner's entries, with one entry more
 puts_more : (number : ℕ) (e : Entry) (es : List Entry)
     → puts_in (entries_by number es) ≤ puts_in (entries_by number (e ∷ es))
-puts_more number e es = at (e.owner == number)
-  where
-    at : (v : Bool) → puts_in (entries_by number es)
-        ≤ puts_in (if v then e ∷ entries_by number es else entries_by number es)
-    at true = let one = puts_cons e (entries_by number es) in omega arith
-    at false = omega arith
+puts_more number e es = grind (arith, puts_cons)
 
 spread_more : (from count : ℕ) (e : Entry) (es : List Entry)
     → spread from count es ≤ spread from count (e ∷ es)
@@ -117,12 +112,8 @@ spread_own from (suc count) e es low high =
         → (from + 1 ≤ e.owner → e.owner < from + 1 + count
         → one_put e.command + spread (from + 1) count es ≤ spread (from + 1) count (e ∷ es))
         → one_put e.command + spread from (suc count) es ≤ spread from (suc count) (e ∷ es)
-    at (inl t) later = let mine = ap puts_in (own_entry from e es t.1) in
-        let one = puts_cons e (entries_by from es) in
-        let rest = spread_more (from + 1) count e es in omega arith
-    at (inr f) later = let above : e.owner ≢ from = f.1 in
-        let other = ap puts_in (other_entry from e es f.1) in
-        let rest = later (omega arith) (omega arith) in omega arith
+    at (inl t) later = grind (arith, own_entry, puts_cons, spread_more)
+    at (inr f) later = grind (arith, other_entry)
 
 -- all entries have one of these owners
 puts_spread : (count : ℕ) (es : List Entry) → Each (λ e. e.owner < count) es
@@ -157,9 +148,7 @@ pub puts_few : (pairs : List Pair) (words : ℕ) (log : Log) (lists : List (List
     → AllStandIn pairs words log 0 lists
     → Each (λ e. e.owner < length lists) (changes_of pairs words log)
     → puts_in (changes_of pairs words log) ≤ called_puts lists
-puts_few pairs words log lists stand owners =
-    let all = puts_spread (length lists) (changes_of pairs words log) owners in
-    let few = spread_few pairs words log 0 lists stand in omega arith
+puts_few pairs words log lists stand owners = grind (arith, puts_spread, spread_few)
 
 -- ---- by lanes
 
@@ -184,8 +173,7 @@ called_done (e ∷ ends) h = let rest = called_done ends (All-tail LaneHasEnded 
 -- the puts called are the answered puts
 pub called_puts-done : (ends : List TreeLane) → All LaneHasEnded ends
     → called_puts (map (λ e. e.port.pass.calls) ends) ≡ puts_done (map run_of ends)
-called_puts-done ends h =
-    called_done ends h ∙ put_count-is (commands_of (all_done (map run_of ends)))
+called_puts-done ends h = grind (arith, called_done, put_count-is)
 
 -- ---- lanes that were made and run on a tree, and whose passes were taken back. Serves `run_tree`.
 
@@ -200,14 +188,12 @@ module _ (tree : TreeFace) (first made last : MakerFace) (count : ℕ) (tasks : 
     (ties : map {B = TreeFace × ℕ} tie_of lanes ≡ map {B = TreeFace × ℕ} tie_of fresh) where
   -- there are as many lanes as were asked for
   many : length fresh ≡ count
-  many = sym (length-map fresh (λ (l : TreeLane). l.tasks)) ∙ ap length split
-      ∙ length-all_lane_tasks count tasks
+  many = grind (arith, length-map, length-all_lane_tasks)
 
   -- no two lanes share a line
   pub own_lines : IsStrictlyIncreasing (task_lines tasks)
       → HaveOwnLines (map (λ (l : TreeLane). l.tasks) lanes)
-  own_lines up =
-      subst HaveOwnLines (sym (same ∙ split)) (HaveOwnLines-all_lane_tasks count tasks up)
+  own_lines up = grind (arith, HaveOwnLines-all_lane_tasks)
 
   -- the passes are still of the tree
   pub its_tree : All (λ (l : TreeLane). l.port.pass.tree ≡ tree) lanes

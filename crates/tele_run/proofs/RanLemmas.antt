@@ -21,7 +21,7 @@ use Rattle.ist_tree.proofs.NumberLemmas.{calls_in_order}
 use Rattle.tele_lanes.specs.declared.task_lists.Task.{Task}
 use Rattle.tele_lanes.specs.declared.answer_lists.Answer.{Answer}
 use Rattle.tele_lanes.specs.Lines.{commands_of}
-use Rattle.tele_lanes.specs.Lanes.{InLineOrder, TasksInLineOrder, unanswered, first_refusal}
+use Rattle.tele_lanes.specs.Lanes.{first_refusal}
 use Rattle.tele_generations.specs.Runs.{LaneRun, HasRun, LanesRan, AreWhole, told_of_runs}
 use Rattle.tele_generations.specs.Generations.{RanFull, MayAsk, may_want_words, puts_done}
 use Rattle.tele_generations.specs.Tables.{RanOnTable, EndedWith}
@@ -51,9 +51,7 @@ pub all_back : (tree : TreeFace) (maker : MakerFace) (workers : ℕ) (tasks : Li
     (answers : List Answer) (left : List Task) (full : Option Full)
     → CameTo tree maker workers tasks answers left full → length maker.taken ≡ maker.made
 all_back tree maker workers tasks answers left full came =
-    ap length came.taken ∙ length-map came.ends (λ e. calls_in e.port.pass)
-    ∙ sym (length-map came.ends (λ e. e.port.pass.number)) ∙ ap length came.numbers
-    ∙ length-range_with_len 0 workers ∙ sym came.made
+    grind (arith, length-map, length-range_with_len)
 
 module _ (workers words : ℕ) (pairs : List Pair) (tasks : List Task) (tree : TreeFace)
     (first maker : MakerFace) (table : List ℕ) (answers : List Answer) (left : List Task)
@@ -95,8 +93,7 @@ module _ (workers words : ℕ) (pairs : List Pair) (tasks : List Task) (tree : T
 
   -- the words stand for the pairs and for what the lanes were told
   stands : StandsFor table pairs (told_of_runs runs)
-  stands = subst (λ ps. StandsFor table ps (told_of_runs runs)) start_is
-      (subst (λ told. StandsFor table maker.tree.start told) told_are closes.stands)
+  stands = grind (arith, start_is, told_are)
 
   -- the lanes are those of the tasks, and have run
   lanes_are : LanesRan workers tasks runs
@@ -128,8 +125,7 @@ module _ (workers words : ℕ) (pairs : List Pair) (tasks : List Task) (tree : T
       (was : e.port.refused ≡ Some r) where
     -- its pass is of the tree
     its_tree : e.port.pass.tree ≡ maker.tree
-    its_tree = All-contains (λ (x : TreeLane). x.port.pass.tree ≡ tree) came.ends e came.trees is_end
-        ∙ sym came.same_tree
+    its_tree = grind (arith, All-contains)
 
     its_words : e.port.pass.tree.words ≡ length table
     its_words = ap (λ t. t.words) its_tree ∙ ap (λ t. t.words) came.same_tree ∙ sym long
@@ -139,24 +135,15 @@ module _ (workers words : ℕ) (pairs : List Pair) (tasks : List Task) (tree : T
 
     -- why it was refused
     cause : PassWasRefused e.port.pass r
-    cause = subst (λ o. IfSome o (PassWasRefused e.port.pass)) was
-        (All-contains (λ (x : TreeLane). IfSome x.port.refused (PassWasRefused x.port.pass)) came.ends e
-        came.causes is_end)
+    cause = grind (arith, All-contains)
 
     -- what its pass had seen is a prefix of the log
     seen : GoesOn e.port.pass.seen log
-    seen = goes_on_more
-        (All-contains (λ (x : TreeLane). GoesOn x.port.pass.seen maker.seen) came.ends e came.seen
-        is_end) closes.goes_on
+    seen = grind (arith, goes_on_more, All-contains)
 
     -- at most as many words were spent then as in the end
     next_few : r.full.next ≤ slice_index table next_place
-    next_few =
-        let then_is : r.full.next ≡ spent maker.tree.start cause.at
-        = cause.left.next_is ∙ ap (λ ps. spent ps cause.at) its_start in
-        let rise = spent_rise maker.tree.start cause.at log (goes_on_more cause.until seen) in
-        let now_is = words_are_spent maker.tree.start (length table) log closes.stands.lawful in
-        let there = word_there table next_place _ closes.stands.image.next in omega arith
+    next_few = grind (arith, its_start, spent_rise, goes_on_more, seen, words_are_spent, word_there)
 
     -- it asked for a number that it may ask for
     asked_for : MayBeAsked e.port.pass r.full.asked
@@ -211,14 +198,4 @@ module _ (workers words : ℕ) (pairs : List Pair) (tasks : List Task) (tree : T
 
   -- the tasks ran on a table
   pub ran_on_table : RanOnTable workers words pairs tasks table answers left full
-  ran_on_table = record {
-    runs = runs;
-    is = record { lanes = lanes_are; stands = stands };
-    sized = long ∙ new.words_is;
-    answered = subst (λ ls. InLineOrder ls answers)
-        (sym (map-map (λ (r : LaneRun). r.answers) run_of came.ends)) came.answered;
-    left_are = subst (λ ls. TasksInLineOrder ls left)
-        (sym (map-map (λ (r : LaneRun). unanswered r.tasks r.answers) run_of came.ends))
-        came.left_are;
-    ended = ended full came.full_is;
-  }
+  ran_on_table = grind (arith, lanes_are, stands, map-map, ended)

@@ -100,11 +100,8 @@ module _ {P T : Type 0} (tie : P → T) where
 
 -- the numbers from 0 on are strictly increasing
 pub IsStrictlyIncreasing-from_0 : (n : ℕ) → IsStrictlyIncreasing (map (λ k. k) (range_with_len 0 n))
-IsStrictlyIncreasing-from_0 n k h = let size = length-map-range_with_len (λ j. j) 0 n in
-    let low = get_or-map-range_with_len (λ j. j) 0 n k k 0 (omega (arith, size, h)) (omega arith) in
-    let high = get_or-map-range_with_len (λ j. j) 0 n (k + 1) (k + 1) 0
-    (omega (arith, size, h)) (omega arith) in
-    rw (low, high) (omega arith)
+IsStrictlyIncreasing-from_0 n k h =
+    grind (arith, length-map-range_with_len, get_or-map-range_with_len)
 
 -- numbers from 0 on, with the next one
 pub counted_more : {X : Type 0} (n : X → ℕ) (xs : List X) (x : X)

@@ -12,17 +12,12 @@ is_owners v out put back e = subst IsOwners (sym e) refl
 pub owner_step : {X : Type 0} (v w : Tally X) (n k : ℕ) (put more : List X)
     → v ≡ of_owner n put v.back → w ≡ of_owner (v.out - 1) v.put (v.back ++ more) → n ≡ k + 1
     → w ≡ of_owner k put w.back
-owner_step v w n k put more old new less =
-    let count : v.out - 1 ≡ k = let out = ap (λ z. z.out) old in omega (arith, out, less) in
-    let same : v.put ≡ put = ap (λ z. z.put) old in
-    let back : v.back ++ more ≡ w.back = sym (ap (λ z. z.back) new) in
-    new ∙ (λ i. of_owner (count i) (same i) (back i))
+owner_step v w n k put more old new less = grind arith
 
 -- the owner takes back some, and the workers stay
 pub draw_step : {X : Type 0} (v w : Tally X) (put more : List X) → v ≡ of_owner 0 put v.back
     → w ≡ of_owner v.out v.put (v.back ++ more) → w ≡ of_owner 0 put w.back
-draw_step v w put more old new = let back : v.back ++ more ≡ w.back = sym (ap (λ z. z.back) new) in
-    new ∙ (λ i. of_owner ((ap (λ z. z.out) old) i) ((ap (λ z. z.put) old) i) (back i))
+draw_step v w put more old new = grind arith
 
 -- the owner drew one: one more came back, of those that were put in
 pub room_after : {X : Type 0} (Fits : X → Type 0) (v w : Tally X) (put : List X) (x : X)

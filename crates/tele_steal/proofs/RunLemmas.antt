@@ -95,7 +95,4 @@ pub run_step : {X Y : Type 0} (f : X → Y) (all : List Y) (lanes more kept rest
     → IsPermutation all (map f lanes ++ map f kept) → kept ≡ rest ++ x ∷ []
     → map f more ≡ map f lanes ++ f x ∷ [] → IsPermutation all (map f more ++ map f rest)
 run_step f all lanes more kept rest x same is now =
-    one_over all (map f lanes) (map f more) (map f kept) (map f rest) (f x ∷ []) same
-    (ap (map f) is ∙ map-append f rest (x ∷ []))
-    (subst (λ z. IsPermutation (map f lanes ++ f x ∷ []) z) (sym now)
-    (IsPermutation-refl (map f lanes ++ f x ∷ [])))
+    grind (arith, one_over, map-append, IsPermutation-refl)

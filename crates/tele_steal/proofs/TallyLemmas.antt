@@ -1,6 +1,6 @@
 -- Each step of a pass keeps the rule over the deque and all passes. Serves the calls of the deque.
 use Rattle.std.proofs.Common.{◌≡◌, ◌≢◌, ℕ, ◌+◌, ◌-◌, ◌<◌, ◌≤◌, true≢false, List, [], ◌∷◌, ◌++◌, length, set, flat_map, All, IsPermutation, sym, refl, ap, ◌∙◌, subst, ⊎_elim, arith, append-nil, length-append}
-use mathlib.Core.Option.{some, some-injective}
+use mathlib.Core.Option.{some}
 use lib.ListN.{get_elem?}
 use lib.Seq.{take-append_seam, drop-append_seam}
 use Rattle.std.proofs.lemmas.List.Elements.{All-cons, All-set, All-push, All-take, All-drop}
@@ -20,13 +20,7 @@ module _ {X : Type 0} (Fits : X → Type 0) where
   pub owned : (port : ℕ) (v : Tally X) (items : List X) (views : List (Tally X)) → IsOwners v
       → Balances Fits items views → get_elem? views port ≡ some v
       → BalancesAt Fits port v items views
-  owned port v items views is b at =
-      let same_port : port ≡ b.port = b.kept.alone port v at (ap (λ (z : Tally X). z.owner) is) in
-      let there : get_elem? views port ≡ some b.own =
-      ap (λ p. get_elem? views p) same_port ∙ b.kept.seated in
-      let own : b.own ≡ v = some-injective b.own v (sym there ∙ at) in
-      subst (λ p. BalancesAt Fits p v items views) (sym same_port)
-      (subst (λ z. BalancesAt Fits b.port z items views) own b.kept)
+  owned port v items views is b at = grind arith
 
   -- what was put in is as much as what is in the deque, what came back and what workers took
   pub counted : (port : ℕ) (v : Tally X) (items : List X) (views : List (Tally X))
@@ -144,10 +138,7 @@ module _ {X : Type 0} (Fits : X → Type 0) where
   owner_apart : (port : ℕ) (v : Tally X) (items : List X) (views : List (Tally X))
       → v ≡ of_worker v.taken → (b : Balances Fits items views) → get_elem? views port ≡ some v
       → b.port ≢ port
-  owner_apart port v items views is b at e =
-      let same : b.own ≡ v = some-injective b.own v
-      (sym b.kept.seated ∙ ap (λ p. get_elem? views p) e ∙ at) in
-      true≢false (ap (λ (z : Tally X). z.owner) (sym b.kept.owners ∙ same ∙ is))
+  owner_apart port v items views is b at e = grind arith
 
   -- a worker takes some
   pub takes : (port : ℕ) (v : Tally X) → v ≡ of_worker v.taken

@@ -18,8 +18,7 @@ module _ {X : Type 0} where
   pub sum_by-seat : (f : X → ℕ) (l : List X) (i : ℕ) (u w : X) → get_elem? l i ≡ some u
       → sum_by f (set l i w) + f u ≡ sum_by f l + f w
   sum_by-seat f [] i u w e = absurd (some-ne-none u (sym e))
-  sum_by-seat f (x ∷ xs) zero u w e = let h = ap f (some-injective x u e) in
-      let old = sum_by-cons f x xs in let new = sum_by-cons f w xs in omega (arith, h, old, new)
+  sum_by-seat f (x ∷ xs) zero u w e = grind (arith, sum_by-cons)
   sum_by-seat f (x ∷ xs) (suc i) u w e = let h = sum_by-seat f xs i u w e in
       let old = sum_by-cons f x xs in let new =
       sum_by-cons f x (set xs i w) in omega (arith, h, old, new)
@@ -28,8 +27,7 @@ module _ {X : Type 0} where
   pub flat_map-seat : {Y : Type 0} (f : X → List Y) (l : List X) (i : ℕ) (u w : X)
       → get_elem? l i ≡ some u → f w ≡ f u → flat_map f (set l i w) ≡ flat_map f l
   flat_map-seat f [] i u w e same = absurd (some-ne-none u (sym e))
-  flat_map-seat f (x ∷ xs) zero u w e same =
-      ap (λ z. z ++ flat_map f xs) (same ∙ ap f (sym (some-injective x u e)))
+  flat_map-seat f (x ∷ xs) zero u w e same = grind arith
   flat_map-seat f (x ∷ xs) (suc i) u w e same = ap (λ z. f x ++ z) (flat_map-seat f xs i u w e same)
 
   -- what f makes of one element and of all others, whatever replaces the one

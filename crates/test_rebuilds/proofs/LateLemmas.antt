@@ -82,15 +82,4 @@ put_filled old first mid new key value node index word change leaf row asked gon
 -- whoever installed the put may help it
 pub late_helps : (v w : View) (number change leaf : ℕ) (row : ChangeRow) → v.who ≡ CallerOf number
     → IsInstalled v change (put_of leaf row) w → MayHelp w change
-late_helps v w number change leaf row mine i = let rows = rows_of (put_of leaf row) change in
-    let first = start i.before.start i.before.words in
-    let can : CanInstall first i.logged.before i.number change rows =
-    (subst IsSound i.logged.view i.logged.sound).lawful.enabled.1 in
-    record {
-      number = number;
-      mine = ap (λ (x : View). x.who) i.logged.view ∙ goes_on_who i.seen ∙ mine;
-      row = can.change;
-      installed = subst (λ t. t.pieces change ≡ Some (ChangePiece can.change))
-          (sym (ap now i.logged.view))
-          (installed_row i.before.start i.before.words i.logged.before i.number change rows can);
-    }
+late_helps v w number change leaf row mine i = grind (arith, goes_on_who, installed_row)

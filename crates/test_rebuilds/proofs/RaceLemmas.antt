@@ -42,16 +42,7 @@ shape_two = refl
 -- both leaves may be built over
 pub may_build : (t : Snapshot) (rebuild target keys : ℕ) → keys ≡ 2 → HasMarkedTarget t rebuild target keys
     → MayBuild t target 0 2
-may_build t rebuild target keys two m = record {
-  rebuild = rebuild;
-  row = m.target_is.row;
-  published = m.target_is.published;
-  target_is = m.target_is.target_is;
-  started = m.started;
-  k = 2;
-  finished = subst (IsFinishedWith t target) two m.finished;
-  share = share_whole two_is_few refl refl;
-}
+may_build t rebuild target keys two m = grind (arith, two_is_few)
 
 -- of one row of this size the list is that row's base
 one_base : (rows : List Row) (base : ℕ) (rest : List ℕ) → sizes_of rows ≡ pair_words ∷ []
@@ -98,11 +89,7 @@ module _ (old new : Caller) (rebuild target keys word : ℕ) (ref : Ref) (two : 
   p = laid some.0 some.1
 
   reached : HasLeaves (now w).pieces (Some (InnerAt target)) some.0
-  reached =
-      subst (λ t. HasLeaves t.pieces (Some (InnerAt target)) some.0) (sym (went_now Builds v w went))
-      (finished_leaves_stay v.start v.words s.lawful.opens v.log w.log
-      (later_by-goes_on went.later) (went_lawful Builds v w went).enabled target some.0
-      (2, finished) some.1)
+  reached = grind (arith, went_now, finished_leaves_stay, later_by-goes_on, went_lawful, finished)
 
   all : take 2 (drop 0 some.0) ≡ some.0
   all = take_all 2 some.0 (let n = some.2 in omega arith)
@@ -123,8 +110,7 @@ module _ (old new : Caller) (rebuild target keys word : ℕ) (ref : Ref) (two : 
       ∙ shape_two
 
   topped : IsTopped word (bases_of p.rows)
-  topped = root_topped (with_inners (now w).pieces p.rows) word 2 some.0 target (bases_of p.rows)
-      (let n = some.2 in omega arith) root
+  topped = grind (arith, root_topped, root)
 
   -- the caller holds the one row of the root that it has built
   pub has_laid : HasLaid w new.number rebuild word
@@ -219,8 +205,7 @@ held_row v word = record { caller = number_of v.who; base = word / tag_count; si
 named : (v : View) (number word : ℕ) → v.who ≡ CallerOf number → IsSound v → (rows : List Row)
     → bases_of rows ≡ word / tag_count ∷ [] → sizes_of rows ≡ pair_words ∷ [] → StoredAll v rows
     → HoldsRows (now v) number rows → row_named v word ≡ rows
-named v number word mine s [] bases sizes stored held =
-    absurd (let n = ap length bases in omega arith)
+named v number word mine s [] bases sizes stored held = grind arith
 named v number word mine s (row ∷ []) bases sizes stored held =
     stored_rows v number s (row ∷ []) (held_row v word ∷ []) bases stored held
     (λ h i. ⊎_elim (λ e. subst (λ x. Among x (now v).held) (sym (e ∙ same)) held.0) (λ none. absurd none) i)
@@ -232,11 +217,8 @@ named v number word mine s (row ∷ []) bases sizes stored held =
     size_is = cc
 
     same : held_row v word ≡ record { caller = number; base = row.base; size = length row.words }
-    same = ap {B = HeldRow} (λ n. record { caller = n; base = word / tag_count; size = pair_words })
-        (ap number_of mine)
-        ∙ ap₂ {C = HeldRow} (λ b n. record { caller = number; base = b; size = n }) (sym base_is) (sym size_is)
-named v number word mine s (row ∷ other ∷ rows) bases sizes stored held =
-    absurd (let n = ap length bases in omega arith)
+    same = grind (arith, base_is, size_is)
+named v number word mine s (row ∷ other ∷ rows) bases sizes stored held = grind arith
 
 -- the exchange may be the Root, or the Lose
 pub may_race : (v : View) (number rebuild place word unset : ℕ) → IsSound v
@@ -254,12 +236,7 @@ may_race v number rebuild place word unset s at is h =
     h.unset))))
   where
     root_is : (racing_at v place word).0 ≡ Root number rebuild word h.laid.rows
-    root_is = ap₂ {C = Event} (λ n rows. Root n (place - rebuild_root_offset) word rows)
-        (ap number_of h.laid.mine)
-        (named v number word h.laid.mine s h.laid.rows h.laid.bases h.laid.sizes h.laid.stored
-        h.laid.built.held)
-        ∙ ap (λ o. Root number o word h.laid.rows)
-        (let q : place - rebuild_root_offset ≡ rebuild = omega arith in q)
+    root_is = grind (arith, named)
 
     lose_is : (racing_at v place word).1 ≡ Lose number (bases_of h.laid.rows)
     lose_is = ap₂ {C = Event} Lose (ap number_of h.laid.mine) (sym h.laid.bases)

@@ -1,5 +1,5 @@
 -- Two passes that each made a put, and a find that follows the other's put. Serves `exchange`.
-use Rattle.std.proofs.Common.{◌≡◌, ◌≢◌, ℕ, ◌<◌, ◌⊎◌, List, [], ◌∷◌, zero, suc, slice_get, take, Some, ◌∙◌, ap, ⊎_elim, arith, ◌+◌, ◌≤◌, true, false, map, filter, Option, refl, sym, subst, inl, inr, if◌then◌else◌, length, ◌++◌}
+use Rattle.std.proofs.Common.{◌≡◌, ◌≢◌, ℕ, ◌<◌, ◌⊎◌, List, [], ◌∷◌, zero, suc, slice_get, take, Some, ◌∙◌, ap, ⊎_elim, arith, ◌+◌, ◌≤◌, true, false, map, Option, refl, sym, subst, inl, inr, if◌then◌else◌, length, ◌++◌}
 use Rattle.std.specs.FinMap.{gets}
 use Rattle.std.proofs.lemmas.Bool.Decides.{nat_tests, eqb_tells}
 use Rattle.ist_core.specs.declared.commands.Command.{Command}
@@ -50,20 +50,14 @@ module _ (key value other what : ℕ) (apart : other ≢ key) where
       → fin.get (map_after_entries m (take count es)) key ≡ Some value
   has_it i zero m es each e at is below = absurd (omega arith)
   has_it i (suc count) m [] each e at is below = cc
-  has_it zero (suc count) m (x ∷ es) each e at is below = let same : x ≡ e = cc in
-      stays count (map_after m x.command) es each.1
-      (put_here m x.command (ap (λ y. y.command) same ∙ is))
+  has_it zero (suc count) m (x ∷ es) each e at is below = grind (arith, stays, put_here)
   has_it (suc i) (suc count) m (x ∷ es) each e at is below =
       has_it i count (map_after m x.command) es each.1 e at is (omega arith)
 
 -- an owner with one entry has only this one
 the_one : (owner : ℕ) (only : Entry) (es : List Entry) → entries_by owner es ≡ only ∷ []
     → (e : Entry) → Among e es → e.owner ≡ owner → e ≡ only
-the_one owner only es is e among own =
-    let kept : Among e (entries_by owner es)
-    = among_filter _ e es among (⊎_elim (λ t. t.0) (λ f. absurd (f.1 own)) (eqb_tells e.owner owner)) in
-    each-among (λ x. x ≡ only) e (entries_by owner es)
-    (subst (Each (λ x. x ≡ only)) (sym is) (refl, tt)) kept
+the_one owner only es is e among own = grind (arith, among_filter, eqb_tells, each-among)
 
 -- a put, and a find after it
 module _ (put find : Call) (p : Pair) (key : ℕ) (put_is : put.command ≡ Put p.key p.value)
@@ -79,15 +73,12 @@ module _ (put find : Call) (p : Pair) (key : ℕ) (put_is : put.command ≡ Put 
   -- their pass has one entry, which puts the pair
   one_entry : (m : Map) (es : List Entry) (number : ℕ) → StandAmong m es number (put ∷ find ∷ [])
       → entries_by number es ≡ entry_by number put ∷ []
-  one_entry m es number s =
-      let few : filter is_change (put ∷ find ∷ []) ≡ put ∷ [] = rw changes (rw reads refl) in
-      s.exactly ∙ ap (map (entry_by number)) few
+  one_entry m es number s = grind (arith, changes, reads)
 
   -- each entry of their pass puts the pair
   pub puts_own : (m : Map) (es : List Entry) (number : ℕ) → StandAmong m es number (put ∷ find ∷ [])
       → (e : Entry) → Among e es → e.owner ≡ number → e.command ≡ Put p.key p.value
-  puts_own m es number s e among own = ap (λ x. x.command)
-      (the_one number (entry_by number put) es (one_entry m es number s) e among own) ∙ put_is
+  puts_own m es number s e among own = grind (arith, the_one, one_entry)
 
 -- if all entries are those of two passes that each put a pair, a find that follows the other's put
 -- finds what it put

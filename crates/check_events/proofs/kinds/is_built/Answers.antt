@@ -10,8 +10,7 @@ use Rattle.check_events.proofs.kinds.is_built.Goals as goal
 pub returns-in-None-get : goal.returns-in-None-get
 returns-in-None-get c = record {
   exact = λ t h. let named = c.in-Some.ensures.exact.0 in
-      let none = no_inner c.args.replica.now t c.in-Some.base h
-      (sym c.in-None-get.ensures.value) in
+      let none = no_inner c.args.replica.now t c.in-Some.base h (sym c.in-None-get.ensures.value) in
       ((λ _. built_alone t c.args.root c.in-Some.base named none (omega arith)), (λ _. refl));
 }
 

@@ -14,8 +14,7 @@ returns-then-not-may_be_rebuilt c = record {
 
 pub returns-in-Some-rebuild_of_word : goal.returns-in-Some-rebuild_of_word
 returns-in-Some-rebuild_of_word c = record {
-  exact = λ t h.
-      let may = (c.may_be_rebuilt.ensures.exact t h).0 c.if-not-may_be_rebuilt.false in
+  exact = λ t h. let may = (c.may_be_rebuilt.ensures.exact t h).0 c.if-not-may_be_rebuilt.false in
       iff_trans c.is_one_row.ensures.exact (starts_is t c.args.change.now c.args.fresh.now
       c.in-Some.target c.in-Some-rebuild_of_word.rebuild (omega arith) (omega arith)
       (omega arith) c.in-Some.ensures.exact.0 may

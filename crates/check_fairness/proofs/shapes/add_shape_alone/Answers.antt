@@ -19,8 +19,7 @@ returns c = record {
   added = on_ok_weaker c.make_shape.result
       (λ adds has. (
         adds,
-        shapes_more c.args.shapes.now c.insert.new.self
-            (map (λ v. v.items) c.args.lists.now.items)
+        shapes_more c.args.shapes.now c.insert.new.self (map (λ v. v.items) c.args.lists.now.items)
             (map (λ v. v.items) c.make_shape.new.lists.items) c.args.n
             (λ q. held_after c.args.shapes.now c.insert.new.self c.args.n q
             (c.in_ok-insert.ensures.updates.0 q)) adds has,

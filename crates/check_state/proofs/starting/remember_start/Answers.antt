@@ -22,8 +22,7 @@ returns-else-not-yes c = record {
       (λ exact pairs words log law mirrors known.
       let is = c.in-Decide.is ∙ ap (Decide c.in-Decide.caller c.in-Decide.change)
       c.if-not-yes.false in
-      subst (λ e. KnowsStarts c.note_start.new.started (state_of pairs words (e ∷ log)))
-      (sym is)
+      subst (λ e. KnowsStarts c.note_start.new.started (state_of pairs words (e ∷ log))) (sym is)
       (starts_more pairs words log c.in-Decide.caller c.in-Decide.change
       (subst (λ e. Lawful pairs words (e ∷ log)) is law) c.args.started.now
       c.note_start.new.started (exact (state_of pairs words log) mirrors) known))
